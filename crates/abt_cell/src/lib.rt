@@ -1,0 +1,21 @@
+//! Cells, and the requests and answers that RM cells carry.
+#![tactic(auto)]
+
+mod cell;
+mod crc;
+mod fault;
+mod message;
+mod read;
+mod vc;
+mod write;
+
+pub use cell::Cell;
+pub use crc::crc10;
+pub use fault::{CellFault, RmFault};
+pub use message::{Answer, Request, Rm};
+pub use read::read_rm;
+pub use vc::Vc;
+pub use write::write_rm;
+
+#[cfg(test)]
+mod tests;

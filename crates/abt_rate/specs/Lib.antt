@@ -1,0 +1,3 @@
+pub mod Rate
+pub mod Extremes
+pub mod Code
