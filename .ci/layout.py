@@ -1,0 +1,73 @@
+"""Checks what no compiler looks at: the layout of the repository and its rules for files."""
+import re
+import subprocess
+import sys
+from pathlib import Path
+
+HANDLES = "Handles allowed: Threads, Wait.\n"
+DOCUMENTS = [
+    "README.md",
+    "CONTRIBUTING.md",
+    "docs/RULES.md",
+    "docs/FORMATS.md",
+    "docs/GUARANTEES.md",
+    "docs/READING.md",
+    "docs/TESTING.md",
+    "docs/DECISIONS.md",
+]
+LONGEST_FILE = 400
+
+
+def crates_listed():
+    lines = Path("crates.txt").read_text().split("\n")
+    return {line.split(":")[0].split()[0] for line in lines if ":" in line and not line.startswith("#")}
+
+
+def linked_files(document):
+    """The files of the repository that a document names in backquotes or links."""
+    text = document.read_text()
+    named = re.findall(r"`((?:crates|docs|scenarios|bench)/[\w/.+-]+\.\w+)`", text)
+    linked = [link for link in re.findall(r"\]\(([\w/.+-]+\.\w+)\)", text) if not link.startswith("http")]
+    return [Path(name) for name in named] + [document.parent / link for link in linked]
+
+
+def faults():
+    if Path("HANDLES").read_text() != HANDLES:
+        yield "HANDLES isn't its one line"
+    for name in DOCUMENTS:
+        if not Path(name).is_file():
+            yield f"{name} is missing"
+    folders = {path.name for path in Path("crates").iterdir() if (path / "src").is_dir()}
+    for name in sorted(folders ^ crates_listed()):
+        yield f"{name} stands in only one of crates.txt and crates/"
+    for name in sorted(folders):
+        root = Path("crates") / name
+        if not (root / "README.md").is_file():
+            yield f"{name} has no README.md"
+        if not any((root / "must-fail").glob("*.edit")):
+            yield f"{name} has no edit that must fail"
+        for source in sorted(root.glob("src/**/*.rt")):
+            length = source.read_text().count("\n")
+            if length > LONGEST_FILE:
+                yield f"{source} has {length} lines"
+        for proof in sorted(root.glob("proofs/**/*.antt")) + sorted(root.glob("specs/*.antt")):
+            if re.search(r"=\s*\?\s*$|\(\?\)", proof.read_text(), re.M):
+                yield f"{proof} has a hole"
+    for document in [Path("README.md"), Path("CONTRIBUTING.md"), *Path("docs").glob("*.md"), *Path("crates").glob("*/README.md")]:
+        if document.is_file():
+            for file in linked_files(document):
+                if not file.exists():
+                    yield f"{document} names {file}, which isn't there"
+    if subprocess.run(["sh", "-n", "abt"]).returncode != 0:
+        yield "abt isn't a shell script"
+
+
+def main():
+    found = list(faults())
+    for fault in found:
+        print(f"layout: {fault}")
+    print(f"layout: {len(found)} faults")
+    sys.exit(1 if found else 0)
+
+
+main()
