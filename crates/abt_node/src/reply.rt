@@ -1,0 +1,35 @@
+//! What a port does with a message.
+use abt_cell::Answer;
+
+/// Why a port drops a message: the first of these that applies, in this order (docs/RULES.md, "Node").
+#[derive(Clone, Copy, Debug, PartialEq, Eq)]
+pub enum DropCause {
+    /// The connection was never added to the port.
+    UnknownVc,
+    /// The number is below the newest.
+    Stale,
+    /// The message isn't of the request that was decided under its number.
+    Conflict,
+    /// The floor of a request is above what the connection holds.
+    FloorAbove,
+}
+
+/// What becomes of a request at a port.
+#[derive(Clone, Copy, Debug, PartialEq, Eq)]
+pub enum Onward {
+    /// It goes on to the next port.
+    Pass,
+    /// This answer, its no, goes back.
+    Refuse(Answer),
+    /// It goes nowhere.
+    Drop(DropCause),
+}
+
+/// What becomes of an answer at a port.
+#[derive(Clone, Copy, Debug, PartialEq, Eq)]
+pub enum Back {
+    /// It goes on towards its source.
+    Pass,
+    /// It goes nowhere.
+    Drop(DropCause),
+}
