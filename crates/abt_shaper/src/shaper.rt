@@ -1,0 +1,69 @@
+//! A shaper.
+ghost use Rattle.std.specs.Prelude.{◌≡◌, ◌≢◌, ℕ, ◌+◌, ◌<◌, ◌≤◌, ◌↔◌, Some, None, IfOk, OnErr, IsOk, IsErrOf, unwrap_or};
+ghost use Rattle.abt_rate.specs.Rate.{spacing_of};
+ghost use Rattle.abt_shaper.specs.Shaping.{Shaping};
+
+use crate::fault::ShapeFault;
+use crate::limits::EMIT_MAX;
+use abt_rate::Rate;
+use std::marker::Model;
+
+/// A shaper of one source: after a cell that left at a rate the next one leaves a spacing of that rate later, or
+/// later than that (docs/RULES.md, "Shaper"). So a rate that changes counts from the next cell on.
+///
+/// Moments are picoseconds.
+#[derive(Clone, Copy, Debug, PartialEq, Eq)]
+pub struct Shaper {
+    next: u64,
+    emitted: Option<u64>,
+}
+
+impl Model for Shaper {
+    ghost use Rattle.std.specs.Prelude.{◌+◌, ◌^◌, ◌≤◌};
+    ghost use Rattle.abt_shaper.specs.Shaping.{Shaping, shaping_code};
+
+    ghost Value = { Shaping };
+
+    ghost coded = { shaping_code };
+
+    ghost view = { λ s. record { next = s.next; emitted = s.emitted } };
+
+    ghost inverse = { λ s. record { next = s.next; emitted = s.emitted } };
+}
+
+impl Shaper {
+    /// A shaper that lets no cell leave before a moment.
+    pub fn new(not_before: u64) -> Shaper
+        requires { not_before ≤ EMIT_MAX }
+        ensures { result ≡ record { next = not_before; emitted = None } }
+    {
+        Shaper {
+            next: not_before,
+            emitted: None,
+        }
+    }
+
+    /// Lets a cell leave now, at a rate, and gives the earliest moment of the next one.
+    pub fn emit(&mut self, now: u64, rate: Rate) -> Result<u64, ShapeFault>
+        ensures ok { IfOk result (λ next. next ≡ now + spacing_of rate × self.new ≡ record { next = next; emitted = Some now }) }
+        ensures same { OnErr result (self.new ≡ self.old) }
+    {
+        if let Some(last) = self.emitted {
+            if now < last {
+                return Err(ShapeFault::ClockBack);
+            }
+        }
+        if now > EMIT_MAX {
+            return Err(ShapeFault::TimeRange);
+        }
+        let Some(spacing) = rate.spacing() else {
+            return Err(ShapeFault::Zero);
+        };
+        if now < self.next {
+            return Err(ShapeFault::TooSoon { next: self.next });
+        }
+        self.next = now + spacing;
+        self.emitted = Some(now);
+        Ok(self.next)
+    }
+}
