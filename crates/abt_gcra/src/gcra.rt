@@ -3,9 +3,7 @@ ghost use Rattle.std.specs.Prelude.{◌≡◌, ◌<◌, ◌≤◌, ◌↔◌, If
 ghost use Rattle.abt_gcra.specs.Policing.{Policing, fresh_policing, checked};
 
 use crate::fault::GcraFault;
-use crate::limits::ARRIVE_MAX;
-use crate::limits::SPACING_MAX;
-use crate::limits::TAU_MAX;
+use crate::limits::{ARRIVE_MAX, SPACING_MAX, TAU_MAX};
 use crate::verdict::Verdict;
 use std::marker::Model;
 

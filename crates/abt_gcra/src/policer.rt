@@ -4,8 +4,7 @@ ghost use Rattle.abt_gcra.specs.Policing.{Policing, fresh_policing, policed};
 
 use crate::fault::GcraFault;
 use crate::gcra::Gcra;
-use crate::limits::ARRIVE_MAX;
-use crate::limits::TAU_MAX;
+use crate::limits::{ARRIVE_MAX, TAU_MAX};
 use crate::verdict::Verdict;
 use abt_rate::Rate;
 use std::marker::Model;

@@ -1,5 +1,5 @@
 -- What a shaper keeps (docs/RULES.md, "Shaper").
-use Rattle.std.specs.Prelude.{ℕ, Option, refl}
+use Rattle.std.specs.Prelude.{ℕ, ◌<◌, ◌≤◌, Option, IfSome, IsSomeAnd, refl}
 use Rattle.std.specs.Coded.{Coded, code_by, coded×, coded_ℕ, coded_option}
 
 -- The earliest moment of the next cell, and the moment of the last one, which is absent until a cell left.
@@ -16,3 +16,11 @@ shaping_code =
     (λ s. (s.next, s.emitted))
     (λ p. record { next = p.0; emitted = p.1 })
     (λ _. refl)
+
+-- a moment is before that of the last cell that left
+abbrev pub IsBehind : Shaping → ℕ → Type 0
+IsBehind s now = IsSomeAnd s.emitted (λ last. now < last)
+
+-- a moment isn't before that of any cell that left
+abbrev pub IsOnward : Shaping → ℕ → Type 0
+IsOnward s now = IfSome s.emitted (λ last. last ≤ now)

@@ -1,7 +1,7 @@
 //! A shaper.
-ghost use Rattle.std.specs.Prelude.{◌≡◌, ◌≢◌, ℕ, ◌+◌, ◌<◌, ◌≤◌, ◌↔◌, Some, None, IfOk, OnErr, IsOk, IsErrOf, unwrap_or};
+ghost use Rattle.std.specs.Prelude.{◌≡◌, ◌≢◌, ℕ, ◌+◌, ◌<◌, ◌≤◌, ◌↔◌, IsOk, IsErrOf, MatchResult};
 ghost use Rattle.abt_rate.specs.Rate.{spacing_of};
-ghost use Rattle.abt_shaper.specs.Shaping.{Shaping};
+ghost use Rattle.abt_shaper.specs.Shaping.{IsBehind, IsOnward};
 
 use crate::fault::ShapeFault;
 use crate::limits::EMIT_MAX;
@@ -19,7 +19,7 @@ pub struct Shaper {
 }
 
 impl Model for Shaper {
-    ghost use Rattle.std.specs.Prelude.{◌+◌, ◌^◌, ◌≤◌};
+    ghost use Rattle.std.specs.Prelude.{◌≤◌, IfSome};
     ghost use Rattle.abt_shaper.specs.Shaping.{Shaping, shaping_code};
 
     ghost Value = { Shaping };
@@ -27,6 +27,8 @@ impl Model for Shaper {
     ghost coded = { shaping_code };
 
     ghost view = { λ s. record { next = s.next; emitted = s.emitted } };
+
+    ghost invariant = { λ s. IfSome s.emitted (λ last. last ≤ s.next) };
 
     ghost inverse = { λ s. record { next = s.next; emitted = s.emitted } };
 }
@@ -45,8 +47,15 @@ impl Shaper {
 
     /// Lets a cell leave now, at a rate, and gives the earliest moment of the next one.
     pub fn emit(&mut self, now: u64, rate: Rate) -> Result<u64, ShapeFault>
-        ensures ok { IfOk result (λ next. next ≡ now + spacing_of rate × self.new ≡ record { next = next; emitted = Some now }) }
-        ensures same { OnErr result (self.new ≡ self.old) }
+        ensures clock_back { IsErrOf result ShapeFault.ClockBack ↔ IsBehind self.old now }
+        ensures time_range { IsErrOf result ShapeFault.TimeRange ↔ (IsOnward self.old now × (EMIT_MAX < now)) }
+        ensures zero { IsErrOf result ShapeFault.Zero ↔ (IsOnward self.old now × (now ≤ EMIT_MAX) × (rate ≡ 0)) }
+        ensures too_soon { (next : ℕ) → IsErrOf result (ShapeFault.TooSoon next) ↔
+            (IsOnward self.old now × (now ≤ EMIT_MAX) × (rate ≢ 0) × (now < self.old.next) × (next ≡ self.old.next)) }
+        ensures ok { IsOk result ↔ ((now ≤ EMIT_MAX) × (rate ≢ 0) × (self.old.next ≤ now)) }
+        ensures value { MatchResult result
+            (λ next. (next ≡ now + spacing_of rate) × (self.new ≡ record { next = next; emitted = Some now }))
+            (λ _. self.new ≡ self.old) }
     {
         if let Some(last) = self.emitted {
             if now < last {
