@@ -81,4 +81,10 @@ impl Gcra {
         self.clock = at;
         Ok(())
     }
+
+    pub(crate) fn tau(&self) -> u64
+        ensures { result ≡ self.now.tau }
+    {
+        self.tau
+    }
 }
