@@ -1,5 +1,6 @@
 -- The order of channels is total, and only equal channels tie. So channels are keys of finite maps.
-use Rattle.std.proofs.Common.{◌≡◌, ◌==◌, true, false, refl, ap}
+use Rattle.std.proofs.Common.{◌≡◌, ◌==◌, ◌&&◌, Bool, true, false, refl, ap}
+use Rattle.std.proofs.lemmas.Bool.{eq-eqb, eqb-true}
 use Rattle.std.proofs.lemmas.Cmp.{nat_cmp_total, then_total, on_total}
 use Rattle.std.specs.Cmp.{IsTotalOrder, unsigned_ties, both_tied}
 use Rattle.std.specs.FinMap.{IsAntisymmetric, nat_cmp-IsAntisymmetric}
@@ -31,3 +32,22 @@ channel_cmp-IsAntisymmetric a b e =
 pub same_channel_tied : (a b : Channel) → same_channel a b ≡ eq_by_cmp channel_cmp a b
 same_channel_tied a b =
     both_tied (a.vpi == b.vpi) (a.vci == b.vci) (nat_cmp a.vpi b.vpi) (nat_cmp a.vci b.vci) (unsigned_ties a.vpi b.vpi) (unsigned_ties a.vci b.vci)
+
+same_vpi : (s t : Bool) → (s && t) ≡ true → s ≡ true
+same_vpi true t e = refl
+same_vpi false t e = e
+
+same_vci : (s t : Bool) → (s && t) ≡ true → t ≡ true
+same_vci true t e = e
+same_vci false t e = let bad : false ≡ true = e in cc
+
+-- channels that are tested as the same are equal
+pub same_channel-is : (a b : Channel) → same_channel a b ≡ true → a ≡ b
+same_channel-is a b e =
+    let vpis = eqb-true a.vpi b.vpi (same_vpi (a.vpi == b.vpi) (a.vci == b.vci) e) in
+    let vcis = eqb-true a.vci b.vci (same_vci (a.vpi == b.vpi) (a.vci == b.vci) e) in
+    λ i. record { vpi = vpis i; vci = vcis i }
+
+-- and a channel is the same as itself
+pub same_channel-refl : (a : Channel) → same_channel a a ≡ true
+same_channel-refl a = λ i. eq-eqb a.vpi a.vpi refl i && eq-eqb a.vci a.vci refl i

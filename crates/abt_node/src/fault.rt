@@ -1,4 +1,7 @@
 //! Why a port adds no connection, and why it judges no cell.
+ghost use Rattle.std.specs.Prelude.{◌≡◌};
+
+use abt_gcra::GcraFault;
 use thiserror::Error;
 
 /// Why a connection was not added: the first of these that applies, in this order.
@@ -30,4 +33,17 @@ pub enum ArriveFault {
     /// The moment is above the greatest of an arrival.
     #[error("the moment is above its limit")]
     TimeRange,
+}
+
+impl From<GcraFault> for ArriveFault {
+    ghost use Rattle.abt_node.specs.Faults.{fault_of};
+
+    ghost from_gives = { λ fault result. result ≡ fault_of fault };
+
+    fn from(fault: GcraFault) -> ArriveFault {
+        match fault {
+            GcraFault::ClockBack => ArriveFault::ClockBack,
+            GcraFault::TimeRange => ArriveFault::TimeRange,
+        }
+    }
 }

@@ -1,0 +1,48 @@
+use Rattle.std.proofs.Common.{◌≡◌, Some, sym, ap, ◌∙◌, subst, refl, rules}
+use Rattle.abt_node.specs.Table.{reply_to, table_after, reply_by, table_by, decision_at}
+use Rattle.abt_node.specs.Rows.{IsPlaceOf, connection_of, reservation_of}
+use Rattle.abt_node.specs.declared.row.Row.{Row}
+use Rattle.abt_node.proofs.RowsLemmas.{AreKept-set, IsServed, served, table_of, get-IsPlaceOf-None}
+use Rattle.abt_node.proofs.ServedLemmas.{line_by_total, reply_is, table_is}
+use Rattle.abt_node.proofs.port.Port.request.Goals as goal
+
+abbrev row_after : goal.After-self-1 → Row
+row_after c = record { vc = c.index_mut.result.now.vc; grant = c.apply_request.new.self; policer = c.index_mut.result.now.policer }
+
+is_served : (c : goal.After-self-1) → IsServed c.self.inside.id c.self.inside.ledger.capacity c.self.inside.ledger.total c.self.inside.rows.items c.in-Some.place c.args.request.now.vc c.index_mut.result.now (row_after c)
+is_served c =
+    served c.self.inside.id c.self.inside.ledger.capacity c.self.inside.ledger.total c.self.inside.rows.items c.in-Some.place c.args.request.now.vc
+    c.index_mut.result.now (row_after c) c.self.invariant (search rules) c.index_mut.ensures.value refl
+
+line : (c : goal.After-self-1) → (c.apply_request.result, reservation_of c.apply_request.new.self) ≡ decision_at (table_of c.self.inside.id c.self.inside.ledger.capacity c.self.inside.rows.items) c.args.request.now (connection_of c.index_mut.result.now)
+line c =
+    line_by_total (table_of c.self.inside.id c.self.inside.ledger.capacity c.self.inside.rows.items) c.args.request.now (connection_of c.index_mut.result.now)
+    c.self.inside.ledger.total _ (is_served c).counted c.apply_request.ensures.line
+
+pub invariant_of-self : goal.invariant_of-self
+invariant_of-self c =
+    let there = c.index_mut.ensures.value in
+    let place : IsPlaceOf c.self.inside.rows.items c.args.request.now.vc (Some c.in-Some.place) = search rules in
+    AreKept-set c.self.inside.rows.items c.in-Some.place _ c.index_mut.result.now c.self.inside.ledger.total c.apply_request.new.ledger.total
+    c.self.invariant place.0 (ap (λ row. row.vc) there) (rw (← there) c.apply_request.ensures.total)
+
+pub returns-clause-value : goal.returns-clause-value
+returns-clause-value c =
+    subst (λ t. c.apply_request.result ≡ reply_to t c.args.request.now) c.self.view_is
+    (reply_is (table_of c.self.inside.id c.self.inside.ledger.capacity c.self.inside.rows.items) c.args.request.now (connection_of c.index_mut.result.now)
+    c.apply_request.result (reservation_of c.apply_request.new.self) (is_served c).known (line c))
+
+pub returns-clause-table : goal.returns-clause-table
+returns-clause-table c =
+    rw (c.apply_request.ensures.capacity, ← c.self.view_is)
+    ((is_served c).changed
+    ∙ table_is (table_of c.self.inside.id c.self.inside.ledger.capacity c.self.inside.rows.items) c.args.request.now (connection_of c.index_mut.result.now)
+    c.apply_request.result (reservation_of c.apply_request.new.self) (is_served c).known (line c))
+
+pub returns-in_default-clause-value : goal.returns-in_default-clause-value
+returns-in_default-clause-value c =
+    rw (← c.self.view_is) (sym (ap (reply_by (table_of c.self.inside.id c.self.inside.ledger.capacity c.self.inside.rows.items) c.args.request.now) (get-IsPlaceOf-None c.self.inside.rows.items c.args.request.now.vc (search rules))))
+
+pub returns-in_default-clause-table : goal.returns-in_default-clause-table
+returns-in_default-clause-table c =
+    rw (← c.self.view_is) (sym (ap (table_by (table_of c.self.inside.id c.self.inside.ledger.capacity c.self.inside.rows.items) c.args.request.now) (get-IsPlaceOf-None c.self.inside.rows.items c.args.request.now.vc (search rules))))
