@@ -4,6 +4,7 @@ use Rattle.std.proofs.lemmas.List.{map-append}
 use Rattle.std.proofs.lemmas.Bool.{eq-eqb, eqb-true}
 use Rattle.std.proofs.lemmas.List.Sums.{sum_by-cons, sum_by_push, sum_by-set, get_or-le-sum_by}
 use Rattle.std.specs.List.{AllByRecursion, IsDistinct}
+use Rattle.std.specs.Option.{option_map}
 use Rattle.std.specs.Ordering.{is_eq}
 use Rattle.std.specs.declared.cmp.Ordering.TheVariants.{Less, Equal, Greater}
 use Rattle.std.specs.FinMap.{get, insert, values, entries, from_entries, find, put, get-from_entries, get-insert, get-entries, entries-insert, len-entries, len-empty, len-insert, from_entries_push, same_map}
@@ -205,3 +206,8 @@ pub same_total : (rows : List Row) (i : ℕ) (d row new : Row) (total : ℕ) →
     → total ≡ total - row_held (get_or rows i d) + row_held new
 same_total rows i d row new total kept there lt same =
     omega (arith, kept.counted, same, ap row_held there, get_or-le-sum_by row_held rows i d)
+
+-- a look-up that found nothing
+pub is_none_of : {A : Type 0} (f : A → Connection) (o : Option A) → is_some o ≡ false → option_map f o ≡ None
+is_none_of f None e = refl
+is_none_of f (Some x) e = let bad : true ≡ false = e in cc

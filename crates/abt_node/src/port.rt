@@ -7,12 +7,11 @@ ghost use Rattle.abt_node.specs.Table.{reply_to, table_after, answer_to, table_a
 ghost use Rattle.abt_node.specs.Table.{arrival_at, table_after_arrival};
 ghost use Rattle.abt_node.specs.Rows.{IsPlaceOf, connection_of};
 
-use crate::any_grant::AnyGrant;
 use crate::fault::{AddFault, ArriveFault};
 use crate::reply::{Back, DropCause, Onward};
 use crate::row::{Row, apply_arrival};
 use abt_cell::{Answer, Request, Vc};
-use abt_gcra::{ARRIVE_MAX, Policer, TAU_MAX, Verdict};
+use abt_gcra::{TAU_MAX, Verdict};
 use abt_ledger::Ledger;
 use abt_rate::Rate;
 use std::alloc::{AllocError, Global};
@@ -153,12 +152,8 @@ impl Port {
         if self.rows.reserve(1).is_err() {
             return Err(AddFault::Memory);
         }
-        let grant = AnyGrant::first(&mut self.ledger);
-        self.rows.push_reserved(Row {
-            vc,
-            grant,
-            policer: tau.map(|tau| Policer::new(tau)),
-        });
+        let row = Row::opening(&mut self.ledger, vc, tau);
+        self.rows.push_reserved(row);
         Ok(())
     }
 
