@@ -1,0 +1,84 @@
+//! The generic cell rate algorithm by virtual scheduling.
+ghost use Rattle.std.specs.Prelude.{◌≡◌, ◌<◌, ◌≤◌, ◌↔◌, IfOk, OnErr, IsErrOf};
+ghost use Rattle.abt_gcra.specs.Policing.{Policing, fresh_policing, checked};
+
+use crate::fault::GcraFault;
+use crate::limits::{ARRIVE_MAX, SPACING_MAX, TAU_MAX};
+use crate::verdict::Verdict;
+use std::marker::Model;
+
+/// The generic cell rate algorithm by virtual scheduling (I.371; docs/RULES.md, "GCRA").
+///
+/// Times are picoseconds.
+#[derive(Clone, Copy, Debug, PartialEq, Eq)]
+pub struct Gcra {
+    tau: u64,
+    tat: Option<u64>,
+    clock: u64,
+}
+
+impl Model for Gcra {
+    ghost use Rattle.std.specs.Prelude.{◌+◌, ◌*◌, ◌^◌, ◌≤◌, IfSome};
+    ghost use Rattle.abt_gcra.specs.Policing.{Policing, policing_code};
+
+    ghost Value = { Policing };
+
+    ghost coded = { policing_code };
+
+    ghost view = { λ g. record { tau = g.tau; tat = g.tat; clock = g.clock } };
+
+    ghost invariant = { λ g. (g.tau ≤ 10 ^ 12) × IfSome g.tat (λ t. t ≤ 2 ^ 62 + 2 * 10 ^ 12) };
+
+    ghost inverse = { λ p. record { tau = p.tau; tat = p.tat; clock = p.clock } };
+}
+
+impl Gcra {
+    /// An algorithm of a tolerance that has met no cell.
+    pub fn new(tau: u64) -> Gcra
+        requires { tau ≤ TAU_MAX }
+        ensures { result ≡ fresh_policing tau }
+    {
+        Gcra {
+            tau,
+            tat: None,
+            clock: 0,
+        }
+    }
+
+    /// The verdict on a cell that arrives at a moment and takes up the line for a spacing. It is never
+    /// [`Verdict::NoRate`].
+    #[tactic(auto, unfolding(crate::specs::Policing::checked))]
+    pub fn check(&mut self, at: u64, spacing: u64) -> Result<Verdict, GcraFault>
+        requires least { 1 ≤ spacing }
+        requires greatest { spacing ≤ SPACING_MAX }
+        ensures clock_back { IsErrOf result GcraFault.ClockBack ↔ (at < self.old.clock) }
+        ensures time_range { IsErrOf result GcraFault.TimeRange ↔ ((self.old.clock ≤ at) × (ARRIVE_MAX < at)) }
+        ensures ok { IfOk result (λ v. (v, self.new) ≡ checked self.old at spacing) }
+        ensures same { OnErr result (self.new ≡ self.old) }
+    {
+        self.advance(at)?;
+        let due = self.tat.unwrap_or(at);
+        if due > at + self.tau {
+            return Ok(Verdict::TooEarly);
+        }
+        self.tat = Some(at.max(due) + spacing);
+        Ok(Verdict::Conforming)
+    }
+
+    /// Moves the clock alone, as for a cell that isn't policed.
+    pub(crate) fn advance(&mut self, at: u64) -> Result<(), GcraFault>
+        ensures clock_back { IsErrOf result GcraFault.ClockBack ↔ (at < self.old.clock) }
+        ensures time_range { IsErrOf result GcraFault.TimeRange ↔ ((self.old.clock ≤ at) × (ARRIVE_MAX < at)) }
+        ensures ok { IfOk result (λ _. self.new ≡ record self.old { clock = at }) }
+        ensures same { OnErr result (self.new ≡ self.old) }
+    {
+        if at < self.clock {
+            return Err(GcraFault::ClockBack);
+        }
+        if at > ARRIVE_MAX {
+            return Err(GcraFault::TimeRange);
+        }
+        self.clock = at;
+        Ok(())
+    }
+}

@@ -1,0 +1,15 @@
+//! The generic cell rate algorithm of I.371 over whole picoseconds, by virtual scheduling and as a leaky bucket, and
+//! a policer that follows a rate as it changes (docs/RULES.md, "GCRA").
+#![tactic(auto)]
+
+mod fault;
+mod gcra;
+mod limits;
+mod policer;
+mod verdict;
+
+pub use fault::GcraFault;
+pub use gcra::Gcra;
+pub use limits::{ARRIVE_MAX, SPACING_MAX, TAU_MAX};
+pub use policer::Policer;
+pub use verdict::Verdict;

@@ -1,0 +1,78 @@
+//! A shaper.
+ghost use Rattle.std.specs.Prelude.{◌≡◌, ◌≢◌, ℕ, ◌+◌, ◌<◌, ◌≤◌, ◌↔◌, IsOk, IsErrOf, MatchResult};
+ghost use Rattle.abt_rate.specs.Rate.{spacing_of};
+ghost use Rattle.abt_shaper.specs.Shaping.{IsBehind, IsOnward};
+
+use crate::fault::ShapeFault;
+use crate::limits::EMIT_MAX;
+use abt_rate::Rate;
+use std::marker::Model;
+
+/// A shaper of one source: after a cell that left at a rate the next one leaves a spacing of that rate later, or
+/// later than that (docs/RULES.md, "Shaper"). So a rate that changes counts from the next cell on.
+///
+/// Moments are picoseconds.
+#[derive(Clone, Copy, Debug, PartialEq, Eq)]
+pub struct Shaper {
+    next: u64,
+    emitted: Option<u64>,
+}
+
+impl Model for Shaper {
+    ghost use Rattle.std.specs.Prelude.{◌≤◌, IfSome};
+    ghost use Rattle.abt_shaper.specs.Shaping.{Shaping, shaping_code};
+
+    ghost Value = { Shaping };
+
+    ghost coded = { shaping_code };
+
+    ghost view = { λ s. record { next = s.next; emitted = s.emitted } };
+
+    ghost invariant = { λ s. IfSome s.emitted (λ last. last ≤ s.next) };
+
+    ghost inverse = { λ s. record { next = s.next; emitted = s.emitted } };
+}
+
+impl Shaper {
+    /// A shaper that lets no cell leave before a moment.
+    pub fn new(not_before: u64) -> Shaper
+        requires { not_before ≤ EMIT_MAX }
+        ensures { result ≡ record { next = not_before; emitted = None } }
+    {
+        Shaper {
+            next: not_before,
+            emitted: None,
+        }
+    }
+
+    /// Lets a cell leave now, at a rate, and gives the earliest moment of the next one.
+    pub fn emit(&mut self, now: u64, rate: Rate) -> Result<u64, ShapeFault>
+        ensures clock_back { IsErrOf result ShapeFault.ClockBack ↔ IsBehind self.old now }
+        ensures time_range { IsErrOf result ShapeFault.TimeRange ↔ (IsOnward self.old now × (EMIT_MAX < now)) }
+        ensures zero { IsErrOf result ShapeFault.Zero ↔ (IsOnward self.old now × (now ≤ EMIT_MAX) × (rate ≡ 0)) }
+        ensures too_soon { (next : ℕ) → IsErrOf result (ShapeFault.TooSoon next) ↔
+            (IsOnward self.old now × (now ≤ EMIT_MAX) × (rate ≢ 0) × (now < self.old.next) × (next ≡ self.old.next)) }
+        ensures ok { IsOk result ↔ ((now ≤ EMIT_MAX) × (rate ≢ 0) × (self.old.next ≤ now)) }
+        ensures value { MatchResult result
+            (λ next. (next ≡ now + spacing_of rate) × (self.new ≡ record { next = next; emitted = Some now }))
+            (λ _. self.new ≡ self.old) }
+    {
+        if let Some(last) = self.emitted {
+            if now < last {
+                return Err(ShapeFault::ClockBack);
+            }
+        }
+        if now > EMIT_MAX {
+            return Err(ShapeFault::TimeRange);
+        }
+        let Some(spacing) = rate.spacing() else {
+            return Err(ShapeFault::Zero);
+        };
+        if now < self.next {
+            return Err(ShapeFault::TooSoon { next: self.next });
+        }
+        self.next = now + spacing;
+        self.emitted = Some(now);
+        Ok(self.next)
+    }
+}
