@@ -1,8 +1,8 @@
 use Rattle.abt_rate.proofs.Rates.{floor_rate, floor_most, shifted}
-use Rattle.abt_rate.proofs.rate.Rate.at_most.Goals as goal
+use Rattle.abt_rate.proofs.rate.Rate.rounded_down.Goals as goal
 
-pub invariant_of-result-2 : goal.invariant_of-result-2
-invariant_of-result-2 c =
+pub invariant_of-result : goal.invariant_of-result
+invariant_of-result c =
     let rate = floor_rate _ _ c.exponent_at-exponent.ensures in
     rw (shifted _ rate) rate
 
