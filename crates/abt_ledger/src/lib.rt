@@ -1,0 +1,11 @@
+//! The running sum of a link, and the holds that make it up.
+#![tactic(auto)]
+
+mod hold;
+mod ledger;
+
+pub use hold::Hold;
+pub use ledger::Ledger;
+
+#[cfg(test)]
+mod tests;
