@@ -1,6 +1,8 @@
 //! The generic cell rate algorithm by virtual scheduling.
-ghost use Rattle.std.specs.Prelude.{◌≡◌, ◌<◌, ◌≤◌, ◌↔◌, IfOk, OnErr, IsErrOf};
-ghost use Rattle.abt_gcra.specs.Policing.{Policing, fresh_policing, checked};
+ghost use Rattle.std.specs.Prelude.{◌≡◌, ◌<◌, ◌≤◌, ◌↔◌, List, IfOk, OnErr, IsErrOf};
+ghost use Rattle.abt_gcra.specs.Policing.{fresh_policing, checked};
+ghost use Rattle.abt_gcra.specs.Standing.{StandsFor};
+ghost use Rattle.abt_gcra.specs.Windows.{Arrival, IsVerdict, taken_after};
 
 use crate::fault::GcraFault;
 use crate::limits::{ARRIVE_MAX, SPACING_MAX, TAU_MAX};
@@ -47,13 +49,22 @@ impl Gcra {
 
     /// The verdict on a cell that arrives at a moment and takes up the line for a spacing. It is never
     /// [`Verdict::NoRate`].
-    #[tactic(auto, unfolding(crate::specs::Policing::checked))]
+    #[tactic(
+        auto,
+        using(crate::proofs::PolicingLemmas::checked_windows),
+        unfolding(crate::specs::Policing::checked)
+    )]
     pub fn check(&mut self, at: u64, spacing: u64) -> Result<Verdict, GcraFault>
         requires least { 1 ≤ spacing }
         requires greatest { spacing ≤ SPACING_MAX }
         ensures clock_back { IsErrOf result GcraFault.ClockBack ↔ (at < self.old.clock) }
         ensures time_range { IsErrOf result GcraFault.TimeRange ↔ ((self.old.clock ≤ at) × (ARRIVE_MAX < at)) }
-        ensures ok { IfOk result (λ v. (v, self.new) ≡ checked self.old at spacing) }
+        ensures ok { IfOk result (λ verdict. (verdict, self.new) ≡ checked self.old at spacing) }
+        ensures windows {
+            (taken : List Arrival) → StandsFor self.old taken → IfOk result (λ verdict.
+                IsVerdict self.old.tau taken (record { at = at; spacing = spacing }) verdict ×
+                StandsFor self.new (taken_after taken (record { at = at; spacing = spacing }) verdict))
+        }
         ensures same { OnErr result (self.new ≡ self.old) }
     {
         self.advance(at)?;

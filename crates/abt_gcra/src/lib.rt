@@ -4,12 +4,14 @@
 
 mod fault;
 mod gcra;
+mod law;
 mod limits;
 mod policer;
 mod verdict;
 
 pub use fault::GcraFault;
 pub use gcra::Gcra;
+pub use law::shaped_cells_conform;
 pub use limits::{ARRIVE_MAX, SPACING_MAX, TAU_MAX};
 pub use policer::Policer;
 pub use verdict::Verdict;

@@ -1,0 +1,3 @@
+pub mod WindowsLemmas
+pub mod PolicingLemmas
+pub mod PassageLemmas
