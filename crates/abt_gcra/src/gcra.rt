@@ -92,4 +92,10 @@ impl Gcra {
         self.clock = at;
         Ok(())
     }
+
+    pub(crate) fn tau(&self) -> u64
+        ensures { result ≡ self.now.tau }
+    {
+        self.tau
+    }
 }

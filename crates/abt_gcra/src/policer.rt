@@ -67,4 +67,11 @@ impl Policer {
         };
         self.gcra.check(at, spacing)
     }
+
+    /// The tolerance, in picoseconds.
+    pub fn tau(&self) -> u64
+        ensures { result ≡ self.now.tau }
+    {
+        self.gcra.tau()
+    }
 }

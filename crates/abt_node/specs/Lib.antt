@@ -1,0 +1,2 @@
+pub mod Reservation
+pub mod Table
