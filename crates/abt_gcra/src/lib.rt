@@ -2,6 +2,7 @@
 //! a policer that follows a rate as it changes (docs/RULES.md, "GCRA").
 #![tactic(auto)]
 
+mod bucket;
 mod fault;
 mod gcra;
 mod law;
@@ -9,6 +10,7 @@ mod limits;
 mod policer;
 mod verdict;
 
+pub use bucket::Bucket;
 pub use fault::GcraFault;
 pub use gcra::Gcra;
 pub use law::shaped_cells_conform;
