@@ -53,7 +53,7 @@ keeps_only_below limit tat cells stands keeps =
 owed_first : (cell : Arrival) (cells : List Arrival) → IsOwed (cell ∷ cells) (cell.at + cell.spacing)
 owed_first cell cells = ([], cell, cells, refl, omega arith)
 
-spacings-cons : (cell : Arrival) (cells : List Arrival) → spacings (cell ∷ cells) ≡ cell.spacing + spacings cells
+pub spacings-cons : (cell : Arrival) (cells : List Arrival) → spacings (cell ∷ cells) ≡ cell.spacing + spacings cells
 spacings-cons cell cells = sum_by-cons (λ c. c.spacing) cell cells
 
 owed_later : (cell : Arrival) (cells : List Arrival) (moment : ℕ) → IsOwed cells moment → IsOwed (cell ∷ cells) (moment + cell.spacing)

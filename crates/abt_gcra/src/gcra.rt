@@ -4,7 +4,7 @@ ghost use Rattle.abt_gcra.specs.Policing.{fresh_policing, checked};
 ghost use Rattle.abt_gcra.specs.Standing.{StandsFor};
 ghost use Rattle.abt_gcra.specs.Windows.{Arrival, IsVerdict, taken_after};
 
-use crate::fault::GcraFault;
+use crate::fault::{GcraFault, may_arrive};
 use crate::limits::{ARRIVE_MAX, SPACING_MAX, TAU_MAX};
 use crate::verdict::Verdict;
 use std::marker::Model;
@@ -49,16 +49,14 @@ impl Gcra {
 
     /// The verdict on a cell that arrives at a moment and takes up the line for a spacing. It is never
     /// [`Verdict::NoRate`].
-    #[tactic(
-        auto,
-        using(crate::proofs::PolicingLemmas::checked_windows),
-        unfolding(crate::specs::Policing::checked)
-    )]
+    #[tactic(auto, unfolding(crate::specs::Policing::checked))]
     pub fn check(&mut self, at: u64, spacing: u64) -> Result<Verdict, GcraFault>
         requires least { 1 ≤ spacing }
         requires greatest { spacing ≤ SPACING_MAX }
         ensures clock_back { IsErrOf result GcraFault.ClockBack ↔ (at < self.old.clock) }
-        ensures time_range { IsErrOf result GcraFault.TimeRange ↔ ((self.old.clock ≤ at) × (ARRIVE_MAX < at)) }
+        ensures time_range {
+            IsErrOf result GcraFault.TimeRange ↔ ((self.old.clock ≤ at) × (ARRIVE_MAX < at))
+        }
         ensures ok { IfOk result (λ verdict. (verdict, self.new) ≡ checked self.old at spacing) }
         ensures windows {
             (taken : List Arrival) → StandsFor self.old taken → IfOk result (λ verdict.
@@ -79,16 +77,13 @@ impl Gcra {
     /// Moves the clock alone, as for a cell that isn't policed.
     pub(crate) fn advance(&mut self, at: u64) -> Result<(), GcraFault>
         ensures clock_back { IsErrOf result GcraFault.ClockBack ↔ (at < self.old.clock) }
-        ensures time_range { IsErrOf result GcraFault.TimeRange ↔ ((self.old.clock ≤ at) × (ARRIVE_MAX < at)) }
+        ensures time_range {
+            IsErrOf result GcraFault.TimeRange ↔ ((self.old.clock ≤ at) × (ARRIVE_MAX < at))
+        }
         ensures ok { IfOk result (λ _. self.new ≡ record self.old { clock = at }) }
         ensures same { OnErr result (self.new ≡ self.old) }
     {
-        if at < self.clock {
-            return Err(GcraFault::ClockBack);
-        }
-        if at > ARRIVE_MAX {
-            return Err(GcraFault::TimeRange);
-        }
+        may_arrive(self.clock, at)?;
         self.clock = at;
         Ok(())
     }

@@ -52,7 +52,9 @@ impl Policer {
     )]
     pub fn arrive(&mut self, at: u64, held: Rate) -> Result<Verdict, GcraFault>
         ensures clock_back { IsErrOf result GcraFault.ClockBack ↔ (at < self.old.clock) }
-        ensures time_range { IsErrOf result GcraFault.TimeRange ↔ ((self.old.clock ≤ at) × (ARRIVE_MAX < at)) }
+        ensures time_range {
+            IsErrOf result GcraFault.TimeRange ↔ ((self.old.clock ≤ at) × (ARRIVE_MAX < at))
+        }
         ensures ok { IfOk result (λ verdict. (verdict, self.new) ≡ policed self.old at held) }
         ensures windows {
             (taken : List Arrival) → StandsFor self.old taken → IfOk result (λ verdict.
