@@ -1,5 +1,6 @@
 -- The source of a connection, by the connection's facts, the newest first (docs/RULES.md, "Source").
-use Rattle.std.specs.Prelude.{ℕ, ◌+◌, ◌^◌, List, [], ◌∷◌, if◌then◌else◌, max, Option, None, Some}
+use Rattle.std.specs.Prelude.{ℕ, ◌+◌, ◌^◌, ◌==◌, Bool, true, false, List, [], ◌∷◌, if◌then◌else◌, max, Option, None, Some}
+use Rattle.std.specs.List.{list_any}
 use Rattle.abt_rate.specs.Rate.{spacing_of}
 use Rattle.abt_facts.specs.declared.fact.Fact.{Fact}
 use Rattle.abt_facts.specs.declared.fact.Fact.TheVariants.{Started, Crashed, Stored, Asked, Heard, Emitted}
@@ -65,3 +66,11 @@ emission_of [] = None
 emission_of (Started now number ∷ facts) = None
 emission_of (Emitted cell at rate ∷ facts) = Some at
 emission_of (fact ∷ facts) = emission_of facts
+
+abbrev pub is_yes_to : ℕ → Fact → Bool
+is_yes_to s (Heard seq true) = seq == s
+is_yes_to s other = false
+
+-- whether the source heard a yes to this number while it waited for it
+abbrev pub yes_was_heard : List Fact → ℕ → Bool
+yes_was_heard facts s = list_any (is_yes_to s) facts
