@@ -1,1 +1,5 @@
+pub mod Windows
+pub mod Passage
 pub mod Policing
+pub mod Standing
+pub mod Finding

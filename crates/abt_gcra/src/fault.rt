@@ -1,4 +1,7 @@
 //! Why a cell is given no verdict.
+ghost use Rattle.std.specs.Prelude.{◌≡◌, ◌<◌, ◌≤◌, ◌↔◌, IsErrOf};
+
+use crate::limits::ARRIVE_MAX;
 use thiserror::Error;
 
 /// Why an arrival is refused: the first of these that applies.
@@ -10,4 +13,18 @@ pub enum GcraFault {
     /// The arrival is above [`ARRIVE_MAX`](crate::ARRIVE_MAX).
     #[error("the arrival is out of range")]
     TimeRange,
+}
+
+// Whether a cell may arrive at a moment, where the last one arrived at the clock.
+pub(crate) fn may_arrive(clock: u64, at: u64) -> Result<(), GcraFault>
+    ensures clock_back { IsErrOf result GcraFault.ClockBack ↔ (at < clock) }
+    ensures time_range { IsErrOf result GcraFault.TimeRange ↔ ((clock ≤ at) × (ARRIVE_MAX < at)) }
+{
+    if at < clock {
+        return Err(GcraFault::ClockBack);
+    }
+    if at > ARRIVE_MAX {
+        return Err(GcraFault::TimeRange);
+    }
+    Ok(())
 }

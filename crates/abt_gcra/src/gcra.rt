@@ -1,8 +1,10 @@
 //! The generic cell rate algorithm by virtual scheduling.
-ghost use Rattle.std.specs.Prelude.{◌≡◌, ◌<◌, ◌≤◌, ◌↔◌, IfOk, OnErr, IsErrOf};
-ghost use Rattle.abt_gcra.specs.Policing.{Policing, fresh_policing, checked};
+ghost use Rattle.std.specs.Prelude.{◌≡◌, ◌<◌, ◌≤◌, ◌↔◌, List, IfOk, OnErr, IsErrOf};
+ghost use Rattle.abt_gcra.specs.Policing.{fresh_policing, checked};
+ghost use Rattle.abt_gcra.specs.Standing.{StandsFor};
+ghost use Rattle.abt_gcra.specs.Windows.{Arrival, IsVerdict, taken_after};
 
-use crate::fault::GcraFault;
+use crate::fault::{GcraFault, may_arrive};
 use crate::limits::{ARRIVE_MAX, SPACING_MAX, TAU_MAX};
 use crate::verdict::Verdict;
 use std::marker::Model;
@@ -52,8 +54,15 @@ impl Gcra {
         requires least { 1 ≤ spacing }
         requires greatest { spacing ≤ SPACING_MAX }
         ensures clock_back { IsErrOf result GcraFault.ClockBack ↔ (at < self.old.clock) }
-        ensures time_range { IsErrOf result GcraFault.TimeRange ↔ ((self.old.clock ≤ at) × (ARRIVE_MAX < at)) }
-        ensures ok { IfOk result (λ v. (v, self.new) ≡ checked self.old at spacing) }
+        ensures time_range {
+            IsErrOf result GcraFault.TimeRange ↔ ((self.old.clock ≤ at) × (ARRIVE_MAX < at))
+        }
+        ensures ok { IfOk result (λ verdict. (verdict, self.new) ≡ checked self.old at spacing) }
+        ensures windows {
+            (taken : List Arrival) → StandsFor self.old taken → IfOk result (λ verdict.
+                IsVerdict self.old.tau taken (record { at = at; spacing = spacing }) verdict ×
+                StandsFor self.new (taken_after taken (record { at = at; spacing = spacing }) verdict))
+        }
         ensures same { OnErr result (self.new ≡ self.old) }
     {
         self.advance(at)?;
@@ -68,16 +77,13 @@ impl Gcra {
     /// Moves the clock alone, as for a cell that isn't policed.
     pub(crate) fn advance(&mut self, at: u64) -> Result<(), GcraFault>
         ensures clock_back { IsErrOf result GcraFault.ClockBack ↔ (at < self.old.clock) }
-        ensures time_range { IsErrOf result GcraFault.TimeRange ↔ ((self.old.clock ≤ at) × (ARRIVE_MAX < at)) }
+        ensures time_range {
+            IsErrOf result GcraFault.TimeRange ↔ ((self.old.clock ≤ at) × (ARRIVE_MAX < at))
+        }
         ensures ok { IfOk result (λ _. self.new ≡ record self.old { clock = at }) }
         ensures same { OnErr result (self.new ≡ self.old) }
     {
-        if at < self.clock {
-            return Err(GcraFault::ClockBack);
-        }
-        if at > ARRIVE_MAX {
-            return Err(GcraFault::TimeRange);
-        }
+        may_arrive(self.clock, at)?;
         self.clock = at;
         Ok(())
     }

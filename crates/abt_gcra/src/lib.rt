@@ -2,14 +2,18 @@
 //! a policer that follows a rate as it changes (docs/RULES.md, "GCRA").
 #![tactic(auto)]
 
+mod bucket;
 mod fault;
 mod gcra;
+mod law;
 mod limits;
 mod policer;
 mod verdict;
 
+pub use bucket::Bucket;
 pub use fault::GcraFault;
 pub use gcra::Gcra;
+pub use law::{conforming_cells_are_taken, shaped_cells_conform, verdict_is_found};
 pub use limits::{ARRIVE_MAX, SPACING_MAX, TAU_MAX};
 pub use policer::Policer;
 pub use verdict::Verdict;

@@ -1,6 +1,9 @@
 //! A policer that follows the rate that is held.
-ghost use Rattle.std.specs.Prelude.{◌≡◌, ◌<◌, ◌≤◌, ◌↔◌, IfOk, OnErr, IsErrOf};
-ghost use Rattle.abt_gcra.specs.Policing.{Policing, fresh_policing, policed};
+ghost use Rattle.std.specs.Prelude.{◌≡◌, ◌<◌, ◌≤◌, ◌↔◌, List, IfOk, OnErr, IsErrOf};
+ghost use Rattle.abt_rate.specs.Rate.{spacing_of};
+ghost use Rattle.abt_gcra.specs.Policing.{fresh_policing, policed};
+ghost use Rattle.abt_gcra.specs.Standing.{StandsFor};
+ghost use Rattle.abt_gcra.specs.Windows.{Arrival, IsVerdictAt, taken_after};
 
 use crate::fault::GcraFault;
 use crate::gcra::Gcra;
@@ -42,11 +45,22 @@ impl Policer {
     }
 
     /// The verdict on a cell that arrives at a moment, where a rate is held for its connection.
-    #[tactic(auto, unfolding(crate::specs::Policing::policed))]
+    #[tactic(
+        auto,
+        using(crate::proofs::PolicingLemmas::policed_windows),
+        unfolding(crate::specs::Policing::policed)
+    )]
     pub fn arrive(&mut self, at: u64, held: Rate) -> Result<Verdict, GcraFault>
         ensures clock_back { IsErrOf result GcraFault.ClockBack ↔ (at < self.old.clock) }
-        ensures time_range { IsErrOf result GcraFault.TimeRange ↔ ((self.old.clock ≤ at) × (ARRIVE_MAX < at)) }
-        ensures ok { IfOk result (λ v. (v, self.new) ≡ policed self.old at held) }
+        ensures time_range {
+            IsErrOf result GcraFault.TimeRange ↔ ((self.old.clock ≤ at) × (ARRIVE_MAX < at))
+        }
+        ensures ok { IfOk result (λ verdict. (verdict, self.new) ≡ policed self.old at held) }
+        ensures windows {
+            (taken : List Arrival) → StandsFor self.old taken → IfOk result (λ verdict.
+                IsVerdictAt self.old.tau taken at held verdict ×
+                StandsFor self.new (taken_after taken (record { at = at; spacing = spacing_of held }) verdict))
+        }
         ensures same { OnErr result (self.new ≡ self.old) }
     {
         let Some(spacing) = held.spacing() else {

@@ -17,9 +17,9 @@ pub struct MemoryStore {
 }
 
 impl Model for MemoryStore {
-    ghost use Rattle.abt_keep.specs.Memory.{Memory};
+    ghost use Rattle.abt_keep.specs.MemoryStore.{StoreView};
 
-    ghost Value = { Memory };
+    ghost Value = { StoreView };
 
     ghost view = { λ m. record { number = m.number; plan = m.plan; failures = m.failures } };
 }
@@ -46,7 +46,7 @@ impl MemoryStore {
 
 impl SeqStore for MemoryStore {
     ghost use Rattle.std.specs.Prelude.{◌≡◌};
-    ghost use Rattle.abt_keep.specs.Memory.{kept_under, keep_under};
+    ghost use Rattle.abt_keep.specs.MemoryStore.{kept_under, keep_under};
 
     ghost number = { λ m. m.number };
 

@@ -30,8 +30,13 @@ pub record IsNonzeroRate (units : ℕ) : Type 0 where
   pub exponent_fits : exponent < 32
   pub units_are : units ≡ (512 + mantissa) * 2 ^ exponent
 
+-- a number of units that some code says
 abbrev pub IsRate : ℕ → Type 0
 IsRate units = (units ≡ 0) ⊎ IsNonzeroRate units
+
+-- the greatest rate, in units: mantissa 511 and exponent 31
+abbrev pub greatest_units : ℕ
+greatest_units = 1023 * 2 ^ 31
 
 -- Cells that are at least t picoseconds apart keep the rate: 512 * 10^12 units are one cell in a picosecond.
 abbrev pub KeepsRate : ℕ → ℕ → Type 0

@@ -1,6 +1,16 @@
-//! The source of a connection, whose state is a type.
+//! The source of a connection, whose state is a type: an illegal change of state doesn't compile.
 #![tactic(auto)]
 
+mod answer;
+mod ask;
 mod fault;
+mod source;
+mod start;
+mod state;
 
+pub use answer::Answered;
+pub use ask::AskRefused;
 pub use fault::{AskFault, StartFault};
+pub use source::Source;
+pub use start::{HOLD_OFF, START_MAX, StartRefused};
+pub use state::{Asking, Down, Idle, State, Up};

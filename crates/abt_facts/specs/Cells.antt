@@ -1,0 +1,76 @@
+-- The cells of a connection, by the connection's facts, the newest first (docs/RULES.md, "Cells"). They are numbered from 0.
+use Rattle.std.specs.Prelude.{ℕ, ◌+◌, ◌==◌, ◌&&◌, nat_le, Bool, true, List, [], ◌∷◌, if◌then◌else◌, max}
+use Rattle.abt_rate.specs.Rate.{spacing_of}
+use Rattle.abt_gcra.specs.declared.verdict.Verdict.{Verdict}
+use Rattle.abt_gcra.specs.declared.verdict.Verdict.TheVariants.{Conforming, TooEarly, NoRate}
+use Rattle.abt_gcra.specs.Windows.{Arrival, taken_after}
+use Rattle.abt_facts.specs.declared.fact.Fact.{Fact}
+use Rattle.abt_facts.specs.declared.fact.Fact.TheVariants.{Delivered, Emitted, Arrived}
+use Rattle.abt_facts.specs.Requests.{mark_of}
+
+-- how many cells were emitted
+abbrev pub emitted_of : List Fact → ℕ
+emitted_of [] = 0
+emitted_of (Emitted cell at rate ∷ facts) = emitted_of facts + 1
+emitted_of (fact ∷ facts) = emitted_of facts
+
+-- the moment at which a cell was emitted, and the rate at which it was shaped
+abbrev pub moment_of : List Fact → ℕ → ℕ
+moment_of [] n = 0
+moment_of (Emitted cell at rate ∷ facts) n = if cell == n then at else moment_of facts n
+moment_of (fact ∷ facts) n = moment_of facts n
+
+abbrev pub cell_rate_of : List Fact → ℕ → ℕ
+cell_rate_of [] n = 0
+cell_rate_of (Emitted cell at rate ∷ facts) n = if cell == n then rate else cell_rate_of facts n
+cell_rate_of (fact ∷ facts) n = cell_rate_of facts n
+
+-- the number behind the last cell that arrived, 0 where none did, and the moment of the last arrival
+abbrev pub after_last_of : List Fact → ℕ
+after_last_of [] = 0
+after_last_of (Arrived cell at rate verdict ∷ facts) = cell + 1
+after_last_of (fact ∷ facts) = after_last_of facts
+
+abbrev pub last_arrival_of : List Fact → ℕ
+last_arrival_of [] = 0
+last_arrival_of (Arrived cell at rate verdict ∷ facts) = at
+last_arrival_of (fact ∷ facts) = last_arrival_of facts
+
+-- the greatest mark of a request that came to the first hop
+abbrev pub delivered_mark_of : List Fact → ℕ
+delivered_mark_of [] = 0
+delivered_mark_of (Delivered seq ∷ facts) = max (mark_of facts seq) (delivered_mark_of facts)
+delivered_mark_of (fact ∷ facts) = delivered_mark_of facts
+
+-- No cell below the fence can arrive any more: cells stay in order, and no request overtakes a cell that left before it.
+abbrev pub fence_of : List Fact → ℕ
+fence_of facts = max (after_last_of facts) (delivered_mark_of facts)
+
+-- whether a cell may be at the first hop at a moment, where the way there takes at least this delay, and at most tau more
+abbrev pub is_in_time : (delay tau : ℕ) → List Fact → (cell at : ℕ) → Bool
+is_in_time delay tau facts cell at =
+    nat_le (moment_of facts cell + delay) at && nat_le at (moment_of facts cell + delay + tau)
+
+-- the cells that were taken at the first hop, the last first, each with the spacing of the rate that was held then
+abbrev pub taken_of : List Fact → List Arrival
+taken_of [] = []
+taken_of (Arrived cell at rate verdict ∷ facts) = taken_after (taken_of facts) (record { at = at; spacing = spacing_of rate }) verdict
+taken_of (fact ∷ facts) = taken_of facts
+
+-- Whether a cell at a moment keeps the window to each cell of a list that was taken before it. Between those and it lie
+-- spacings that are counted already.
+abbrev pub keeps_windows : (tau at counted : ℕ) → List Arrival → Bool
+keeps_windows tau at counted [] = true
+keeps_windows tau at counted (earlier ∷ older) =
+    nat_le (earlier.at + (earlier.spacing + counted)) (at + tau) && keeps_windows tau at (earlier.spacing + counted) older
+
+-- whether all windows between cells are kept, the last cell first
+abbrev pub all_windows_kept : ℕ → List Arrival → Bool
+all_windows_kept tau [] = true
+all_windows_kept tau (later ∷ older) = keeps_windows tau later.at 0 older && all_windows_kept tau older
+
+-- the verdict on a cell that comes at a moment where a rate is held: conforming exactly if it keeps all windows with the cells taken
+abbrev pub verdict_at : ℕ → List Fact → (at held : ℕ) → Verdict
+verdict_at tau facts at held =
+    if held == 0 then NoRate
+    else (if all_windows_kept tau (record { at = at; spacing = spacing_of held } ∷ taken_of facts) then Conforming else TooEarly)

@@ -1,0 +1,5 @@
+pub mod Requests
+pub mod Source
+pub mod Hop
+pub mod Sent
+pub mod Cells

@@ -1,0 +1,6 @@
+//! The facts that one connection's events leave, and what a list of them says of its source, its hops and its cells.
+#![tactic(auto)]
+
+mod fact;
+
+pub use fact::Fact;

@@ -1,0 +1,4 @@
+pub mod WindowsLemmas
+pub mod PolicingLemmas
+pub mod PassageLemmas
+pub mod FindingLemmas

@@ -1,0 +1,88 @@
+-- What an event answers after the past of a net, and which facts it adds.
+use Rattle.std.specs.Prelude.{ℕ, ◌+◌, ◌-◌, ◌==◌, Bool, true, false, List, [], ◌∷◌, if◌then◌else◌, slice_index, Option, None, Some}
+use Rattle.abt_keep.specs.declared.plan.StorePlan.TheVariants.{Works, FailsAfter}
+use Rattle.abt_node.specs.declared.reply.Onward.{Onward}
+use Rattle.abt_node.specs.declared.reply.Onward.TheVariants.{Pass, Refuse, Drop}
+use Rattle.abt_node.specs.declared.reply.Back.{Back}
+use Rattle.abt_node.specs.declared.reply.Back.TheVariants.{Pass as PassBack, Drop as DropBack}
+use Rattle.abt_source.specs.declared.fault.AskFault.TheVariants.{Keep}
+use Rattle.abt_net.specs.declared.conn.Conn.{Conn}
+use Rattle.abt_net.specs.Topology.{Topology, conn_at}
+use Rattle.abt_facts.specs.declared.fact.Fact.{Fact}
+use Rattle.abt_facts.specs.declared.fact.Fact.TheVariants.{Started as FactStarted, Crashed as FactCrashed, Stored, Asked as FactAsked, Heard as FactHeard, Emitted as FactEmitted, Delivered, Passed, Shut, Turned as FactTurned, Back as FactBack, Arrived as FactArrived}
+use Rattle.abt_facts.specs.Source.{rate_of, stored_of, last_of}
+use Rattle.abt_facts.specs.Hop.{held_of}
+use Rattle.abt_facts.specs.Cells.{emitted_of}
+use Rattle.abt_model.specs.declared.connection_fact.ConnectionFact.{ConnectionFact}
+use Rattle.abt_model.specs.declared.event.Event.{Event}
+use Rattle.abt_model.specs.declared.event.Event.TheVariants.{Start, Ask, Again, Crash, Emit, Arrive, Request, Turn, Answer, Told}
+use Rattle.abt_model.specs.declared.outcome.Cause.TheVariants.{Unknown}
+use Rattle.abt_model.specs.declared.outcome.Heard.TheVariants.{Raised, Refused, Ignored}
+use Rattle.abt_model.specs.declared.outcome.Outcome.{Outcome}
+use Rattle.abt_model.specs.declared.outcome.Outcome.TheVariants.{Started, StartRefused, Asked, AskRefused, Repeated, Crashed, Emitted, EmitRefused, Arrived, Requested, Turned, Answered, Told as HasTold, NotEnabled}
+use Rattle.abt_model.specs.Past.{facts_of, with_facts}
+use Rattle.abt_model.specs.Reserved.{reserved_on}
+use Rattle.abt_model.specs.Answers.{answer_by}
+
+abbrev pub conn_of : Event → ℕ
+conn_of (Start c now) = c
+conn_of (Ask c rate plan) = c
+conn_of (Again c) = c
+conn_of (Crash c) = c
+conn_of (Emit c now) = c
+conn_of (Arrive c cell at) = c
+conn_of (Request c hop seq) = c
+conn_of (Turn c seq) = c
+conn_of (Answer c hop seq granted) = c
+conn_of (Told c seq granted) = c
+
+-- the port that a request or an answer comes to, by the path of its connection
+abbrev pub port_of : List ℕ → Event → ℕ
+port_of path (Request c hop seq) = slice_index path (hop - 1)
+port_of path (Answer c hop seq granted) = slice_index path (hop - 1)
+port_of path event = 0
+
+abbrev pub outcome_at : Topology → List ConnectionFact → Option Conn → Event → Outcome
+outcome_at net past None event = NotEnabled Unknown
+outcome_at net past (Some conn) event =
+    let port = port_of conn.path event in
+    answer_by conn (reserved_on net past port) (slice_index net.capacities port) (facts_of (conn_of event) past) event
+
+-- what an event answers after this past
+abbrev pub outcome_of : Topology → List ConnectionFact → Event → Outcome
+outcome_of net past event = outcome_at net past (conn_at net (conn_of event)) event
+
+-- a request that comes to the first hop is delivered, whatever becomes of it
+abbrev pub delivery : (hop seq : ℕ) → List Fact
+delivery hop seq = if hop == 1 then Delivered seq ∷ [] else []
+
+abbrev pub request_adds : (hop seq : ℕ) → Onward → List Fact
+request_adds hop seq Pass = Passed seq hop ∷ delivery hop seq
+request_adds hop seq (Refuse answer) = Shut seq hop ∷ delivery hop seq
+request_adds hop seq (Drop cause) = delivery hop seq
+
+abbrev pub answer_adds : (hop seq : ℕ) → Bool → Back → List Fact
+answer_adds hop seq true PassBack = FactBack seq hop ∷ []
+answer_adds hop seq false PassBack = Shut seq hop ∷ []
+answer_adds hop seq granted (DropBack cause) = []
+
+-- The facts that an event of a connection adds to those of that connection, by what it answers, the newest first.
+abbrev pub facts_added : List Fact → Event → Outcome → List Fact
+facts_added facts (Start c now) Started = FactStarted now (stored_of facts) ∷ []
+facts_added facts (Ask c rate plan) (Asked request) =
+    FactAsked request.seq request.floor request.ask (emitted_of facts) ∷ Stored (last_of facts + 1) ∷ []
+facts_added facts (Ask c rate FailsAfter) (AskRefused Keep) = Stored (last_of facts + 1) ∷ []
+facts_added facts (Crash c) Crashed = FactCrashed ∷ []
+facts_added facts (Emit c now) (Emitted cell next) = FactEmitted cell now (rate_of facts) ∷ []
+facts_added facts (Arrive c cell at) (Arrived verdict) = FactArrived cell at (held_of facts 1) verdict ∷ []
+facts_added facts (Request c hop seq) (Requested onward) = request_adds hop seq onward
+facts_added facts (Turn c seq) Turned = FactTurned seq ∷ []
+facts_added facts (Answer c hop seq granted) (Answered back) = answer_adds hop seq granted back
+facts_added facts (Told c seq granted) (HasTold Raised) = FactHeard seq true ∷ []
+facts_added facts (Told c seq granted) (HasTold Refused) = FactHeard seq false ∷ []
+facts_added facts event outcome = []
+
+-- the past after an event
+abbrev pub after_event : Topology → List ConnectionFact → Event → List ConnectionFact
+after_event net past event =
+    with_facts (conn_of event) (facts_added (facts_of (conn_of event) past) event (outcome_of net past event)) past

@@ -1,0 +1,12 @@
+//! Nets: ports with their capacities, and the connections that run over them.
+#![tactic(auto)]
+
+mod conn;
+mod fault;
+mod limits;
+mod path;
+
+pub use conn::Conn;
+pub use fault::NetFault;
+pub use limits::{CAPACITY_MAX, CONNECTIONS_MAX, DELAY_MAX, HOPS_MAX, PORTS_MAX, TAU_MAX};
+pub use path::Path;

@@ -1,0 +1,14 @@
+-- What clients see of a source, in whichever state. Rates are seen as their units, moments are picoseconds.
+use Rattle.std.specs.Prelude.{ℕ, Option}
+use Rattle.abt_cell.specs.Channel.{Channel}
+use Rattle.abt_cell.specs.Message.{Terms}
+
+-- a source: its connection, the rate at which it shapes, the last sequence number that it used, the first moment at which its next
+-- cell may leave, its last emission since the start, and, while it waits for the answer, its newest request
+pub record SourceView : Type 0 where
+  pub vc : Channel
+  pub rate : ℕ
+  pub last : ℕ
+  pub next : ℕ
+  pub emitted : Option ℕ
+  pub newest : Option Terms
