@@ -28,7 +28,7 @@ begun_more tau old new pairs index pair verdicts verdict next tau_is begun windo
       stands = follows.1;
       goes_on = λ rest are.
           let here : IsVerdict tau begun.taken (record { at = pair.0; spacing = pair.1 }) verdict =
-              subst (λ t. IsVerdict t begun.taken (record { at = pair.0; spacing = pair.1 }) verdict) tau_is follows.0 in
+          subst (λ t. IsVerdict t begun.taken (record { at = pair.0; spacing = pair.1 }) verdict) tau_is follows.0 in
           let both : AreVerdicts tau begun.taken (arrivals_in (pair ∷ drop (index + 1) pairs)) (verdict ∷ rest) = (here, are) in
           let whole = begun.goes_on (verdict ∷ rest) (subst (λ ps. AreVerdicts tau begun.taken (arrivals_in ps) (verdict ∷ rest)) (sym next) both) in
           subst (λ vs. AreVerdicts tau [] (arrivals_in pairs) vs) (sym (append_assoc verdicts (verdict ∷ []) rest)) whole;

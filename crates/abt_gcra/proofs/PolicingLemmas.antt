@@ -26,10 +26,10 @@ LeavesClock p at out = (out.1.tau ≡ p.tau) × (out.1.clock ≡ at)
 pub checked-clock : (old new : Policing) (verdict : Verdict) (at spacing : ℕ) → (verdict, new) ≡ checked old at spacing → (new.tau ≡ old.tau) × (new.clock ≡ at)
 checked-clock old new verdict at spacing is =
     subst (LeavesClock old at) (sym is) (
-      elim (cases_lt (at + old.tau) (due_at old at)) as (λ _. LeavesClock old at (checked old at spacing)) [
-        | inl early ↦ subst (LeavesClock old at) (sym (checked_early old at spacing early)) (refl, refl)
-        | inr due ↦ subst (LeavesClock old at) (sym (checked_due old at spacing due)) (refl, refl)
-      ]
+    elim (cases_lt (at + old.tau) (due_at old at)) as (λ _. LeavesClock old at (checked old at spacing)) [
+      | inl early ↦ subst (LeavesClock old at) (sym (checked_early old at spacing early)) (refl, refl)
+      | inr due ↦ subst (LeavesClock old at) (sym (checked_due old at spacing due)) (refl, refl)
+    ]
     )
 
 -- What a cell's verdict is after the cells that were taken, and that what is kept then stands for them and it.

@@ -70,7 +70,7 @@ pub accepted_next : (pairs : List (ℕ × ℕ)) (index clock : ℕ) → index < 
 accepted_next pairs index clock within clock_is accepted onward in_range =
     let at = moment-at pairs index within in
     accepted_more (moments_in pairs) index accepted (λ back. onward (omega (arith, back))) (
-      λ late. let after = late.0 in let above = late.1 in in_range (omega arith, omega arith)
+    λ late. let after = late.0 in let above = late.1 in in_range (omega arith, omega arith)
     )
 
 pub clock_next : (pairs : List (ℕ × ℕ)) (index clock : ℕ) → index < length pairs → clock ≡ (get_or pairs index (0, 0)).0 → clock ≡ clock_before (moments_in pairs) (index + 1)

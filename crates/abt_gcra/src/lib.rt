@@ -19,3 +19,6 @@ pub use limits::{ARRIVE_MAX, SPACING_MAX, TAU_MAX};
 pub use list::police;
 pub use policer::Policer;
 pub use verdict::Verdict;
+
+#[cfg(test)]
+mod tests;

@@ -10,26 +10,18 @@ use crate::verdict::Verdict;
 use std::alloc::Global;
 
 /// The verdicts on a list of cells, each an arrival and a spacing, by the generic cell rate algorithm.
-pub fn police(
-    alloc: Global,
-    tau: u64,
-    cells: &[(u64, u64)],
-) -> Result<Vec<Verdict>, PoliceFault>
+pub fn police(alloc: Global, tau: u64, cells: &[(u64, u64)]) -> Result<Vec<Verdict>, PoliceFault>
     requires tolerance { tau ≤ TAU_MAX }
     requires spacings { All (λ cell. (1 ≤ cell.1) × (cell.1 ≤ SPACING_MAX)) cells.now }
     ensures ok { IfOk result (λ verdicts. AreVerdicts tau [] (arrivals_in cells.now) verdicts.items) }
 
     // Memory comes before the others.
-    ensures clock_back {
-        result ≢ Err PoliceFault.Memory →
-            (index : ℕ) → IsErrOf result (PoliceFault.ClockBack index) ↔
-                IsFirstRefused (moments_in cells.now) index GcraFault.ClockBack
-    }
-    ensures time_range {
-        result ≢ Err PoliceFault.Memory →
-            (index : ℕ) → IsErrOf result (PoliceFault.TimeRange index) ↔
-                IsFirstRefused (moments_in cells.now) index GcraFault.TimeRange
-    }
+    ensures clock_back { result ≢ Err PoliceFault.Memory →
+        (index : ℕ) → IsErrOf result (PoliceFault.ClockBack index) ↔
+        IsFirstRefused (moments_in cells.now) index GcraFault.ClockBack }
+    ensures time_range { result ≢ Err PoliceFault.Memory →
+        (index : ℕ) → IsErrOf result (PoliceFault.TimeRange index) ↔
+        IsFirstRefused (moments_in cells.now) index GcraFault.TimeRange }
 {
     let Ok(mut verdicts) = Vec::with_capacity(alloc, cells.len()) else {
         return Err(PoliceFault::Memory);

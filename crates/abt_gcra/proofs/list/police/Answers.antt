@@ -28,11 +28,10 @@ first_is_back c =
     first_back c.args.cells.now c.loop-index.index c.loop-index.gcra.clock c.loop-index-test.true c.loop-index.invariant.clock_is c.loop-index.invariant.accepted (c.in-Err-ClockBack.ensures.clock_back.0 (cc))
 
 pub returns-in-Err-ClockBack-clause-clock_back : goal.returns-in-Err-ClockBack-clause-clock_back
-returns-in-Err-ClockBack-clause-clock_back c = λ _ index.
-    (
-      λ is. let same : c.loop-index.index ≡ index = cc in subst (λ k. IsFirstRefused (moments_in c.args.cells.now) k ClockBack) same (first_is_back c),
-      λ other. let same = one_index _ _ _ _ _ (first_is_back c) other in cc,
-    )
+returns-in-Err-ClockBack-clause-clock_back c = λ _ index. (
+  λ is. let same : c.loop-index.index ≡ index = cc in subst (λ k. IsFirstRefused (moments_in c.args.cells.now) k ClockBack) same (first_is_back c),
+  λ other. let same = one_index _ _ _ _ _ (first_is_back c) other in cc,
+)
 
 pub returns-in-Err-ClockBack-clause-time_range : goal.returns-in-Err-ClockBack-clause-time_range
 returns-in-Err-ClockBack-clause-time_range c = λ _ index.
@@ -49,11 +48,10 @@ returns-in-Err-TimeRange-clause-clock_back c = λ _ index.
     (λ is. absurd (cc), λ other. absurd (one_fault _ _ _ other (first_is_late c)))
 
 pub returns-in-Err-TimeRange-clause-time_range : goal.returns-in-Err-TimeRange-clause-time_range
-returns-in-Err-TimeRange-clause-time_range c = λ _ index.
-    (
-      λ is. let same : c.loop-index.index ≡ index = cc in subst (λ k. IsFirstRefused (moments_in c.args.cells.now) k TimeRange) same (first_is_late c),
-      λ other. let same = one_index _ _ _ _ _ (first_is_late c) other in cc,
-    )
+returns-in-Err-TimeRange-clause-time_range c = λ _ index. (
+  λ is. let same : c.loop-index.index ≡ index = cc in subst (λ k. IsFirstRefused (moments_in c.args.cells.now) k TimeRange) same (first_is_late c),
+  λ other. let same = one_index _ _ _ _ _ (first_is_late c) other in cc,
+)
 
 pub loop-index-preserved : goal.loop-index-preserved
 loop-index-preserved c =
@@ -70,7 +68,7 @@ loop-index-preserved c =
       begun =
           let items : c.push.new.self.items ≡ c.loop-index.verdicts.items ++ c.in-Ok-check.verdict ∷ [] = grind (arith, common_steps) in
           let next : drop c.loop-index.index c.args.cells.now ≡ get_or c.args.cells.now c.loop-index.index (0, 0) ∷ drop (c.loop-index.index + 1) c.args.cells.now =
-              rw add-one (drop-cons c.args.cells.now c.loop-index.index (0, 0) c.loop-index-test.true) in
+          rw add-one (drop-cons c.args.cells.now c.loop-index.index (0, 0) c.loop-index-test.true) in
           rw items (begun_more _ _ _ _ _ _ _ _ next c.loop-index.invariant.tau_stays c.loop-index.invariant.begun c.in-Ok-check.ensures.windows);
     }
 
