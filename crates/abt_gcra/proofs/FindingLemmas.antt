@@ -43,12 +43,12 @@ keeps_found limit owed (cell ∷ cells) holds =
     let first = holds [] cells cell refl in
     let le : cell.at + (cell.spacing + owed) ≤ limit = omega arith in
     and_from _ _ (le-leb _ _ le) (
-      keeps_found limit (cell.spacing + owed) cells (
-        λ between older earlier is.
-            let kept = holds (cell ∷ between) older earlier (ap (λ rest. cell ∷ rest) is) in
-            let more = spacings-cons cell between in
-            omega (arith, kept)
-      )
+    keeps_found limit (cell.spacing + owed) cells (
+    λ between older earlier is.
+    let kept = holds (cell ∷ between) older earlier (ap (λ rest. cell ∷ rest) is) in
+    let more = spacings-cons cell between in
+    omega (arith, kept)
+    )
     )
 
 owed_windows : (limit : ℕ) (cells : List Arrival) → KeepsOwed limit 0 cells → KeepsWindows limit cells
@@ -86,7 +86,7 @@ verdict-is tau taken cell =
           subst (IsVerdict tau taken cell) (sym (verdict_conforming tau taken cell conform)) conform
       | inr early ↦
           subst (IsVerdict tau taken cell) (sym (verdict_early tau taken cell early)) (
-            λ conform. let test = conforms_found tau (cell ∷ taken) conform in absurd (cc)
+          λ conform. let test = conforms_found tau (cell ∷ taken) conform in absurd (cc)
           )
     ]
 

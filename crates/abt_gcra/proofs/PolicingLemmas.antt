@@ -19,6 +19,19 @@ pub checked_due : (p : Policing) (at spacing : ℕ) → due_at p at ≤ at + p.t
 unfolding checked
 checked_due p at spacing due = grind (arith, nat_tests)
 
+-- what a check leaves of the tolerance and the clock
+abbrev LeavesClock : Policing → ℕ → (Verdict × Policing) → Type 0
+LeavesClock p at out = (out.1.tau ≡ p.tau) × (out.1.clock ≡ at)
+
+pub checked-clock : (old new : Policing) (verdict : Verdict) (at spacing : ℕ) → (verdict, new) ≡ checked old at spacing → (new.tau ≡ old.tau) × (new.clock ≡ at)
+checked-clock old new verdict at spacing is =
+    subst (LeavesClock old at) (sym is) (
+    elim (cases_lt (at + old.tau) (due_at old at)) as (λ _. LeavesClock old at (checked old at spacing)) [
+      | inl early ↦ subst (LeavesClock old at) (sym (checked_early old at spacing early)) (refl, refl)
+      | inr due ↦ subst (LeavesClock old at) (sym (checked_due old at spacing due)) (refl, refl)
+    ]
+    )
+
 -- What a cell's verdict is after the cells that were taken, and that what is kept then stands for them and it.
 abbrev Follows : Policing → List Arrival → Arrival → (Verdict × Policing) → Type 0
 Follows p taken cell out = IsVerdict p.tau taken cell out.0 × StandsFor out.1 (taken_after taken cell out.0)
