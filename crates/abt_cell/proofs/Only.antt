@@ -6,7 +6,6 @@ use Rattle.std.specs.Int.{bit_at, w16, w32, to_be_bytes}
 use Rattle.std.specs.Prelude.{◌==◌}
 use Rattle.std.proofs.lemmas.Bool.{cases_eq, eqb-false}
 use Rattle.abt_rate.specs.Code.{code_of}
-use Rattle.abt_rate.specs.Rate.{units_of, IsCanonical}
 use Rattle.abt_cell.specs.Message.{Terms}
 use Rattle.abt_cell.specs.Polynomial.{polynomial_of, IsMultiple, IsRemainder}
 use Rattle.abt_cell.specs.Codec.{octets_with, header_for, draft_of, request_of, flags_of, IsSayable}

@@ -1,5 +1,5 @@
 -- The cell that is written for a request or an answer.
-use Rattle.std.proofs.Common.{◌≡◌, ℕ, ◌+◌, ◌*◌, ◌/◌, ◌%◌, ◌^◌, ◌<◌, ◌≤◌, Bool, true, false, cond, arith, ap, sym, subst, refl, ◌∙◌, bit_xor}
+use Rattle.std.proofs.Common.{◌≡◌, ℕ, ◌+◌, ◌*◌, ◌/◌, ◌%◌, ◌^◌, ◌<◌, Bool, true, false, cond, arith, ap, sym, subst, refl, ◌∙◌, bit_xor}
 use Rattle.std.specs.Int.Bits.{xor_shifted}
 use Rattle.std.specs.Int.{bit_at}
 use Rattle.std.specs.Prelude.{if◌then◌else◌, ◌==◌}

@@ -1,4 +1,4 @@
-use Rattle.std.proofs.Common.{◌≡◌, ◌∙◌, sym, subst, take, drop}
+use Rattle.std.proofs.Common.{◌∙◌, sym, subst, take, drop}
 use Rattle.abt_cell.specs.Codec.{draft_of}
 use Rattle.abt_cell.specs.Layout.{payload_of}
 use Rattle.abt_cell.specs.Polynomial.{polynomial_of, IsRemainder}
