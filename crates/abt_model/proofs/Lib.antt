@@ -1,0 +1,4 @@
+pub mod Lawful
+pub mod Cases
+pub mod Chain
+pub mod Backed
