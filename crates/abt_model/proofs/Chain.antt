@@ -9,6 +9,7 @@ use Rattle.abt_facts.specs.Requests.{was_asked, floor_of, ask_of}
 use Rattle.abt_facts.specs.Source.{stored_of, last_of, yes_was_heard}
 use Rattle.abt_facts.specs.Sent.{was_passed, was_shut, was_turned, was_back}
 use Rattle.abt_facts.specs.Hop.{newest_of}
+use Rattle.abt_model.specs.Answers.{number_max}
 use Rattle.abt_model.proofs.Lawful.{Route, IsAtHop, IsYesAtHop, MayFollow, IsLawful}
 use Rattle.abt_model.proofs.Cases.{passed_cases, shut_cases, back_cases, turned_cases, yes_heard_cases, passed_more, shut_more, back_more, turned_more, asked_more, passed_newest, shut_newest, newest_kept}
 
@@ -234,3 +235,11 @@ newest_asked k fs lawful j = elim (newest_kept fs j) [
     | inr (inl p) ↦ inr (passed_asked k fs lawful (newest_of fs j) j p)
     | inr (inr h) ↦ inr (at_asked k fs lawful (newest_of fs j) j (shut_at k fs lawful (newest_of fs j) j h).0)
     ]
+
+-- no number above the last of all is in the store
+pub stored_within : (k : Route) (fs : List Fact) → IsLawful k fs → stored_of fs ≤ number_max
+stored_within k [] lawful = omega arith
+stored_within k (Stored n ∷ fs) lawful =
+    let old = stored_within k fs lawful.1 in
+    omega (arith, lawful.0.1)
+stored_within k (f ∷ fs) lawful = stored_within k fs lawful.1

@@ -2,3 +2,5 @@ pub mod Lawful
 pub mod Cases
 pub mod Chain
 pub mod Backed
+pub mod Decisions
+pub mod Steps
