@@ -4,3 +4,8 @@ pub mod Chain
 pub mod Backed
 pub mod Decisions
 pub mod Steps
+pub mod Spacings
+pub mod Marks
+pub mod Emissions
+pub mod CellRates
+pub mod Arrivals
