@@ -9,3 +9,7 @@ pub mod Marks
 pub mod Emissions
 pub mod CellRates
 pub mod Arrivals
+pub mod Holds
+pub mod Within
+pub mod Worlds
+pub mod Sums
