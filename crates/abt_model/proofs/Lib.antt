@@ -1,0 +1,15 @@
+pub mod Lawful
+pub mod Cases
+pub mod Chain
+pub mod Backed
+pub mod Decisions
+pub mod Steps
+pub mod Spacings
+pub mod Marks
+pub mod Emissions
+pub mod CellRates
+pub mod Arrivals
+pub mod Holds
+pub mod Within
+pub mod Worlds
+pub mod Sums

@@ -1,3 +1,4 @@
+pub mod Events
 pub mod Past
 pub mod Reserved
 pub mod Decision
