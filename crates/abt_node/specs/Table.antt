@@ -1,6 +1,6 @@
 -- What contracts see of a port: a table of its connections (docs/RULES.md, "Node"), what a request, an answer and a
 -- cell are answered by it, and the table after each.
-use Rattle.std.specs.Prelude.{ℕ, ◌-◌, Option, None, Some, Result, Ok, Err, nat_lt, if◌then◌else◌, refl, sum_by}
+use Rattle.std.specs.Prelude.{ℕ, ◌-◌, Option, None, Some, Result, Ok, Err, nat_lt, if◌then◌else◌, refl, sum_by, option_and_then}
 use Rattle.std.specs.Option.{option_map}
 use Rattle.std.specs.Coded.{Coded, code_by, coded×, coded_ℕ, coded_option}
 use Rattle.std.specs.FinMap as map
@@ -111,6 +111,10 @@ abbrev pub table_after_answer : Table → Reply → Table
 table_after_answer t a = table_by_answer t a (connection_at t a.terms.vc)
 
 -- A cell, judged by the rate that its connection holds when it arrives
+
+-- the policer of a connection, if it was added and the port is its ingress
+abbrev pub policing_at : Table → Channel → Option Policing
+policing_at t vc = option_and_then (λ c. c.policing) (connection_at t vc)
 
 abbrev pub arrival_by : (at held : ℕ) → Option Policing → Result Verdict ArriveFault
 arrival_by at held None = Err fault.NotIngress

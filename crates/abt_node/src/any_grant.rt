@@ -123,7 +123,9 @@ impl AnyGrant {
         if answer.seq() < newest {
             return Back::Drop(DropCause::Stale);
         }
-        let is_of = answer.seq() == newest && answer.floor() == self.floor() && answer.ask() == self.ask();
+        let is_of = answer.seq() == newest
+            && answer.floor() == self.floor()
+            && answer.ask() == self.ask();
         if !is_of || (answer.granted() && !self.is_open()) {
             return Back::Drop(DropCause::Conflict);
         }

@@ -45,16 +45,15 @@ impl State for Shut {
 /// (docs/RULES.md, "Node"). It can't be dropped: its hold goes back to its ledger.
 ///
 /// ```text
-///                      decide: it fits
-///             +------------------------------+
-///             |                              v
-///  first -> Shut: holds the floor     Open: holds the ask --+
-///           ^ |                         |   |     ^         | decide: it fits
-///           | +-- decide: doesn't fit   |   |     +---------+
-///           | |                         |   |
-///           | +-------------------------+   |
-///           +-----------------------<-------+
-///                shut, or decide: it doesn't fit
+///               decide, and it fits
+///          +-------------------------------+
+///          |                               v
+///  first -> Shut (holds the floor)      Open (holds the asked rate)
+///          ^                               |
+///          +-------------------------------+
+///           shut, or decide and it does not fit
+///
+///  A decide that comes to the same state leaves it with the newer request.
 /// ```
 #[must_use]
 #[derive(Debug)]
@@ -152,8 +151,8 @@ impl<S: State> Grant<S> {
         }
     }
 
-    /// Gives the hold back to its ledger.
-    pub(crate) fn close(self, ledger: &mut Ledger)
+    /// Ends the grant: the hold goes back to its ledger.
+    pub fn close(self, ledger: &mut Ledger)
         requires { S.held self ≤ ledger.old.total }
         ensures total { ledger.new.total ≡ ledger.old.total - S.held self }
         ensures capacity { ledger.new.capacity ≡ ledger.old.capacity }

@@ -12,3 +12,6 @@ pub use fault::{AddFault, ArriveFault};
 pub use grant::{Decided, Grant, Open, Shut, State};
 pub use port::{CAPACITY_MAX, CONNECTIONS_MAX, Port};
 pub use reply::{Back, DropCause, Onward};
+
+#[cfg(test)]
+mod tests;

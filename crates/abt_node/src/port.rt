@@ -1,17 +1,17 @@
 //! A port: the ledger of its link, and a row for each connection.
-ghost use Rattle.std.specs.Prelude.{◌≡◌, ◌+◌, ◌<◌, ◌≤◌, ◌↔◌, None, IsSome, IfOk, OnOk, OnErr, IsErrOf};
+ghost use Rattle.std.specs.Prelude.{◌≡◌, ◌<◌, ◌≤◌, ◌↔◌, IsSome, IsNone, IsSomeAnd, IfOk, OnOk, OnErr, IsErrOf};
 ghost use Rattle.std.specs.Option.{option_map, ForSome};
 ghost use Rattle.std.specs.FinMap as map;
 ghost use Rattle.abt_node.specs.Table.{new_table, opening, connection_at, with_connection, held_at, sum_of};
 ghost use Rattle.abt_node.specs.Table.{reply_to, table_after, answer_to, table_after_answer};
-ghost use Rattle.abt_node.specs.Table.{arrival_at, table_after_arrival};
+ghost use Rattle.abt_node.specs.Table.{arrival_at, table_after_arrival, policing_at};
 ghost use Rattle.abt_node.specs.Rows.{IsPlaceOf, connection_of};
 
 use crate::fault::{AddFault, ArriveFault};
 use crate::reply::{Back, DropCause, Onward};
-use crate::row::{Row, apply_arrival};
+use crate::row::Row;
 use abt_cell::{Answer, Request, Vc};
-use abt_gcra::{TAU_MAX, Verdict};
+use abt_gcra::{ARRIVE_MAX, TAU_MAX, Verdict};
 use abt_ledger::Ledger;
 use abt_rate::Rate;
 use std::alloc::{AllocError, Global};
@@ -131,7 +131,8 @@ impl Port {
         ensures { result
             ≡ option_map (λ c. option_map (λ p. p.tau) c.policing) (connection_at self.now vc) }
     {
-        self.row_of(vc).map(|row| row.policer.map(|policer| policer.tau()))
+        self.row_of(vc)
+            .map(|row| row.policer.map(|policer| policer.tau()))
     }
 
     /// Adds a connection that asked for nothing yet. With a tau the port is its ingress.
@@ -139,7 +140,7 @@ impl Port {
         requires { ForSome tau (λ t. t ≤ TAU_MAX) }
         ensures known { IsErrOf result AddFault.Known ↔ IsSome (connection_at self.old vc) }
         ensures full { IsErrOf result AddFault.Full
-            ↔ ((connection_at self.old vc ≡ None) × (CONNECTIONS_MAX ≤ map.len self.old.connections)) }
+            ↔ (IsNone (connection_at self.old vc) × (CONNECTIONS_MAX ≤ map.len self.old.connections)) }
         ensures ok { OnOk result (self.new ≡ with_connection self.old vc (opening tau)) }
         ensures same { OnErr result (self.new ≡ self.old) }
     {
@@ -165,7 +166,9 @@ impl Port {
         let Some(place) = place_of(&self.rows, request.vc()) else {
             return Onward::Drop(DropCause::UnknownVc);
         };
-        self.rows[place].grant.apply_request(&mut self.ledger, request)
+        self.rows[place]
+            .grant
+            .apply_request(&mut self.ledger, request)
     }
 
     /// Takes an answer.
@@ -176,19 +179,27 @@ impl Port {
         let Some(place) = place_of(&self.rows, answer.vc()) else {
             return Back::Drop(DropCause::UnknownVc);
         };
-        self.rows[place].grant.apply_answer(&mut self.ledger, answer)
+        self.rows[place]
+            .grant
+            .apply_answer(&mut self.ledger, answer)
     }
 
     /// Judges a cell of a connection that arrives at a moment, by the rate that is held then.
     pub fn arrive(&mut self, vc: Vc, at: u64) -> Result<Verdict, ArriveFault>
         ensures value { result ≡ arrival_at self.old vc at }
         ensures table { self.new ≡ table_after_arrival self.old vc at }
+        ensures unknown_vc { IsErrOf result ArriveFault.UnknownVc ↔ IsNone (connection_at self.old vc) }
+        ensures not_ingress { IsErrOf result ArriveFault.NotIngress
+            ↔ (IsSome (connection_at self.old vc) × IsNone (policing_at self.old vc)) }
+        ensures clock_back { IsErrOf result ArriveFault.ClockBack
+            ↔ IsSomeAnd (policing_at self.old vc) (λ p. at < p.clock) }
+        ensures time_range { IsErrOf result ArriveFault.TimeRange
+            ↔ IsSomeAnd (policing_at self.old vc) (λ p. (p.clock ≤ at) × (ARRIVE_MAX < at)) }
     {
         let Some(place) = place_of(&self.rows, vc) else {
             return Err(ArriveFault::UnknownVc);
         };
-        let held = self.rows[place].grant.held();
-        apply_arrival(&mut self.rows[place].policer, at, held)
+        self.rows[place].apply_arrival(at)
     }
 
     fn row_of(&self, vc: Vc) -> Option<&Row>

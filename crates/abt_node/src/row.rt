@@ -1,14 +1,11 @@
 //! What a port keeps of one connection.
-ghost use Rattle.std.specs.Prelude.{◌≡◌, ◌≤◌};
-ghost use Rattle.std.specs.Option.{option_map};
-ghost use Rattle.abt_node.specs.Table.{arrival_by, policing_after};
+ghost use Rattle.std.specs.Prelude.{◌≡◌, ◌≢◌, ◌<◌, ◌≤◌, ◌↔◌, IsNone, IsSomeAnd, IsErrOf};
 
 use crate::any_grant::AnyGrant;
 use crate::fault::ArriveFault;
 use abt_cell::Vc;
-use abt_gcra::{Policer, TAU_MAX, Verdict};
+use abt_gcra::{ARRIVE_MAX, Policer, TAU_MAX, Verdict};
 use abt_ledger::Ledger;
-use abt_rate::Rate;
 
 /// What a port keeps of one connection: its grant and, where the port is its ingress, its policer.
 #[must_use]
@@ -20,9 +17,9 @@ pub struct Row {
 }
 
 impl Row {
-    ghost use Rattle.std.specs.Option.{ForSome};
-    ghost use Rattle.abt_node.specs.Table.{opening};
-    ghost use Rattle.abt_node.specs.Rows.{connection_of};
+    ghost use Rattle.std.specs.Option.{ForSome, option_map};
+    ghost use Rattle.abt_node.specs.Table.{opening, arrival_by, policing_after};
+    ghost use Rattle.abt_node.specs.Rows.{connection_of, row_held};
 
     /// The row of a connection that asked for nothing yet. With a tau the port is its ingress.
     pub fn opening(ledger: &mut Ledger, vc: Vc, tau: Option<u64>) -> Row
@@ -37,15 +34,23 @@ impl Row {
             policer: tau.map(|tau| Policer::new(tau)),
         }
     }
-}
 
-/// Judges a cell by the rate that is held.
-pub fn apply_arrival(policer: &mut Option<Policer>, at: u64, held: Rate) -> Result<Verdict, ArriveFault>
-    ensures value { result ≡ arrival_by at held policer.old }
-    ensures policing { policer.new ≡ option_map (policing_after at held) policer.old }
-{
-    let Some(policer) = policer else {
-        return Err(ArriveFault::NotIngress);
-    };
-    Ok(policer.arrive(at, held)?)
+    /// Judges a cell by the rate that is held.
+    pub fn apply_arrival(&mut self, at: u64) -> Result<Verdict, ArriveFault>
+        ensures value { result ≡ arrival_by at (row_held self.old) self.old.policer }
+        ensures row { self.new ≡ record self.old
+            { policer = option_map (policing_after at (row_held self.old)) self.old.policer } }
+        ensures known { result ≢ Err ArriveFault.UnknownVc }
+        ensures not_ingress { IsErrOf result ArriveFault.NotIngress ↔ IsNone self.old.policer }
+        ensures clock_back { IsErrOf result ArriveFault.ClockBack
+            ↔ IsSomeAnd self.old.policer (λ p. at < p.clock) }
+        ensures time_range { IsErrOf result ArriveFault.TimeRange
+            ↔ IsSomeAnd self.old.policer (λ p. (p.clock ≤ at) × (ARRIVE_MAX < at)) }
+    {
+        let held = self.grant.held();
+        let Some(policer) = &mut self.policer else {
+            return Err(ArriveFault::NotIngress);
+        };
+        Ok(policer.arrive(at, held)?)
+    }
 }

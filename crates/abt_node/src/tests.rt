@@ -1,0 +1,244 @@
+ghost use Rattle.std.specs.Prelude.{◌≡◌, ◌<◌, IfOk};
+
+use super::*;
+use abt_cell::{Answer, Request, Vc};
+use abt_gcra::Verdict;
+use abt_ledger::Ledger;
+use abt_rate::Rate;
+use std::test::Fail;
+
+/// The capacity of a link of 1,000 cells per second, in units.
+const CAPACITY: u64 = 512000;
+
+/// The tolerance of an ingress, in picoseconds.
+const TAU: u64 = 200;
+
+// By docs/RULES.md, "Rates": codes 5120, 5258 and 53e8 are 400, 600 and 1,000 cells per second.
+fn rates() -> (Rate, Rate, Rate) {
+    (
+        Rate::from_code(0x5120),
+        Rate::from_code(0x5258),
+        Rate::from_code(0x53e8),
+    )
+}
+
+fn channel(vci: u16) -> Result<Vc, Fail> {
+    Ok(Vc::new(1, vci).ok_or("the VPI is too great")?)
+}
+
+fn request(vc: Vc, seq: u32, floor: Rate, ask: Rate) -> Result<Request, Fail>
+    ensures { IfOk result (λ q. (0 < q.seq) × (q.floor ≡ floor)) }
+{
+    Ok(Request::new(vc, seq, floor, ask).ok_or("no such request")?)
+}
+
+#[test]
+fn an_ingress_answers_by_the_first_cause(rt: HostRuntime) -> Result<(), Fail> {
+    let (rest, most, all) = rates();
+    let (ingress, transit, stranger) = (channel(100)?, channel(101)?, channel(102)?);
+    let mut port = Port::new(rt.alloc(), 7, CAPACITY)?;
+    assert_eq!(rt; port.add(ingress, Some(TAU)), Ok(()));
+    assert_eq!(rt; port.add(transit, None), Ok(()));
+    assert_eq!(rt; port.add(ingress, Some(TAU)), Err(AddFault::Known));
+    assert_eq!(rt; port.add(ingress, None), Err(AddFault::Known));
+
+    let first = request(ingress, 1, Rate::ZERO, most)?;
+    assert_eq!(rt; port.request(&first), Onward::Pass);
+    let other_ask = request(ingress, 1, Rate::ZERO, rest)?;
+    assert_eq!(rt; port.request(&other_ask), Onward::Drop(DropCause::Conflict));
+    let other_floor = request(ingress, 1, rest, most)?;
+    assert_eq!(rt;
+        port.request(&other_floor),
+        Onward::Drop(DropCause::Conflict)
+    );
+    let above = request(ingress, 2, all, all)?;
+    assert_eq!(rt; port.request(&above), Onward::Drop(DropCause::FloorAbove));
+    assert_eq!(rt; port.newest(ingress), Some(1));
+    let nothing = request(ingress, 2, Rate::ZERO, Rate::ZERO)?;
+    assert_eq!(rt; port.request(&nothing), Onward::Pass);
+    assert_eq!(rt; port.request(&first), Onward::Drop(DropCause::Stale));
+
+    assert_eq!(rt;
+        port.answer(&Answer::of(&first, false)),
+        Back::Drop(DropCause::Stale)
+    );
+    let third = request(ingress, 3, Rate::ZERO, rest)?;
+    assert_eq!(rt;
+        port.answer(&Answer::of(&third, true)),
+        Back::Drop(DropCause::Conflict)
+    );
+
+    assert_eq!(rt; port.arrive(ingress, 5), Ok(Verdict::NoRate));
+    assert_eq!(rt; port.arrive(ingress, 4), Err(ArriveFault::ClockBack));
+    // The greatest moment of an arrival is 2^62 (docs/RULES.md, "Limits").
+    assert_eq!(rt;
+        port.arrive(ingress, 4611686018427387905),
+        Err(ArriveFault::TimeRange)
+    );
+    assert_eq!(rt;
+        port.arrive(ingress, 4611686018427387904),
+        Ok(Verdict::NoRate)
+    );
+    assert_eq!(rt; port.arrive(transit, 5), Err(ArriveFault::NotIngress));
+
+    let unknown = request(stranger, 1, Rate::ZERO, rest)?;
+    assert_eq!(rt; port.request(&unknown), Onward::Drop(DropCause::UnknownVc));
+    assert_eq!(rt;
+        port.answer(&Answer::of(&unknown, true)),
+        Back::Drop(DropCause::UnknownVc)
+    );
+    assert_eq!(rt; port.arrive(stranger, 5), Err(ArriveFault::UnknownVc));
+    Ok(())
+}
+
+#[test]
+fn a_no_gives_back_what_is_held_above_the_floor(rt: HostRuntime) -> Result<(), Fail> {
+    let (rest, most, all) = rates();
+    let (raised, waiting) = (channel(100)?, channel(101)?);
+    let mut port = Port::new(rt.alloc(), 7, CAPACITY)?;
+    assert_eq!(rt; port.add(raised, Some(TAU)), Ok(()));
+    assert_eq!(rt; port.add(waiting, None), Ok(()));
+    assert_eq!(rt;
+        port.request(&request(raised, 1, Rate::ZERO, rest)?),
+        Onward::Pass
+    );
+    let rise = request(raised, 2, rest, all)?;
+    assert_eq!(rt; port.request(&rise), Onward::Pass);
+    assert_eq!(rt; port.total(), 512000);
+    let asks = request(waiting, 1, Rate::ZERO, most)?;
+    assert_eq!(rt;
+        port.request(&asks),
+        Onward::Refuse(Answer::of(&asks, false))
+    );
+    assert_eq!(rt; port.is_open(waiting), Some(false));
+    assert_eq!(rt; port.held(waiting), Some(Rate::ZERO));
+
+    assert_eq!(rt; port.answer(&Answer::of(&rise, false)), Back::Pass);
+    assert_eq!(rt; port.held(raised), Some(rest));
+    assert_eq!(rt; port.total(), 204800);
+    assert_eq!(rt; port.answer(&Answer::of(&rise, false)), Back::Pass);
+    assert_eq!(rt;
+        port.answer(&Answer::of(&rise, true)),
+        Back::Drop(DropCause::Conflict)
+    );
+    assert_eq!(rt;
+        port.request(&rise),
+        Onward::Refuse(Answer::of(&rise, false))
+    );
+    assert_eq!(rt;
+        port.request(&asks),
+        Onward::Refuse(Answer::of(&asks, false))
+    );
+
+    // Shut, it is policed by its floor: 400 cells per second are 2.5 ms apart.
+    assert_eq!(rt; port.arrive(raised, 0), Ok(Verdict::Conforming));
+    assert_eq!(rt; port.arrive(raised, 2499999799), Ok(Verdict::TooEarly));
+    assert_eq!(rt; port.arrive(raised, 2499999800), Ok(Verdict::Conforming));
+    Ok(())
+}
+
+#[test]
+fn a_yes_leaves_the_port_as_it_is(rt: HostRuntime) -> Result<(), Fail> {
+    let (rest, most, _) = rates();
+    let raised = channel(100)?;
+    let mut port = Port::new(rt.alloc(), 7, CAPACITY)?;
+    assert_eq!(rt; port.add(raised, None), Ok(()));
+    let asks = request(raised, 1, Rate::ZERO, most)?;
+    assert_eq!(rt; port.request(&asks), Onward::Pass);
+    assert_eq!(rt; port.answer(&Answer::of(&asks, true)), Back::Pass);
+    let other = request(raised, 1, Rate::ZERO, rest)?;
+    assert_eq!(rt;
+        port.answer(&Answer::of(&other, false)),
+        Back::Drop(DropCause::Conflict)
+    );
+    assert_eq!(rt; port.id(), 7);
+    assert_eq!(rt; port.capacity(), 512000);
+    assert_eq!(rt; port.count(), 1);
+    assert_eq!(rt; port.total(), 307200);
+    assert_eq!(rt; port.newest(raised), Some(1));
+    assert_eq!(rt; port.is_open(raised), Some(true));
+    assert_eq!(rt; port.tau(raised), Some(None));
+    assert_eq!(rt; port.held(channel(101)?), None);
+    assert_eq!(rt; port.tau(channel(101)?), None);
+    Ok(())
+}
+
+#[test]
+fn a_full_port_serves_those_it_knows(rt: HostRuntime) -> Result<(), Fail> {
+    let (rest, ..) = rates();
+    let mut port = Port::new(rt.alloc(), 7, CAPACITY)?;
+    for vci in 0..1024u16 {
+        assert_eq!(rt; port.add(channel(vci)?, Some(TAU)), Ok(()), "at {vci}");
+    }
+    assert_eq!(rt; port.add(channel(1024)?, None), Err(AddFault::Full));
+    assert_eq!(rt; port.add(channel(1023)?, None), Err(AddFault::Known));
+    assert_eq!(rt; port.count(), 1024);
+    assert_eq!(rt; port.tau(channel(1023)?), Some(Some(200)));
+    assert_eq!(rt;
+        port.request(&request(channel(1023)?, 1, Rate::ZERO, rest)?),
+        Onward::Pass
+    );
+    assert_eq!(rt; port.held(channel(1023)?), Some(rest));
+    Ok(())
+}
+
+#[test]
+fn a_refused_growth_changes_nothing(rt: HostRuntime) -> Result<(), Fail> {
+    let (rest, ..) = rates();
+    let mut port = match Port::new(rt.alloc(), 7, CAPACITY) {
+        Ok(port) => port,
+        Err(_) => Port::new(rt.alloc(), 7, CAPACITY)?,
+    };
+    for vci in 0..20u16 {
+        let vc = channel(vci)?;
+        if port.add(vc, Some(TAU)) == Err(AddFault::Memory) {
+            assert_eq!(rt; port.count(), vci as usize);
+            assert_eq!(rt; port.held(vc), None);
+            assert_eq!(rt; port.add(vc, Some(TAU)), Ok(()), "at {vci}");
+        }
+        assert_eq!(rt; port.tau(vc), Some(Some(200)));
+    }
+    assert_eq!(rt;
+        port.request(&request(channel(0)?, 1, Rate::ZERO, rest)?),
+        Onward::Pass
+    );
+    assert_eq!(rt; port.total(), 204800);
+    Ok(())
+}
+
+#[test]
+fn a_grant_opens_and_shuts(rt: HostRuntime) -> Result<(), Fail> {
+    let (_, most, all) = rates();
+    let fits = request(channel(100)?, 1, Rate::ZERO, most)?;
+    let is_too_much = request(channel(101)?, 1, Rate::ZERO, all)?;
+    let mut ledger = Ledger::new(CAPACITY);
+    let first = Grant::first(ledger.open());
+    assert_eq!(rt; (first.seq(), first.held()), (0, Rate::ZERO));
+    let open = match first.decide(&mut ledger, &fits) {
+        Decided::Opened(open) => open,
+        Decided::Refused(shut) => {
+            shut.close(&mut ledger);
+            panic!(rt; "600 of 1,000 cells per second don't fit")
+        }
+    };
+    assert_eq!(rt; (open.seq(), open.held()), (1, most));
+    match Grant::first(ledger.open()).decide(&mut ledger, &is_too_much) {
+        Decided::Refused(shut) => {
+            assert_eq!(rt; (shut.ask(), shut.held()), (all, Rate::ZERO));
+            shut.close(&mut ledger);
+        }
+        Decided::Opened(other) => {
+            other.close(&mut ledger);
+            open.close(&mut ledger);
+            panic!(rt; "1,600 of 1,000 cells per second fit")
+        }
+    }
+    let shut = open.shut(&mut ledger);
+    assert_eq!(rt;
+        (shut.floor(), shut.ask(), shut.held()),
+        (Rate::ZERO, most, Rate::ZERO)
+    );
+    shut.close(&mut ledger);
+    assert_eq!(rt; ledger.total(), 0);
+    Ok(())
+}
