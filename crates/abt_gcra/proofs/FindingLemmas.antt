@@ -1,14 +1,13 @@
 -- The verdict that is found is the one of the windows.
-use Rattle.std.proofs.Common.{◌≡◌, ◌≢◌, ℕ, ◌+◌, ◌<◌, ◌≤◌, ◌⊎◌, List, [], ◌∷◌, ◌++◌, Bool, true, false, inl, inr, arith, ap, sym, subst, refl}
+use Rattle.std.proofs.Common.{◌≡◌, ◌≢◌, ℕ, ◌+◌, ◌≤◌, List, [], ◌∷◌, ◌++◌, true, false, inl, inr, arith, ap, sym, subst, refl}
 use Rattle.std.specs.Prelude.{nat_le}
 use Rattle.std.proofs.lemmas.Bool.{and_parts, and_from, leb-true, le-leb, cases_Bool, cases_eq, ne_eqb}
-use Rattle.std.proofs.lemmas.Bool.Decides.{nat_tests}
 use Rattle.abt_rate.specs.Rate.{spacing_of}
 use Rattle.abt_gcra.specs.declared.verdict.Verdict.{Verdict}
 use Rattle.abt_gcra.specs.declared.verdict.Verdict.TheVariants.{Conforming, TooEarly, NoRate}
 use Rattle.abt_gcra.specs.Windows.{Arrival, Conforms, spacings, IsVerdict, IsVerdictAt}
 use Rattle.abt_gcra.specs.Finding.{keeps, conforms, verdict_of, verdict_at}
-use Rattle.abt_gcra.proofs.WindowsLemmas.{KeepsWindows, keeps_none, conforms_none, conforms_more, conforms_older, conforms_keeps, spacings-cons}
+use Rattle.abt_gcra.proofs.WindowsLemmas.{KeepsWindows, conforms_none, conforms_more, conforms_older, conforms_keeps, spacings-cons}
 
 -- the windows that end by a limit, with the spacings that are owed after the newest of the cells
 abbrev KeepsOwed : (limit owed : ℕ) → List Arrival → Type 0

@@ -4,3 +4,4 @@ pub mod PassageLemmas
 pub mod FindingLemmas
 pub mod RefusalLemmas
 pub mod PoliceLemmas
+pub mod TakenLemmas

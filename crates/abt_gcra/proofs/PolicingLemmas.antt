@@ -1,5 +1,5 @@
 -- What a policer keeps stands for the cells that it took, and its verdicts are those of the windows.
-use Rattle.std.proofs.Common.{◌≡◌, ◌≢◌, ℕ, ◌+◌, ◌<◌, ◌≤◌, List, ◌∷◌, ◌==◌, true, false, Some, inl, inr, arith, sym, subst, refl, max, unwrap_or, nat_lt}
+use Rattle.std.proofs.Common.{◌≡◌, ◌≢◌, ℕ, ◌+◌, ◌<◌, ◌≤◌, List, ◌∷◌, Some, inl, inr, arith, sym, subst, refl, max}
 use Rattle.std.proofs.lemmas.Bool.{cases_lt, cases_eq}
 use Rattle.std.proofs.lemmas.Bool.Decides.{nat_tests}
 use Rattle.abt_rate.specs.Rate.{spacing_of}
@@ -7,7 +7,7 @@ use Rattle.abt_gcra.specs.declared.verdict.Verdict.{Verdict}
 use Rattle.abt_gcra.specs.declared.verdict.Verdict.TheVariants.{Conforming, TooEarly, NoRate}
 use Rattle.abt_gcra.specs.Windows.{Arrival, Conforms, IsVerdict, IsVerdictAt, taken_after}
 use Rattle.abt_gcra.specs.Policing.{Policing, checked, policed, due_at}
-use Rattle.abt_gcra.specs.Standing.{StandsFor, TatStandsFor}
+use Rattle.abt_gcra.specs.Standing.{StandsFor}
 use Rattle.abt_gcra.proofs.WindowsLemmas.{due_conforms, conforms_due, due_stands}
 
 -- the two ways that a check goes
