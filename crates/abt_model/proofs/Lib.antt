@@ -13,3 +13,7 @@ pub mod Holds
 pub mod Within
 pub mod Worlds
 pub mod Sums
+pub mod Drops
+pub mod Answered
+pub mod Served
+pub mod Headline

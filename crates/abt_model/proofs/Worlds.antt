@@ -1,6 +1,6 @@
 -- What the facts of each connection say after every list of events.
-use Rattle.std.proofs.Common.{◌≡◌, ◌≢◌, ℕ, suc, ◌⊎◌, inl, inr, refl, ap, List, [], ◌∷◌, ◌++◌, ◌∙◌, sym, subst, arith}
-use Rattle.std.specs.Prelude.{slice_index, All, Option, None, Some}
+use Rattle.std.proofs.Common.{◌≡◌, ◌≢◌, ℕ, zero, suc, ◌⊎◌, inl, inr, refl, ap, List, [], ◌∷◌, ◌++◌, ◌∙◌, sym, subst, arith}
+use Rattle.std.specs.Prelude.{slice_index, slice_get, All, Option, None, Some}
 use Rattle.std.proofs.lemmas.Bool.{ne_eqb, eq-eqb, cond-false, cond-true, cases_eq}
 use Rattle.abt_facts.specs.declared.fact.Fact.{Fact}
 use Rattle.abt_model.specs.declared.connection_fact.ConnectionFact.{ConnectionFact}
@@ -89,3 +89,9 @@ first_asks e es all = all 0 e (omega arith)
 
 pub others_ask : (e : Event) (es : List Event) → All AsksRate (e ∷ es) → All AsksRate es
 others_ask e es all = λ k d low. all (suc k) d (omega arith)
+
+-- what holds of each element holds of the one at a place
+pub all_at : {A : Type 0} → (P : A → Type 0) → (xs : List A) (i : ℕ) (x : A) → All P xs → slice_get xs i ≡ Some x → P x
+all_at P [] i x all e = absurd (cc)
+all_at P (y ∷ xs) zero x all e = (let is : y ≡ x = cc in subst P is (all 0 y (omega arith)))
+all_at P (y ∷ xs) (suc i) x all e = all_at P xs i x (λ k d low. all (suc k) d (omega arith)) e
