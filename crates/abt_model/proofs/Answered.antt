@@ -33,8 +33,8 @@ lowered l fs lawful q a =
     let backed = rate_backed l fs lawful in
     let number = (asked_last l fs lawful).1 q a in
     elim (cases_lt backed.from q) [
-      inl lt ↦ inl (backed.floors q a lt (omega arith))
-    | inr ge ↦ elim backed.heard [ inl z ↦ absurd (omega arith) | inr h ↦ inr (backed.from, ge, h) ]
+      | inl lt ↦ inl (backed.floors q a lt (omega arith))
+      | inr ge ↦ elim backed.heard [ inl z ↦ absurd (omega arith) | inr h ↦ inr (backed.from, ge, h) ]
     ]
 
 -- where a yes is heard each hop has that number as its newest, and open
@@ -78,9 +78,9 @@ yes_everywhere net past lawful c s conn known told hop low high =
 -- by cases on whether the net has the connection
 pub past_cases : (net : Topology) (past : List ConnectionFact) → AllLawful net past → (c : ℕ) (P : List Fact → Type 0) → P [] → ((conn : Conn) → IsLawful (route_of conn) (facts_of c past) → P (facts_of c past)) → P (facts_of c past)
 past_cases net past lawful c P none some = elim (cases_option (conn_at net c)) [
-      inl unknown ↦ (let empty : facts_of c past ≡ [] = subst (λ o. IsConnLawful o (facts_of c past)) unknown (lawful c) in subst P (sym empty) none)
-    | inr known ↦ some known.0 (lawful_at net past lawful c known.0 known.1)
-    ]
+  | inl unknown ↦ (let empty : facts_of c past ≡ [] = subst (λ o. IsConnLawful o (facts_of c past)) unknown (lawful c) in subst P (sym empty) none)
+  | inr known ↦ some known.0 (lawful_at net past lawful c known.0 known.1)
+]
 
 pub rates_wait : (net : Topology) (past : List ConnectionFact) → AllLawful net past → RatesWait net past
 rates_wait net past lawful c q =
@@ -89,9 +89,9 @@ rates_wait net past lawful c q =
 
 both_sent : (l : Route) (fs : List Fact) → IsLawful l fs → (s : ℕ) → YesWasSent fs s → NoWasSent fs s → ⊥
 both_sent l fs law s yes_sent no_sent = elim yes_sent [
-      inl t ↦ turned_open l fs law s no_sent.0 t no_sent.1
-    | inr b ↦ back_open l fs law s b.0 no_sent.0 b.1 no_sent.1
-    ]
+  | inl t ↦ turned_open l fs law s no_sent.0 t no_sent.1
+  | inr b ↦ back_open l fs law s b.0 no_sent.0 b.1 no_sent.1
+]
 
 pub one_answer_each : (net : Topology) (past : List ConnectionFact) → AllLawful net past → OneAnswerEach net past
 one_answer_each net past lawful c s =

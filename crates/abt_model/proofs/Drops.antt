@@ -45,13 +45,13 @@ decide_agrees n nf na is_shut_there holds reserved capacity s floor ask refusal 
     let P : Onward → Type 0 = λ o. disputes (Requested o) ≡ false in
     cond_both (nat_lt s n) _ _ P (λ e. refl)
     (λ e. cond_both (s == n) _ _ P
-        (λ e2. (let eq = same (eqb-true s n e2) in
-            cond_both (not (floor == nf && ask == na)) _ _ P
-            (λ e3. absurd (false≢true (sym (not-true _ e3) ∙ and_from _ _ (eq-eqb _ _ eq.0) (eq-eqb _ _ eq.1))))
-            (λ e3. cond_both is_shut_there _ _ P (λ e4. refl) (λ e4. refl))))
-        (λ e2. cond_both (nat_lt holds floor) _ _ P
-            (λ e3. absurd (let l = low (let ge = ltb-false s n e in let ne = eqb-false s n e2 in omega arith) in let lt = ltb-true holds floor e3 in omega arith))
-            (λ e3. cond_both (nat_le (reserved - holds + ask) capacity) _ _ P (λ e4. refl) (λ e4. refl))))
+    (λ e2. (let eq = same (eqb-true s n e2) in
+    cond_both (not (floor == nf && ask == na)) _ _ P
+    (λ e3. absurd (false≢true (sym (not-true _ e3) ∙ and_from _ _ (eq-eqb _ _ eq.0) (eq-eqb _ _ eq.1))))
+    (λ e3. cond_both is_shut_there _ _ P (λ e4. refl) (λ e4. refl))))
+    (λ e2. cond_both (nat_lt holds floor) _ _ P
+    (λ e3. absurd (let l = low (let ge = ltb-false s n e in let ne = eqb-false s n e2 in omega arith) in let lt = ltb-true holds floor e3 in omega arith))
+    (λ e3. cond_both (nat_le (reserved - holds + ask) capacity) _ _ P (λ e4. refl) (λ e4. refl))))
 
 decide_back_agrees : (n nf na : ℕ) (is_shut_there : Bool) (s floor ask : ℕ) (granted : Bool) →
     s ≤ n → (s ≡ n → (floor ≡ nf) × (ask ≡ na) × ((granted && is_shut_there) ≡ false)) →
@@ -60,10 +60,10 @@ decide_back_agrees n nf na is_shut_there s floor ask granted low same =
     let P : Returned → Type 0 = λ o. disputes (Answered o) ≡ false in
     cond_both (nat_lt s n) _ _ P (λ e. refl)
     (λ e. (
-        let equal : s ≡ n = (let ge = ltb-false s n e in omega arith) in
-        let eq = same equal in
-        let none : (nat_lt n s || not (floor == nf && ask == na) || (granted && is_shut_there)) ≡ false = grind (arith, nat_tests) in
-        rw none refl))
+    let equal : s ≡ n = (let ge = ltb-false s n e in omega arith) in
+    let eq = same equal in
+    let none : (nat_lt n s || not (floor == nf && ask == na) || (granted && is_shut_there)) ≡ false = grind (arith, nat_tests) in
+    rw none refl))
 
 -- a yes that was sent passed each hop, and is shut nowhere
 pub yes_sent : (l : Route) (fs : List Fact) → IsLawful l fs → (s j : ℕ) → IsYesAtHop l.hops fs s j → was_turned fs s ≡ true
@@ -81,23 +81,23 @@ request_agrees conn reserved capacity fs lawful c j s =
     let P : Outcome → Type 0 = λ o. disputes o ≡ false in
     cond_both (not (is_hop (length conn.path) j)) _ _ P (λ e. refl)
     (λ e. cond_both (not (request_is_at fs s j)) _ _ P (λ e2. refl)
-        (λ e2. (
-            let hop = is_hop_tells (length conn.path) j (not-false _ e) in
-            let a = at_asked (route_of conn) fs lawful s j (request_at_tells fs s j hop.0 (not-false _ e2)) in
-            decide_agrees (newest_of fs j) (floor_of fs (newest_of fs j)) (ask_of fs (newest_of fs j)) (was_shut fs (newest_of fs j) j) (held_of fs j) reserved capacity s (floor_of fs s) (ask_of fs s) (answer_to (request_of conn.vc fs s) false)
-            (λ same. (ap (floor_of fs) same, ap (ask_of fs) same)) (λ above. floor_held (route_of conn) fs lawful s j a above hop.0 hop.1))))
+    (λ e2. (
+    let hop = is_hop_tells (length conn.path) j (not-false _ e) in
+    let a = at_asked (route_of conn) fs lawful s j (request_at_tells fs s j hop.0 (not-false _ e2)) in
+    decide_agrees (newest_of fs j) (floor_of fs (newest_of fs j)) (ask_of fs (newest_of fs j)) (was_shut fs (newest_of fs j) j) (held_of fs j) reserved capacity s (floor_of fs s) (ask_of fs s) (answer_to (request_of conn.vc fs s) false)
+    (λ same. (ap (floor_of fs) same, ap (ask_of fs) same)) (λ above. floor_held (route_of conn) fs lawful s j a above hop.0 hop.1))))
 
 answer_agrees : (conn : Conn) (reserved capacity : ℕ) (fs : List Fact) → IsLawful (route_of conn) fs → (c j s : ℕ) (granted : Bool) → disputes (answer_by conn reserved capacity fs (Answer c j s granted)) ≡ false
 answer_agrees conn reserved capacity fs lawful c j s granted =
     let P : Outcome → Type 0 = λ o. disputes o ≡ false in
     cond_both (not (is_hop (length conn.path) j)) _ _ P (λ e. refl)
     (λ e. cond_both (not (answer_is_at (length conn.path) fs s j granted)) _ _ P (λ e2. refl)
-        (λ e2. (
-            let hop = is_hop_tells (length conn.path) j (not-false _ e) in
-            let p = answer_passed (route_of conn) fs lawful s j granted hop (not-false _ e2) in
-            decide_back_agrees (newest_of fs j) (floor_of fs (newest_of fs j)) (ask_of fs (newest_of fs j)) (was_shut fs (newest_of fs j) j) s (floor_of fs s) (ask_of fs s) granted
-            (passed_newest s j fs p.0)
-            (λ same. (ap (floor_of fs) same, ap (ask_of fs) same, ap (λ q. granted && was_shut fs q j) (sym same) ∙ p.1)))))
+    (λ e2. (
+    let hop = is_hop_tells (length conn.path) j (not-false _ e) in
+    let p = answer_passed (route_of conn) fs lawful s j granted hop (not-false _ e2) in
+    decide_back_agrees (newest_of fs j) (floor_of fs (newest_of fs j)) (ask_of fs (newest_of fs j)) (was_shut fs (newest_of fs j) j) s (floor_of fs s) (ask_of fs s) granted
+    (passed_newest s j fs p.0)
+    (λ same. (ap (floor_of fs) same, ap (ask_of fs) same, ap (λ q. granted && was_shut fs q j) (sym same) ∙ p.1)))))
 
 up_agrees : (st : SourceState) (o : Outcome) → disputes o ≡ false → disputes (if_up st o) ≡ false
 up_agrees Down o e = refl
@@ -126,16 +126,16 @@ emit_agrees fs now =
     let P : Outcome → Type 0 = λ o. disputes o ≡ false in
     cond_both (nat_lt now (clock_of fs)) _ _ P (λ e. refl)
     (λ e. cond_both (nat_lt emit_max now) _ _ P (λ e2. refl)
-        (λ e2. cond_both (rate_of fs == 0) _ _ P (λ e3. refl)
-            (λ e3. cond_both (nat_lt now (next_of fs)) _ _ P (λ e4. refl) (λ e4. refl))))
+    (λ e2. cond_both (rate_of fs == 0) _ _ P (λ e3. refl)
+    (λ e3. cond_both (nat_lt now (next_of fs)) _ _ P (λ e4. refl) (λ e4. refl))))
 
 arrive_agrees : (conn : Conn) (fs : List Fact) (n a : ℕ) → disputes (arrive_answer conn fs n a) ≡ false
 arrive_agrees conn fs n a =
     let P : Outcome → Type 0 = λ o. disputes o ≡ false in
     cond_both (not (nat_lt n (emitted_of fs))) _ _ P (λ e. refl)
     (λ e. cond_both (nat_lt n (fence_of fs)) _ _ P (λ e2. refl)
-        (λ e2. cond_both (not (is_in_time conn.delay conn.tau fs n a)) _ _ P (λ e3. refl)
-            (λ e3. cond_both (nat_lt a (last_arrival_of fs)) _ _ P (λ e4. refl) (λ e4. refl))))
+    (λ e2. cond_both (not (is_in_time conn.delay conn.tau fs n a)) _ _ P (λ e3. refl)
+    (λ e3. cond_both (nat_lt a (last_arrival_of fs)) _ _ P (λ e4. refl) (λ e4. refl))))
 
 pub step_agrees : (conn : Conn) (reserved capacity : ℕ) (fs : List Fact) → IsLawful (route_of conn) fs → (e : Event) → disputes (answer_by conn reserved capacity fs e) ≡ false
 step_agrees conn reserved capacity fs lawful (Start c now) = start_agrees (state_of fs) fs now
@@ -154,6 +154,6 @@ step_agrees conn reserved capacity fs lawful (Told c s granted) =
 
 pub outcome_agrees : (net : Topology) (past : List ConnectionFact) → AllLawful net past → NeverDisputes net past
 outcome_agrees net past lawful e = elim (cases_option (conn_at net (conn_of e))) [
-      inl unknown ↦ ap disputes (ap (λ (o : Option Conn). outcome_at net past o e) unknown)
-    | inr known ↦ ap disputes (outcome_of-known net past e known.0 known.1) ∙ step_agrees known.0 _ _ (facts_of (conn_of e) past) (lawful_at net past lawful (conn_of e) known.0 known.1) e
-    ]
+  | inl unknown ↦ ap disputes (ap (λ (o : Option Conn). outcome_at net past o e) unknown)
+  | inr known ↦ ap disputes (outcome_of-known net past e known.0 known.1) ∙ step_agrees known.0 _ _ (facts_of (conn_of e) past) (lawful_at net past lawful (conn_of e) known.0 known.1) e
+]

@@ -16,4 +16,6 @@ pub mod Sums
 pub mod Drops
 pub mod Answered
 pub mod Served
-pub mod Headline
+pub mod EveryPasts
+pub mod Runs
+pub mod Stories

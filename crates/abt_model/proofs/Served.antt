@@ -38,12 +38,12 @@ arrive_tells conn fs n a v =
     let P : Outcome → Type 0 = λ o. o ≡ HasArrived v → MayFollow (route_of conn) fs (Arrived n a (held_of fs 1) v) in
     cond_both (not (nat_lt n (emitted_of fs))) _ _ P (λ e h. absurd (cc))
     (λ e. cond_both (nat_lt n (fence_of fs)) _ _ P (λ e2 h. absurd (cc))
-        (λ e2. cond_both (not (is_in_time conn.delay conn.tau fs n a)) _ _ P (λ e3 h. absurd (cc))
-            (λ e3. cond_both (nat_lt a (last_arrival_of fs)) _ _ P (λ e4 h. absurd (cc))
-                (λ e4 h. (
-                    let both = in_time_tells conn.delay conn.tau fs n a (not-false _ e3) in
-                    let is : v ≡ verdict_at conn.tau fs a (held_of fs 1) = cc in
-                    (ltb-true n (emitted_of fs) (not-false _ e), ltb-false n (fence_of fs) e2, both.0, both.1, ltb-false a (last_arrival_of fs) e4, refl, is))))))
+    (λ e2. cond_both (not (is_in_time conn.delay conn.tau fs n a)) _ _ P (λ e3 h. absurd (cc))
+    (λ e3. cond_both (nat_lt a (last_arrival_of fs)) _ _ P (λ e4 h. absurd (cc))
+    (λ e4 h. (
+    let both = in_time_tells conn.delay conn.tau fs n a (not-false _ e3) in
+    let is : v ≡ verdict_at conn.tau fs a (held_of fs 1) = cc in
+    (ltb-true n (emitted_of fs) (not-false _ e), ltb-false n (fence_of fs) e2, both.0, both.1, ltb-false a (last_arrival_of fs) e4, refl, is))))))
 
 -- a connection within the rules has a hop
 pub conn_within : (net : Topology) → IsWithinRules net → (c : ℕ) (conn : Conn) → conn_at net c ≡ Some conn → IsConnWithin (length net.capacities) conn

@@ -62,26 +62,26 @@ lawful_at net past lawful c conn known = subst (λ o. IsConnLawful o (facts_of c
 
 own_lawful : (net : Topology) (past : List ConnectionFact) → AllLawful net past → (e : Event) → AsksRate e → IsConnLawful (conn_at net (conn_of e)) (facts_of (conn_of e) (after_event net past e))
 own_lawful net past lawful e rate = elim (cases_option (conn_at net (conn_of e))) [
-      inl unknown ↦ subst (λ w. IsConnLawful (conn_at net (conn_of e)) (facts_of (conn_of e) w)) (sym (after_event-unknown net past e unknown)) (lawful (conn_of e))
-    | inr known ↦ (
+  | inl unknown ↦ subst (λ w. IsConnLawful (conn_at net (conn_of e)) (facts_of (conn_of e) w)) (sym (after_event-unknown net past e unknown)) (lawful (conn_of e))
+  | inr known ↦ (
       let conn = known.0 in
       let fs = facts_of (conn_of e) past in
       let is = facts_of-own net past e ∙ ap (λ (o : Outcome). facts_added fs e o ++ fs) (outcome_of-known net past e conn known.1) in
       subst (λ o. IsConnLawful o (facts_of (conn_of e) (after_event net past e))) (sym known.1) (
       subst (IsLawful (route_of conn)) (sym is) (step_lawful conn _ _ fs (lawful_at net past lawful (conn_of e) conn known.1) e rate)))
-    ]
+]
 
 pub after_event_lawful : (net : Topology) (past : List ConnectionFact) → AllLawful net past → (e : Event) → AsksRate e → AllLawful net (after_event net past e)
 after_event_lawful net past lawful e rate d = elim (cases_eq (conn_of e) d) [
-      inl same ↦ subst (λ q. IsConnLawful (conn_at net q) (facts_of q (after_event net past e))) same (own_lawful net past lawful e rate)
-    | inr differ ↦ subst (IsConnLawful (conn_at net d)) (sym (facts_of-other net past e d differ)) (lawful d)
-    ]
+  | inl same ↦ subst (λ q. IsConnLawful (conn_at net q) (facts_of q (after_event net past e))) same (own_lawful net past lawful e rate)
+  | inr differ ↦ subst (IsConnLawful (conn_at net d)) (sym (facts_of-other net past e d differ)) (lawful d)
+]
 
 pub nothing_lawful : (net : Topology) → AllLawful net []
 nothing_lawful net c = elim (cases_option (conn_at net c)) [
-      inl unknown ↦ subst (λ o. IsConnLawful o []) (sym unknown) refl
-    | inr known ↦ subst (λ o. IsConnLawful o []) (sym known.1) tt
-    ]
+  | inl unknown ↦ subst (λ o. IsConnLawful o []) (sym unknown) refl
+  | inr known ↦ subst (λ o. IsConnLawful o []) (sym known.1) tt
+]
 
 -- each asked rate is a rate, of the first event and of the others
 pub first_asks : (e : Event) (es : List Event) → All AsksRate (e ∷ es) → AsksRate e

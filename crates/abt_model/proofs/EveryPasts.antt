@@ -23,16 +23,16 @@ index_of-get (y ∷ xs) (suc i) x e = index_of-get xs i x e
 
 pub past_safe : (net : Topology) (past : List ConnectionFact) → IsWithinRules net → AllLawful net past → AllWithin net past → IsSafe net past
 past_safe net past rules lawful within = record {
-      rates = λ c conn known hop low high. rate_held (route_of conn) (facts_of c past) (lawful_at net past lawful c conn known) hop low high;
-      sums = λ port capacity is. (let e = index_of-get net.capacities port capacity is in omega (arith, within port, e));
-      cells = λ c. conforming c;
-    }
+  rates = λ c conn known hop low high. rate_held (route_of conn) (facts_of c past) (lawful_at net past lawful c conn known) hop low high;
+  sums = λ port capacity is. (let e = index_of-get net.capacities port capacity is in omega (arith, within port, e));
+  cells = λ c. conforming c;
+}
   where
-  conforming : (c : ℕ) → AllConform (facts_of c past)
-  conforming c = elim (cases_option (conn_at net c)) [
-        inl unknown ↦ (let empty : facts_of c past ≡ [] = subst (λ o. IsConnLawful o (facts_of c past)) unknown (lawful c) in subst AllConform (sym empty) tt)
+    conforming : (c : ℕ) → AllConform (facts_of c past)
+    conforming c = elim (cases_option (conn_at net c)) [
+      | inl unknown ↦ (let empty : facts_of c past ≡ [] = subst (λ o. IsConnLawful o (facts_of c past)) unknown (lawful c) in subst AllConform (sym empty) tt)
       | inr known ↦ all_conform (route_of known.0) (facts_of c past) (lawful_at net past lawful c known.0 known.1) (let within = conn_within net rules c known.0 known.1 in omega (arith, within.has_hop))
-      ]
+    ]
 
 pub every_safe : EveryPast IsSafe
 every_safe net events rules rates = let both = facts_after_lawful net events rates in past_safe net (facts_after net events) rules both.0 both.1
