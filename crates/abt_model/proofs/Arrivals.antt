@@ -34,15 +34,15 @@ pub record IsTimely (l : Route) (fs : List Fact) : Type 0 where
 
 IsTimely-more : (l : Route) (f : Fact) (fs : List Fact) → MayFollow l fs f → IsTimely l fs → after_last_of (f ∷ fs) ≡ after_last_of fs → taken_of (f ∷ fs) ≡ taken_of fs → IsTimely l (f ∷ fs)
 IsTimely-more l f fs may old same cells = record {
-      low = omega (arith, same, old.low, emitted_more f fs);
-      bound = λ n e. (
-          let sent : n < emitted_of fs = omega (arith, old.low) in
-          let kept = sent_more l f fs may n sent in
-          let b = old.bound n (sym same ∙ e) in
-          omega (arith, ap tat cells, kept.0, ap spacing_of kept.1, b));
-      none = λ z. ap tat cells ∙ old.none (sym same ∙ z);
-      kept = ap (all_windows_kept l.tau) cells ∙ old.kept;
-    }
+  low = omega (arith, same, old.low, emitted_more f fs);
+  bound = λ n e. (
+      let sent : n < emitted_of fs = omega (arith, old.low) in
+      let kept = sent_more l f fs may n sent in
+      let b = old.bound n (sym same ∙ e) in
+      omega (arith, ap tat cells, kept.0, ap spacing_of kept.1, b));
+  none = λ z. ap tat cells ∙ old.none (sym same ∙ z);
+  kept = ap (all_windows_kept l.tau) cells ∙ old.kept;
+}
 
 -- what an arrival finds
 pub arrival : (l : Route) (fs : List Fact) → IsLawful l fs → 1 ≤ l.hops → IsTimely l fs → (n a r : ℕ) (v : Verdict) → MayFollow l fs (Arrived n a r v) →
@@ -51,14 +51,14 @@ arrival l fs lawful some old n a r v may =
     let cell = sent_facts l fs lawful n may.0 in
     let holds : cell_rate_of fs n ≤ r = omega (arith, cell_held l fs lawful some n may.0 may.1, may.5) in
     let early : tat (taken_of fs) ≤ moment_of fs n + l.delay + l.tau = elim (cases_eq (after_last_of fs) 0) [
-        inl z ↦ omega (arith, old.none z)
+      | inl z ↦ omega (arith, old.none z)
       | inr more ↦ (
-        let m = after_last_of fs - 1 in
-        let is : after_last_of fs ≡ m + 1 = omega arith in
-        let b = old.bound m is in
-        let order = sent_order l fs lawful m n (omega (arith, may.1)) may.0 in
-        omega (arith, b, order))
-      ] in
+          let m = after_last_of fs - 1 in
+          let is : after_last_of fs ≡ m + 1 = omega arith in
+          let b = old.bound m is in
+          let order = sent_order l fs lawful m n (omega (arith, may.1)) may.0 in
+          omega (arith, b, order))
+    ] in
     let fits : keeps_windows l.tau a 0 (taken_of fs) ≡ true = tat_follows l.tau a 0 (taken_of fs) (omega (arith, early, may.2)) in
     let some_rate : r ≢ 0 = λ z. omega (arith, cell.some, holds) in
     let all : all_windows_kept l.tau (record { at = a; spacing = spacing_of r } ∷ taken_of fs) ≡ true = and_from _ _ fits old.kept in

@@ -22,12 +22,12 @@ pub record IsBacked (fs : List Fact) (x b : ℕ) : Type 0 where
 
 pub IsBacked-less : (fs : List Fact) (x y b : ℕ) → y ≤ x → IsBacked fs x b → IsBacked fs y b
 IsBacked-less fs x y b le backed = record {
-      from = backed.from;
-      heard = backed.heard;
-      below = backed.below;
-      raised = omega (arith, backed.raised);
-      floors = λ s a above below. omega (arith, backed.floors s a above below);
-    }
+  from = backed.from;
+  heard = backed.heard;
+  below = backed.below;
+  raised = omega (arith, backed.raised);
+  floors = λ s a above below. omega (arith, backed.floors s a above below);
+}
 
 pub IsBacked-zero : (fs : List Fact) (b : ℕ) → 1 ≤ b → IsBacked fs 0 b
 IsBacked-zero fs b some = record { from = 0; heard = inl refl; below = omega arith; raised = omega arith; floors = λ s a above below. omega arith }
@@ -44,8 +44,8 @@ IsBacked-more k f fs lawful x b within backed =
       floors = λ s a above below.
           let e : floor_of (f ∷ fs) s ≡ floor_of fs s = floor_more k f fs lawful.0 s (omega arith) in
           elim (asked_cases s f fs a) [
-            inl new ↦ (let may = may_of k fs f (Asked s new.floor new.ask new.mark) new.is lawful.0 in absurd (omega arith))
-          | inr old ↦ omega (arith, e, backed.floors s old above below)
+            | inl new ↦ (let may = may_of k fs f (Asked s new.floor new.ask new.mark) new.is lawful.0 in absurd (omega arith))
+            | inr old ↦ omega (arith, e, backed.floors s old above below)
           ];
     }
 
@@ -78,10 +78,10 @@ rate_backed k (Asked t floor ask mark ∷ fs) lawful =
       below = omega (arith, old.below);
       raised = omega (arith, old.raised);
       floors = λ s a above below. elim (cases_order s t) [
-          inl e ↦ (let same : floor_of (Asked t floor ask mark ∷ fs) s ≡ floor = ap (λ q. floor_of (Asked t floor ask mark ∷ fs) q) e ∙ mine in omega arith)
+        | inl e ↦ (let same : floor_of (Asked t floor ask mark ∷ fs) s ≡ floor = ap (λ q. floor_of (Asked t floor ask mark ∷ fs) q) e ∙ mine in omega arith)
         | inr (inl lt) ↦ omega (arith, old.floors s a above (omega arith))
         | inr (inr gt) ↦ absurd (omega arith)
-        ];
+      ];
     }
 rate_backed k (Heard s true ∷ fs) lawful =
     let now = asking k fs lawful.1 s lawful.0.0 in
@@ -102,17 +102,17 @@ rate_backed k (f ∷ fs) lawful = IsBacked-more k f fs lawful (rate_of fs) (last
 pub floor_backed : (k : Route) (fs : List Fact) → IsLawful k fs → (s : ℕ) → was_asked fs s ≡ true → IsBacked fs (floor_of fs s) s
 floor_backed k [] lawful s a = absurd (false≢true a)
 floor_backed k (f ∷ fs) lawful s a = elim (asked_cases s f fs a) [
-      inl new ↦ (
+  | inl new ↦ (
       let may = may_of k fs f (Asked s new.floor new.ask new.mark) new.is lawful.0 in
       let mine : floor_of (f ∷ fs) s ≡ new.floor = rw new.is (cond-true _ _ _ (eq-eqb s s refl)) in
       let b : last_of fs + 1 ≡ s = omega arith in
       let old = IsBacked-more k f fs lawful (rate_of fs) (last_of fs + 1) (omega arith) (rate_backed k fs lawful.1) in
       subst (λ n. IsBacked (f ∷ fs) (floor_of (f ∷ fs) s) n) b (IsBacked-less (f ∷ fs) (rate_of fs) (floor_of (f ∷ fs) s) (last_of fs + 1) (omega arith) old))
-    | inr old ↦ (
+  | inr old ↦ (
       let low = (asked_last k fs lawful.1).1 s old in
       let same : floor_of (f ∷ fs) s ≡ floor_of fs s = floor_more k f fs lawful.0 s low.1 in
       subst (λ x. IsBacked (f ∷ fs) x s) (sym same) (IsBacked-more k f fs lawful (floor_of fs s) s (omega arith) (floor_backed k fs lawful.1 s old)))
-    ]
+]
 
 held_shut : (fs : List Fact) (j : ℕ) → newest_of fs j ≢ 0 → was_shut fs (newest_of fs j) j ≡ true → held_of fs j ≡ floor_of fs (newest_of fs j)
 held_shut fs j some h = cond-false _ _ _ (ne_eqb _ _ some) ∙ cond-true _ _ _ h
@@ -125,31 +125,31 @@ pub backed_held : (k : Route) (fs : List Fact) → IsLawful k fs → (x b j : �
 backed_held k fs lawful x b j backed under low high =
     let reached : backed.from ≤ newest_of fs j = elim backed.heard [ inl e ↦ omega arith | inr h ↦ heard_newest k fs lawful backed.from j h low high ] in
     elim (newest_asked k fs lawful j) [
-      inl z ↦ (
-      let zero_from : backed.from ≡ 0 = omega arith in
-      let none : ask_of fs backed.from ≡ 0 = ap (λ q. ask_of fs q) zero_from ∙ ask_zero k fs lawful in
-      omega (arith, backed.raised, none))
-    | inr a ↦ (
-      let low_m = (asked_last k fs lawful).1 (newest_of fs j) a in
-      let some : newest_of fs j ≢ 0 = λ e. omega arith in
-      elim (cases_order backed.from (newest_of fs j)) [
-          inl same ↦ (
-          elim backed.heard [
-              inl z ↦ absurd (omega arith)
-            | inr h ↦ (
-              let open_there : was_shut fs (newest_of fs j) j ≡ false = false_from_ne_true _ (λ t. heard_open k fs lawful backed.from j h (subst (λ q. was_shut fs q j ≡ true) (sym same) t)) in
-              let is = held_open fs j some open_there in
-              let raised : x ≤ ask_of fs (newest_of fs j) = subst (λ q. x ≤ ask_of fs q) same backed.raised in
-              omega (arith, is, raised))
-            ])
-        | inr (inl lt) ↦ (
-          let floored : x ≤ floor_of fs (newest_of fs j) = backed.floors (newest_of fs j) a lt under in
-          elim (cases_Bool (was_shut fs (newest_of fs j) j)) [
-              inl t ↦ omega (arith, held_shut fs j some t, floored)
-            | inr f ↦ omega (arith, held_open fs j some f, floored, floor_low k fs lawful (newest_of fs j))
-            ])
-        | inr (inr gt) ↦ absurd (omega arith)
-        ])
+      | inl z ↦ (
+          let zero_from : backed.from ≡ 0 = omega arith in
+          let none : ask_of fs backed.from ≡ 0 = ap (λ q. ask_of fs q) zero_from ∙ ask_zero k fs lawful in
+          omega (arith, backed.raised, none))
+      | inr a ↦ (
+          let low_m = (asked_last k fs lawful).1 (newest_of fs j) a in
+          let some : newest_of fs j ≢ 0 = λ e. omega arith in
+          elim (cases_order backed.from (newest_of fs j)) [
+            | inl same ↦ (
+                elim backed.heard [
+                  | inl z ↦ absurd (omega arith)
+                  | inr h ↦ (
+                      let open_there : was_shut fs (newest_of fs j) j ≡ false = false_from_ne_true _ (λ t. heard_open k fs lawful backed.from j h (subst (λ q. was_shut fs q j ≡ true) (sym same) t)) in
+                      let is = held_open fs j some open_there in
+                      let raised : x ≤ ask_of fs (newest_of fs j) = subst (λ q. x ≤ ask_of fs q) same backed.raised in
+                      omega (arith, is, raised))
+                ])
+            | inr (inl lt) ↦ (
+                let floored : x ≤ floor_of fs (newest_of fs j) = backed.floors (newest_of fs j) a lt under in
+                elim (cases_Bool (was_shut fs (newest_of fs j) j)) [
+                  | inl t ↦ omega (arith, held_shut fs j some t, floored)
+                  | inr f ↦ omega (arith, held_open fs j some f, floored, floor_low k fs lawful (newest_of fs j))
+                ])
+            | inr (inr gt) ↦ absurd (omega arith)
+          ])
     ]
 
 -- no source's rate is above what a hop holds

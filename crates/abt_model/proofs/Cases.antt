@@ -106,16 +106,16 @@ newest_at-shut s j fs = grind (arith, nat_tests)
 pub passed_newest : (s j : ℕ) (fs : List Fact) → was_passed fs s j ≡ true → s ≤ newest_of fs j
 passed_newest s j [] h = absurd (false≢true h)
 passed_newest s j (f ∷ fs) h = elim (passed_cases s j f fs h) [
-      inl e ↦ rw e (newest_at-passed s j fs)
-    | inr t ↦ omega (arith, passed_newest s j fs t, newest_more f fs j)
-    ]
+  | inl e ↦ rw e (newest_at-passed s j fs)
+  | inr t ↦ omega (arith, passed_newest s j fs t, newest_more f fs j)
+]
 
 pub shut_newest : (s j : ℕ) (fs : List Fact) → was_shut fs s j ≡ true → s ≤ newest_of fs j
 shut_newest s j [] h = absurd (false≢true h)
 shut_newest s j (f ∷ fs) h = elim (shut_cases s j f fs h) [
-      inl e ↦ rw e (newest_at-shut s j fs)
-    | inr t ↦ omega (arith, shut_newest s j fs t, newest_more f fs j)
-    ]
+  | inl e ↦ rw e (newest_at-shut s j fs)
+  | inr t ↦ omega (arith, shut_newest s j fs t, newest_more f fs j)
+]
 
 -- and it is one of them, or 0
 abbrev pub IsKept : List Fact → ℕ → ℕ → Type 0
@@ -123,10 +123,10 @@ IsKept fs j m = (m ≡ 0) ⊎ ((was_passed fs m j ≡ true) ⊎ (was_shut fs m j
 
 IsKept-more : (f : Fact) (fs : List Fact) (j m : ℕ) → IsKept fs j m → IsKept (f ∷ fs) j m
 IsKept-more f fs j m kept = elim kept [
-      inl e ↦ inl e
-    | inr (inl h) ↦ inr (inl (passed_more m j f fs h))
-    | inr (inr h) ↦ inr (inr (shut_more m j f fs h))
-    ]
+  | inl e ↦ inl e
+  | inr (inl h) ↦ inr (inl (passed_more m j f fs h))
+  | inr (inr h) ↦ inr (inr (shut_more m j f fs h))
+]
 
 newest_passed_cases : (s i j : ℕ) (fs : List Fact) → (newest_of (Passed s i ∷ fs) j ≡ newest_of fs j) ⊎ ((newest_of (Passed s i ∷ fs) j ≡ s) × (i ≡ j))
 newest_passed_cases s i j fs = grind (arith, nat_tests)
@@ -140,13 +140,13 @@ itself s i j e = and_from _ _ (eq-eqb s s refl) (eq-eqb i j e)
 pub newest_kept : (fs : List Fact) (j : ℕ) → IsKept fs j (newest_of fs j)
 newest_kept [] j = inl refl
 newest_kept (Passed s i ∷ fs) j = elim (newest_passed_cases s i j fs) [
-      inl e ↦ subst (IsKept (Passed s i ∷ fs) j) (sym e) (IsKept-more (Passed s i) fs j _ (newest_kept fs j))
-    | inr e ↦ subst (IsKept (Passed s i ∷ fs) j) (sym e.0) (inr (inl (or_left' _ _ (itself s i j e.1))))
-    ]
+  | inl e ↦ subst (IsKept (Passed s i ∷ fs) j) (sym e) (IsKept-more (Passed s i) fs j _ (newest_kept fs j))
+  | inr e ↦ subst (IsKept (Passed s i ∷ fs) j) (sym e.0) (inr (inl (or_left' _ _ (itself s i j e.1))))
+]
 newest_kept (Shut s i ∷ fs) j = elim (newest_shut_cases s i j fs) [
-      inl e ↦ subst (IsKept (Shut s i ∷ fs) j) (sym e) (IsKept-more (Shut s i) fs j _ (newest_kept fs j))
-    | inr e ↦ subst (IsKept (Shut s i ∷ fs) j) (sym e.0) (inr (inr (or_left' _ _ (itself s i j e.1))))
-    ]
+  | inl e ↦ subst (IsKept (Shut s i ∷ fs) j) (sym e) (IsKept-more (Shut s i) fs j _ (newest_kept fs j))
+  | inr e ↦ subst (IsKept (Shut s i ∷ fs) j) (sym e.0) (inr (inr (or_left' _ _ (itself s i j e.1))))
+]
 newest_kept (f ∷ fs) j = newest_kept fs j
 
 pub is_delivered-true : (s : ℕ) (f : Fact) → is_delivery_of s f ≡ true → f ≡ Delivered s

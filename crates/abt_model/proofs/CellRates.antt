@@ -34,20 +34,20 @@ IsCellBacked-more l f fs lawful n sent old =
       low = omega (arith, old.low, last_more l f fs lawful.0 lawful.1);
       backed = subst (λ x. IsBacked (f ∷ fs) x old.bound) (sym same.1) (IsBacked-more l f fs lawful (cell_rate_of fs n) old.bound old.low old.backed);
       later = λ s a high. elim (asked_cases s f fs a) [
-          inl new ↦ (
-          let may = may_of l fs f (Asked s new.floor new.ask new.mark) new.is lawful.0 in
-          let mine : mark_of (f ∷ fs) s ≡ new.mark = rw new.is (cond-true _ _ _ (eq-eqb s s refl)) in
-          omega (arith, mine, may.3))
+        | inl new ↦ (
+            let may = may_of l fs f (Asked s new.floor new.ask new.mark) new.is lawful.0 in
+            let mine : mark_of (f ∷ fs) s ≡ new.mark = rw new.is (cond-true _ _ _ (eq-eqb s s refl)) in
+            omega (arith, mine, may.3))
         | inr known ↦ (
-          let within = (asked_last l fs lawful.1).1 s known in
-          omega (arith, mark_more l f fs lawful.0 s within.1, old.later s known high))
-        ];
+            let within = (asked_last l fs lawful.1).1 s known in
+            omega (arith, mark_more l f fs lawful.0 s within.1, old.later s known high))
+      ];
     }
 
 cell_backed : (l : Route) (fs : List Fact) → IsLawful l fs → (n : ℕ) → n < emitted_of fs → IsCellBacked fs n
 cell_backed l [] lawful n sent = absurd (omega arith)
 cell_backed l (Emitted m t r ∷ fs) lawful n sent = elim (cases_eq m n) [
-      inl e ↦ (
+  | inl e ↦ (
       let with : cell_rate_of (Emitted m t r ∷ fs) n ≡ rate_of fs = cond-true _ _ _ (eq-eqb m n e) ∙ lawful.0.1 in
       record {
         bound = last_of fs + 1;
@@ -55,10 +55,10 @@ cell_backed l (Emitted m t r ∷ fs) lawful n sent = elim (cases_eq m n) [
         backed = subst (λ x. IsBacked (Emitted m t r ∷ fs) x (last_of fs + 1)) (sym with) (IsBacked-more l (Emitted m t r) fs lawful (rate_of fs) (last_of fs + 1) (omega arith) (rate_backed l fs lawful.1));
         later = λ s a high. absurd (let within = (asked_last l fs lawful.1).1 s a in omega arith);
       })
-    | inr differ ↦ (
+  | inr differ ↦ (
       let less : n < emitted_of fs = omega (arith, lawful.0.0) in
       IsCellBacked-more l (Emitted m t r) fs lawful n less (cell_backed l fs lawful.1 n less))
-    ]
+]
 cell_backed l (f ∷ fs) lawful n sent = IsCellBacked-more l f fs lawful n sent (cell_backed l fs lawful.1 n sent)
 
 -- the first hop holds at least the rate of each cell that may still arrive
@@ -66,14 +66,13 @@ pub cell_held : (l : Route) (fs : List Fact) → IsLawful l fs → 1 ≤ l.hops 
 cell_held l fs lawful some n sent open_yet =
     let cell = cell_backed l fs lawful n sent in
     let under : newest_of fs 1 < cell.bound = elim (newest_mark l fs lawful) [
-        inl z ↦ omega (arith, cell.backed.below)
+      | inl z ↦ omega (arith, cell.backed.below)
       | inr marked ↦ elim (cases_lt (newest_of fs 1) cell.bound) [
-            inl lt ↦ lt
-          | inr ge ↦ elim (newest_asked l fs lawful 1) [
-                inl z ↦ omega (arith, cell.backed.below)
-              | inr a ↦ absurd (omega (arith, cell.later (newest_of fs 1) a ge))
-              ]
-          ]
-      ] in
+        | inl lt ↦ lt
+        | inr ge ↦ elim (newest_asked l fs lawful 1) [
+          | inl z ↦ omega (arith, cell.backed.below)
+          | inr a ↦ absurd (omega (arith, cell.later (newest_of fs 1) a ge))
+        ]
+      ]
+    ] in
     backed_held l fs lawful (cell_rate_of fs n) cell.bound 1 cell.backed under (omega arith) some
-

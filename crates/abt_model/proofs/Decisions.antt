@@ -14,8 +14,8 @@ abbrev pub decide : (n nf na : ℕ) → (is_shut_there : Bool) → (holds reserv
 decide n nf na is_shut_there holds reserved capacity s floor ask refusal =
     if nat_lt s n then Drop Stale
     else (if s == n then
-      (if not (floor == nf && ask == na) then Drop Conflict
-      else (if is_shut_there then Refuse refusal else Pass))
+    (if not (floor == nf && ask == na) then Drop Conflict
+    else (if is_shut_there then Refuse refusal else Pass))
     else (if nat_lt holds floor then Drop FloorAbove
     else (if nat_le (reserved - holds + ask) capacity then Pass else Refuse refusal)))
 

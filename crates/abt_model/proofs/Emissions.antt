@@ -55,19 +55,19 @@ sent_facts l (Started t m ∷ fs) lawful n low =
     let most = (spacing_bounds (cell_rate_of fs n) old.rated old.some).1 in
     record { rated = old.rated; some = old.some; past = omega (arith, old.past); gap = omega (arith, old.past, most, lawful.0.1) }
 sent_facts l (Emitted m t r ∷ fs) lawful n low = elim (cases_eq m n) [
-      inl e ↦ (
+  | inl e ↦ (
       let at : moment_of (Emitted m t r ∷ fs) n ≡ t = cond-true _ _ _ (eq-eqb m n e) in
       let with : cell_rate_of (Emitted m t r ∷ fs) n ≡ r = cond-true _ _ _ (eq-eqb m n e) in
       let rated : IsRate r = subst IsRate (sym lawful.0.1) (are_rates l fs lawful.1).now in
       let nonzero = lawful.0.2 in
       let some : 0 < r = omega arith in
       record { rated = subst IsRate (sym with) rated; some = omega (arith, with, some); past = omega (arith, at); gap = omega (arith, at, ap spacing_of with) })
-    | inr differ ↦ (
+  | inr differ ↦ (
       let less : n < emitted_of fs = omega (arith, lawful.0.0) in
       let old = sent_facts l fs lawful.1 n less in
       let same = sent_more l (Emitted m t r) fs lawful.0 n less in
       record { rated = subst IsRate (sym same.1) old.rated; some = omega (arith, same.1, old.some); past = omega (arith, same.0, old.past); gap = omega (arith, same.0, ap spacing_of same.1, old.gap, lawful.0.4) })
-    ]
+]
 sent_facts l (f ∷ fs) lawful n low = let old = sent_facts l fs lawful.1 n low in record { rated = old.rated; some = old.some; past = old.past; gap = old.gap }
 
 pub sent_order : (l : Route) (fs : List Fact) → IsLawful l fs → (n m : ℕ) → n < m → m < emitted_of fs → moment_of fs n + spacing_of (cell_rate_of fs n) ≤ moment_of fs m
@@ -76,14 +76,13 @@ sent_order l (Emitted q t r ∷ fs) lawful n m less low =
     let early : n < emitted_of fs = omega (arith, lawful.0.0) in
     let same = sent_more l (Emitted q t r) fs lawful.0 n early in
     elim (cases_eq q m) [
-      inl e ↦ (
-      let at : moment_of (Emitted q t r ∷ fs) m ≡ t = cond-true _ _ _ (eq-eqb q m e) in
-      let old = sent_facts l fs lawful.1 n early in
-      omega (arith, at, same.0, ap spacing_of same.1, old.gap, lawful.0.4))
-    | inr differ ↦ (
-      let before : m < emitted_of fs = omega (arith, lawful.0.0) in
-      let also = sent_more l (Emitted q t r) fs lawful.0 m before in
-      omega (arith, same.0, ap spacing_of same.1, also.0, sent_order l fs lawful.1 n m less before))
+      | inl e ↦ (
+          let at : moment_of (Emitted q t r ∷ fs) m ≡ t = cond-true _ _ _ (eq-eqb q m e) in
+          let old = sent_facts l fs lawful.1 n early in
+          omega (arith, at, same.0, ap spacing_of same.1, old.gap, lawful.0.4))
+      | inr differ ↦ (
+          let before : m < emitted_of fs = omega (arith, lawful.0.0) in
+          let also = sent_more l (Emitted q t r) fs lawful.0 m before in
+          omega (arith, same.0, ap spacing_of same.1, also.0, sent_order l fs lawful.1 n m less before))
     ]
 sent_order l (f ∷ fs) lawful n m less low = sent_order l fs lawful.1 n m less low
-

@@ -51,17 +51,16 @@ shut_now fs s j above some = ap (worth_of (Shut s j ∷ fs) j) (newest_above fs 
 
 pub shut_again : (k : Route) (fs : List Fact) → IsLawful k fs → (s j : ℕ) → newest_of fs j ≡ s → held_of (Shut s j ∷ fs) j ≤ held_of fs j
 shut_again k fs lawful s j equal = elim (cases_eq s 0) [
-      inl z ↦ (
+  | inl z ↦ (
       let e : held_of (Shut s j ∷ fs) j ≡ 0 = ap (worth_of (Shut s j ∷ fs) j) (newest_above fs s j (omega arith) ∙ z) in
       omega arith)
-    | inr some ↦ (
+  | inr some ↦ (
       let e = shut_now fs s j (omega arith) some in
       let more : newest_of fs j ≢ 0 = λ z. some (sym equal ∙ z) in
       let low = floor_low k fs lawful (newest_of fs j) in
       let same : floor_of fs s ≡ floor_of fs (newest_of fs j) = ap (floor_of fs) (sym equal) in
       elim (cases_Bool (was_shut fs (newest_of fs j) j)) [
-          inl t ↦ omega (arith, worth_shut fs j (newest_of fs j) more t)
+        | inl t ↦ omega (arith, worth_shut fs j (newest_of fs j) more t)
         | inr f ↦ omega (arith, worth_open fs j (newest_of fs j) more f)
-        ])
-    ]
-
+      ])
+]

@@ -13,3 +13,9 @@ pub mod Holds
 pub mod Within
 pub mod Worlds
 pub mod Sums
+pub mod Drops
+pub mod Answered
+pub mod Served
+pub mod EveryPasts
+pub mod Runs
+pub mod Stories

@@ -18,6 +18,6 @@ spacing_bounds r rate some = spacing_range r (spacing_of r) rate some (spacing_l
 
 pub min_rate : (a b : ℕ) → IsRate a → IsRate b → IsRate (min a b)
 min_rate a b x y = elim (cases_lt a b) [
-      inl lt ↦ (let is : min a b ≡ a = omega arith in subst IsRate (sym is) x)
-    | inr ge ↦ (let is : min a b ≡ b = omega arith in subst IsRate (sym is) y)
-    ]
+  | inl lt ↦ (let is : min a b ≡ a = omega arith in subst IsRate (sym is) x)
+  | inr ge ↦ (let is : min a b ≡ b = omega arith in subst IsRate (sym is) y)
+]

@@ -41,15 +41,15 @@ is_hop_tells k j e = grind (arith, nat_tests)
 
 pub request_at_tells : (fs : List Fact) (s j : ℕ) → 1 ≤ j → request_is_at fs s j ≡ true → IsAtHop fs s j
 request_at_tells fs s j low e = elim (cases_eq j 1) [
-      inl h ↦ inl (h, (sym (cond-true _ _ _ (eq-eqb j 1 h)) ∙ e))
-    | inr h ↦ inr (j - 1, omega arith, omega arith, (sym (cond-false _ _ _ (ne_eqb j 1 h)) ∙ e))
-    ]
+  | inl h ↦ inl (h, (sym (cond-true _ _ _ (eq-eqb j 1 h)) ∙ e))
+  | inr h ↦ inr (j - 1, omega arith, omega arith, (sym (cond-false _ _ _ (ne_eqb j 1 h)) ∙ e))
+]
 
 pub yes_at_tells : (k : ℕ) (fs : List Fact) (s j : ℕ) → yes_is_at k fs s j ≡ true → IsYesAtHop k fs s j
 yes_at_tells k fs s j e = elim (cases_eq j k) [
-      inl h ↦ inl (h, (sym (cond-true _ _ _ (eq-eqb j k h)) ∙ e))
-    | inr h ↦ inr (sym (cond-false _ _ _ (ne_eqb j k h)) ∙ e)
-    ]
+  | inl h ↦ inl (h, (sym (cond-true _ _ _ (eq-eqb j k h)) ∙ e))
+  | inr h ↦ inr (sym (cond-false _ _ _ (ne_eqb j k h)) ∙ e)
+]
 
 delivered_lawful : (k : Route) (fs : List Fact) (s j : ℕ) → IsAtHop fs s j → 1 ≤ j → IsLawful k fs → IsLawful k (delivery j s ++ fs)
 delivered_lawful k fs s j at low lawful =
@@ -90,12 +90,14 @@ request_lawful : (k : Route) (vc : Channel) (reserved capacity : ℕ) (fs : List
 request_lawful k vc reserved capacity fs lawful s j hop at Pass e =
     let tells = decided_pass vc fs reserved capacity j s e in
     let fresh : (newest_of fs j < s) ⊎ ((newest_of fs j ≡ s) × (was_shut fs s j ≡ false)) =
-        elim tells [ inl above ↦ inl above.0 | inr equal ↦ inr (equal.0, subst (λ n. was_shut fs n j ≡ false) equal.0 equal.1) ] in
+    elim tells [ inl above ↦ inl above.0 | inr equal ↦ inr (equal.0, subst (λ n. was_shut fs n j ≡ false) equal.0 equal.1) ] in
     (delivered_may s j fs (λ (gs : List Fact). MayFollow k gs (Passed s j)) (λ first. (at, hop.0, hop.1, fresh, first)) (λ there. (at, hop.0, hop.1, fresh, there)), delivered_lawful k fs s j at hop.0 lawful)
 request_lawful k vc reserved capacity fs lawful s j hop at (Refuse answer) e =
-    let tells = decided_refuse vc fs reserved capacity j s answer e in
-    (delivered_may s j fs (λ (gs : List Fact). MayFollow k gs (Shut s j)) (λ first. (hop.0, hop.1, elim tells [ inl above ↦ inl (at, above.0, above.1, first) | inr equal ↦ inr (inl (subst (λ n. was_shut fs n j ≡ true) equal.0 equal.1)) ]))
-     (λ there. (hop.0, hop.1, elim tells [ inl above ↦ inl (at, above.0, above.1, there) | inr equal ↦ inr (inl (subst (λ n. was_shut fs n j ≡ true) equal.0 equal.1)) ])), delivered_lawful k fs s j at hop.0 lawful)
+    let tells = decided_refuse vc fs reserved capacity j s answer e in (
+      delivered_may s j fs (λ (gs : List Fact). MayFollow k gs (Shut s j)) (λ first. (hop.0, hop.1, elim tells [ inl above ↦ inl (at, above.0, above.1, first) | inr equal ↦ inr (inl (subst (λ n. was_shut fs n j ≡ true) equal.0 equal.1)) ]))
+          (λ there. (hop.0, hop.1, elim tells [ inl above ↦ inl (at, above.0, above.1, there) | inr equal ↦ inr (inl (subst (λ n. was_shut fs n j ≡ true) equal.0 equal.1)) ])),
+      delivered_lawful k fs s j at hop.0 lawful,
+    )
 request_lawful k vc reserved capacity fs lawful s j hop at (Drop cause) e = delivered_lawful k fs s j at hop.0 lawful
 
 answer_lawful : (k : Route) (fs : List Fact) → IsLawful k fs → (s j : ℕ) (granted : Bool) → (1 ≤ j) × (j ≤ k.hops) → answer_is_at k.hops fs s j granted ≡ true → (d : Returned) →
@@ -120,17 +122,17 @@ asked_lawful : (k : Route) (fs : List Fact) → IsLawful k fs → (vc : Channel)
 asked_lawful k fs lawful vc c r Works rate =
     cond_both (last_of fs == number_max) _ _ (λ (o : Outcome). IsLawful k (facts_added fs (Ask c r Works) o ++ fs)) (λ e. lawful)
     (λ e. (
-        let differ = eqb-false (last_of fs) number_max e in
-        let below : last_of fs + 1 ≤ number_max = omega (arith, stored_within k fs lawful, (asked_last k fs lawful).0) in
-        ((refl, omega arith, refl, refl, rate), ((refl, below), lawful))))
+    let differ = eqb-false (last_of fs) number_max e in
+    let below : last_of fs + 1 ≤ number_max = omega (arith, stored_within k fs lawful, (asked_last k fs lawful).0) in
+    ((refl, omega arith, refl, refl, rate), ((refl, below), lawful))))
 asked_lawful k fs lawful vc c r FailsBefore rate =
     cond_both (last_of fs == number_max) _ _ (λ (o : Outcome). IsLawful k (facts_added fs (Ask c r FailsBefore) o ++ fs)) (λ e. lawful) (λ e. lawful)
 asked_lawful k fs lawful vc c r FailsAfter rate =
     cond_both (last_of fs == number_max) _ _ (λ (o : Outcome). IsLawful k (facts_added fs (Ask c r FailsAfter) o ++ fs)) (λ e. lawful)
     (λ e. (
-        let differ = eqb-false (last_of fs) number_max e in
-        let below : last_of fs + 1 ≤ number_max = omega (arith, stored_within k fs lawful, (asked_last k fs lawful).0) in
-        ((refl, below), lawful)))
+    let differ = eqb-false (last_of fs) number_max e in
+    let below : last_of fs + 1 ≤ number_max = omega (arith, stored_within k fs lawful, (asked_last k fs lawful).0) in
+    ((refl, below), lawful)))
 
 pub down_adds : (fs : List Fact) (e : Event) (cause : Cause) → facts_added fs e (NotEnabled cause) ≡ []
 down_adds fs (Ask c r Works) cause = refl
@@ -158,9 +160,9 @@ emit_lawful k fs lawful c now =
     let P : Outcome → Type 0 = λ o. IsLawful k (facts_added fs (Emit c now) o ++ fs) in
     cond_both (nat_lt now (clock_of fs)) _ _ P (λ e. lawful)
     (λ e. cond_both (nat_lt emit_max now) _ _ P (λ e2. lawful)
-        (λ e2. cond_both (rate_of fs == 0) _ _ P (λ e3. lawful)
-            (λ e3. cond_both (nat_lt now (next_of fs)) _ _ P (λ e4. lawful)
-                (λ e4. ((refl, refl, eqb-false (rate_of fs) 0 e3, ltb-false now (clock_of fs) e, ltb-false now (next_of fs) e4, ltb-false emit_max now e2), lawful)))))
+    (λ e2. cond_both (rate_of fs == 0) _ _ P (λ e3. lawful)
+    (λ e3. cond_both (nat_lt now (next_of fs)) _ _ P (λ e4. lawful)
+    (λ e4. ((refl, refl, eqb-false (rate_of fs) 0 e3, ltb-false now (clock_of fs) e, ltb-false now (next_of fs) e4, ltb-false emit_max now e2), lawful)))))
 
 -- what it tells that a cell is in time
 pub in_time_tells : (delay tau : ℕ) (fs : List Fact) (n a : ℕ) → is_in_time delay tau fs n a ≡ true → (moment_of fs n + delay ≤ a) × (a ≤ moment_of fs n + delay + tau)
@@ -171,11 +173,11 @@ arrive_lawful conn fs lawful c n a =
     let P : Outcome → Type 0 = λ o. IsLawful (route_of conn) (facts_added fs (Arrive c n a) o ++ fs) in
     cond_both (not (nat_lt n (emitted_of fs))) _ _ P (λ e. lawful)
     (λ e. cond_both (nat_lt n (fence_of fs)) _ _ P (λ e2. lawful)
-        (λ e2. cond_both (not (is_in_time conn.delay conn.tau fs n a)) _ _ P (λ e3. lawful)
-            (λ e3. cond_both (nat_lt a (last_arrival_of fs)) _ _ P (λ e4. lawful)
-                (λ e4. (
-                    let both = in_time_tells conn.delay conn.tau fs n a (not-false _ e3) in
-                    ((ltb-true n (emitted_of fs) (not-false _ e), ltb-false n (fence_of fs) e2, both.0, both.1, ltb-false a (last_arrival_of fs) e4, refl, refl), lawful))))))
+    (λ e2. cond_both (not (is_in_time conn.delay conn.tau fs n a)) _ _ P (λ e3. lawful)
+    (λ e3. cond_both (nat_lt a (last_arrival_of fs)) _ _ P (λ e4. lawful)
+    (λ e4. (
+    let both = in_time_tells conn.delay conn.tau fs n a (not-false _ e3) in
+    ((ltb-true n (emitted_of fs) (not-false _ e), ltb-false n (fence_of fs) e2, both.0, both.1, ltb-false a (last_arrival_of fs) e4, refl, refl), lawful))))))
 
 -- what an event adds is lawful
 pub step_lawful : (conn : Conn) (reserved capacity : ℕ) (fs : List Fact) → IsLawful (route_of conn) fs → (e : Event) → AsksRate e → IsLawful (route_of conn) (facts_added fs e (answer_by conn reserved capacity fs e) ++ fs)
@@ -190,18 +192,18 @@ step_lawful conn reserved capacity fs lawful (Request c j s) rate =
     let P : Outcome → Type 0 = λ o. IsLawful (route_of conn) (facts_added fs (Request c j s) o ++ fs) in
     cond_both (not (is_hop (length conn.path) j)) _ _ P (λ e. lawful)
     (λ e. (
-        let hop = is_hop_tells (length conn.path) j (not-false _ e) in
-        cond_both (not (request_is_at fs s j)) _ _ P (λ e2. lawful)
-        (λ e2. request_lawful (route_of conn) conn.vc reserved capacity fs lawful s j hop (request_at_tells fs s j hop.0 (not-false _ e2)) _ refl)))
+    let hop = is_hop_tells (length conn.path) j (not-false _ e) in
+    cond_both (not (request_is_at fs s j)) _ _ P (λ e2. lawful)
+    (λ e2. request_lawful (route_of conn) conn.vc reserved capacity fs lawful s j hop (request_at_tells fs s j hop.0 (not-false _ e2)) _ refl)))
 step_lawful conn reserved capacity fs lawful (Turn c s) rate =
     cond_both (not (request_is_through (length conn.path) fs s)) _ _ (λ (o : Outcome). IsLawful (route_of conn) (facts_added fs (Turn c s) o ++ fs)) (λ e. lawful) (λ e. (not-false _ e, lawful))
 step_lawful conn reserved capacity fs lawful (Answer c j s granted) rate =
     let P : Outcome → Type 0 = λ o. IsLawful (route_of conn) (facts_added fs (Answer c j s granted) o ++ fs) in
     cond_both (not (is_hop (length conn.path) j)) _ _ P (λ e. lawful)
     (λ e. (
-        let hop = is_hop_tells (length conn.path) j (not-false _ e) in
-        cond_both (not (answer_is_at (length conn.path) fs s j granted)) _ _ P (λ e2. lawful)
-        (λ e2. answer_lawful (route_of conn) fs lawful s j granted hop (not-false _ e2) _ refl)))
+    let hop = is_hop_tells (length conn.path) j (not-false _ e) in
+    cond_both (not (answer_is_at (length conn.path) fs s j granted)) _ _ P (λ e2. lawful)
+    (λ e2. answer_lawful (route_of conn) fs lawful s j granted hop (not-false _ e2) _ refl)))
 step_lawful conn reserved capacity fs lawful (Told c s granted) rate =
     cond_both (not (answer_is_home fs s granted)) _ _ (λ (o : Outcome). IsLawful (route_of conn) (facts_added fs (Told c s granted) o ++ fs)) (λ e. lawful)
     (λ e. told_lawful (route_of conn) fs lawful c s granted (not-false _ e) (state_of fs) refl)

@@ -70,20 +70,20 @@ numbered_zero f n (conn ∷ conns) none = omega (arith, numbered_cons f n conn c
 pub hop_of-port : (path : List ℕ) (p : ℕ) → hop_of path p ≢ 0 → slice_index path (hop_of path p - 1) ≡ p
 hop_of-port [] p some = absurd (some refl)
 hop_of-port (q ∷ path) p some = elim (cases_eq q p) [
-      inl same ↦ (
+  | inl same ↦ (
       let one : hop_of (q ∷ path) p ≡ 1 = cond-true _ _ _ (eq-eqb q p same) in
       let at : hop_of (q ∷ path) p - 1 ≡ 0 = omega arith in
       ap (slice_index (q ∷ path)) at ∙ same)
-    | inr differ ↦ (
+  | inr differ ↦ (
       let rest : hop_of (q ∷ path) p ≡ (if hop_of path p == 0 then 0 else hop_of path p + 1) = cond-false _ _ _ (ne_eqb q p differ) in
       elim (cases_eq (hop_of path p) 0) [
-          inl z ↦ absurd (some (rest ∙ cond-true _ _ _ (eq-eqb _ _ z)))
+        | inl z ↦ absurd (some (rest ∙ cond-true _ _ _ (eq-eqb _ _ z)))
         | inr more ↦ (
-          let e : hop_of (q ∷ path) p ≡ hop_of path p + 1 = rest ∙ cond-false _ _ _ (ne_eqb _ _ more) in
-          let at : hop_of (q ∷ path) p - 1 ≡ suc (hop_of path p - 1) = omega arith in
-          ap (slice_index (q ∷ path)) at ∙ hop_of-port path p more)
-        ])
-    ]
+            let e : hop_of (q ∷ path) p ≡ hop_of path p + 1 = rest ∙ cond-false _ _ _ (ne_eqb _ _ more) in
+            let at : hop_of (q ∷ path) p - 1 ≡ suc (hop_of path p - 1) = omega arith in
+            ap (slice_index (q ∷ path)) at ∙ hop_of-port path p more)
+      ])
+]
 
 port_of-hop : (path : List ℕ) (e : Event) → hop_to e ≢ 0 → port_of path e ≡ slice_index path (hop_to e - 1)
 port_of-hop path (Request c j s) some = refl
@@ -108,34 +108,34 @@ holding past p = λ numbered. held_on (facts_of numbered.0 past) numbered.1.path
 -- what the connection of an event holds on a port after it
 on_port : (net : Topology) (past : List ConnectionFact) → AllLawful net past → (e : Event) (p : ℕ) (conn : Conn) → conn_at net (conn_of e) ≡ Some conn →
     (let old = facts_of (conn_of e) past in
-     let q = port_of conn.path e in
-     let new = facts_added old e (answer_by conn (reserved_on net past q) (slice_index net.capacities q) old e) ++ old in
-     (held_on new conn.path p ≤ held_on old conn.path p) ⊎ (reserved_on net past p - held_on old conn.path p + held_on new conn.path p ≤ slice_index net.capacities p))
+    let q = port_of conn.path e in
+    let new = facts_added old e (answer_by conn (reserved_on net past q) (slice_index net.capacities q) old e) ++ old in
+    (held_on new conn.path p ≤ held_on old conn.path p) ⊎ (reserved_on net past p - held_on old conn.path p + held_on new conn.path p ≤ slice_index net.capacities p))
 on_port net past lawful e p conn known =
     let path = conn.path in
     let old = facts_of (conn_of e) past in
     let q = port_of path e in
     let new = facts_added old e (answer_by conn (reserved_on net past q) (slice_index net.capacities q) old e) ++ old in
     elim (cases_eq (hop_of path p) 0) [
-      inl z ↦ (
-      let a : held_on new path p ≡ 0 = cond-true _ _ _ (eq-eqb _ _ z) in
-      inl (omega (arith, a)))
-    | inr some ↦ (
-      let a : held_on new path p ≡ held_of new (hop_of path p) = cond-false _ _ _ (ne_eqb _ _ some) in
-      let b : held_on old path p ≡ held_of old (hop_of path p) = cond-false _ _ _ (ne_eqb _ _ some) in
-      elim (step_within conn (reserved_on net past q) (slice_index net.capacities q) old (lawful_at net past lawful (conn_of e) conn known) e (hop_of path p)) [
-          inl less ↦ inl (omega (arith, a, b, less))
-        | inr fits ↦ (
-          let here : hop_to e ≢ 0 = λ z. some (sym fits.0 ∙ z) in
-          let port : q ≡ p = port_of-hop path e here ∙ ap (λ h. slice_index path (h - 1)) fits.0 ∙ hop_of-port path p some in
-          inr (rw (a, b) (subst (λ r. reserved_on net past r - held_of old (hop_of path p) + held_of new (hop_of path p) ≤ slice_index net.capacities r) port fits.1)))
-        ])
+      | inl z ↦ (
+          let a : held_on new path p ≡ 0 = cond-true _ _ _ (eq-eqb _ _ z) in
+          inl (omega (arith, a)))
+      | inr some ↦ (
+          let a : held_on new path p ≡ held_of new (hop_of path p) = cond-false _ _ _ (ne_eqb _ _ some) in
+          let b : held_on old path p ≡ held_of old (hop_of path p) = cond-false _ _ _ (ne_eqb _ _ some) in
+          elim (step_within conn (reserved_on net past q) (slice_index net.capacities q) old (lawful_at net past lawful (conn_of e) conn known) e (hop_of path p)) [
+            | inl less ↦ inl (omega (arith, a, b, less))
+            | inr fits ↦ (
+                let here : hop_to e ≢ 0 = λ z. some (sym fits.0 ∙ z) in
+                let port : q ≡ p = port_of-hop path e here ∙ ap (λ h. slice_index path (h - 1)) fits.0 ∙ hop_of-port path p some in
+                inr (rw (a, b) (subst (λ r. reserved_on net past r - held_of old (hop_of path p) + held_of new (hop_of path p) ≤ slice_index net.capacities r) port fits.1)))
+          ])
     ]
 
 pub after_event_within : (net : Topology) (past : List ConnectionFact) → AllLawful net past → AllWithin net past → (e : Event) → AllWithin net (after_event net past e)
 after_event_within net past lawful within e p = elim (cases_option (conn_at net (conn_of e))) [
-      inl unknown ↦ subst (λ v. reserved_on net v p ≤ slice_index net.capacities p) (sym (after_event-unknown net past e unknown)) (within p)
-    | inr known ↦ (
+  | inl unknown ↦ subst (λ v. reserved_on net v p ≤ slice_index net.capacities p) (sym (after_event-unknown net past e unknown)) (within p)
+  | inr known ↦ (
       let c = conn_of e in
       let conn = known.0 in
       let after = after_event net past e in
@@ -148,10 +148,10 @@ after_event_within net past lawful within e p = elim (cases_option (conn_at net 
       let mine = ap (λ (l : List Fact). held_on l conn.path p) now_is in
       let old = within p in
       elim (on_port net past lawful e p conn known.1) [
-          inl less ↦ omega (arith, moved, least, old, less, mine)
+        | inl less ↦ omega (arith, moved, least, old, less, mine)
         | inr fits ↦ omega (arith, moved, least, old, fits, mine)
-        ])
-    ]
+      ])
+]
 
 held_on-nothing : (path : List ℕ) (p : ℕ) → held_on [] path p ≡ 0
 held_on-nothing path p = cond_both (hop_of path p == 0) 0 (held_of [] (hop_of path p)) (λ (n : ℕ). n ≡ 0) (λ e. refl) (λ e. refl)

@@ -54,31 +54,31 @@ held_shut_delivered fs s j i = cond_both (j == 1) (Delivered s ∷ []) [] (λ (l
 request_within : (k : Route) (vc : Channel) (reserved capacity : ℕ) (fs : List Fact) → IsLawful k fs → (s j i : ℕ) → (d : Onward) →
     decided vc fs reserved capacity j s ≡ d → IsWithin reserved capacity j fs (request_adds j s d ++ fs) i
 request_within k vc reserved capacity fs lawful s j i Pass e = elim (cases_eq j i) [
-      inr differ ↦ inl (omega (arith, held_passed_delivered fs s j i, passed_other fs s j i differ))
-    | inl same ↦ subst (λ q. IsWithin reserved capacity j fs (Passed s j ∷ (delivery j s ++ fs)) q) same (
+  | inr differ ↦ inl (omega (arith, held_passed_delivered fs s j i, passed_other fs s j i differ))
+  | inl same ↦ subst (λ q. IsWithin reserved capacity j fs (Passed s j ∷ (delivery j s ++ fs)) q) same (
       elim (decided_pass vc fs reserved capacity j s e) [
-          inl above ↦ inr (refl, (let a = passed_above fs s j above.0 in let b = held_passed_delivered fs s j j in omega (arith, a, b, above.2)))
+        | inl above ↦ inr (refl, (let a = passed_above fs s j above.0 in let b = held_passed_delivered fs s j j in omega (arith, a, b, above.2)))
         | inr equal ↦ inl (omega (arith, held_passed_delivered fs s j j, passed_again fs s j equal.0))
-        ])
-    ]
+      ])
+]
 request_within k vc reserved capacity fs lawful s j i (Refuse answer) e = elim (cases_eq j i) [
-      inr differ ↦ inl (omega (arith, held_shut_delivered fs s j i, shut_other fs s j i differ))
-    | inl same ↦ subst (λ q. IsWithin reserved capacity j fs (Shut s j ∷ (delivery j s ++ fs)) q) same (
+  | inr differ ↦ inl (omega (arith, held_shut_delivered fs s j i, shut_other fs s j i differ))
+  | inl same ↦ subst (λ q. IsWithin reserved capacity j fs (Shut s j ∷ (delivery j s ++ fs)) q) same (
       elim (decided_refuse vc fs reserved capacity j s answer e) [
-          inl above ↦ inl (omega (arith, held_shut_delivered fs s j j, shut_now fs s j (omega arith) (λ z. omega arith), above.1))
+        | inl above ↦ inl (omega (arith, held_shut_delivered fs s j j, shut_now fs s j (omega arith) (λ z. omega arith), above.1))
         | inr equal ↦ inl (omega (arith, held_shut_delivered fs s j j, shut_again k fs lawful s j equal.0))
-        ])
-    ]
+      ])
+]
 request_within k vc reserved capacity fs lawful s j i (Drop cause) e = inl (omega (arith, held_delivered fs s j i))
 
 answer_within : (k : Route) (reserved capacity : ℕ) (fs : List Fact) → IsLawful k fs → (s j i : ℕ) (granted : Bool) → (d : Returned) →
     decided_back fs j s granted ≡ d → IsWithin reserved capacity 0 fs (answer_adds j s granted d ++ fs) i
 answer_within k reserved capacity fs lawful s j i true PassBack e = inl (omega arith)
 answer_within k reserved capacity fs lawful s j i false PassBack e = elim (cases_eq j i) [
-      inr differ ↦ inl (omega (arith, shut_other fs s j i differ))
-    | inl same ↦ subst (λ q. IsWithin reserved capacity 0 fs (Shut s j ∷ fs) q) same (
+  | inr differ ↦ inl (omega (arith, shut_other fs s j i differ))
+  | inl same ↦ subst (λ q. IsWithin reserved capacity 0 fs (Shut s j ∷ fs) q) same (
       inl (shut_again k fs lawful s j (decided_back_pass fs j s false e)))
-    ]
+]
 answer_within k reserved capacity fs lawful s j i true (DropBack cause) e = inl (omega arith)
 answer_within k reserved capacity fs lawful s j i false (DropBack cause) e = inl (omega arith)
 
@@ -127,16 +127,16 @@ emit_within reserved capacity fs c now i =
     let P : Outcome → Type 0 = λ o. IsWithin reserved capacity 0 fs (facts_added fs (Emit c now) o ++ fs) i in
     cond_both (nat_lt now (clock_of fs)) _ _ P (λ e. inl (omega arith))
     (λ e. cond_both (nat_lt emit_max now) _ _ P (λ e2. inl (omega arith))
-        (λ e2. cond_both (rate_of fs == 0) _ _ P (λ e3. inl (omega arith))
-            (λ e3. cond_both (nat_lt now (next_of fs)) _ _ P (λ e4. inl (omega arith)) (λ e4. inl (omega arith)))))
+    (λ e2. cond_both (rate_of fs == 0) _ _ P (λ e3. inl (omega arith))
+    (λ e3. cond_both (nat_lt now (next_of fs)) _ _ P (λ e4. inl (omega arith)) (λ e4. inl (omega arith)))))
 
 arrive_within : (conn : Conn) (reserved capacity : ℕ) (fs : List Fact) (c n a i : ℕ) → IsWithin reserved capacity 0 fs (facts_added fs (Arrive c n a) (arrive_answer conn fs n a) ++ fs) i
 arrive_within conn reserved capacity fs c n a i =
     let P : Outcome → Type 0 = λ o. IsWithin reserved capacity 0 fs (facts_added fs (Arrive c n a) o ++ fs) i in
     cond_both (not (nat_lt n (emitted_of fs))) _ _ P (λ e. inl (omega arith))
     (λ e. cond_both (nat_lt n (fence_of fs)) _ _ P (λ e2. inl (omega arith))
-        (λ e2. cond_both (not (is_in_time conn.delay conn.tau fs n a)) _ _ P (λ e3. inl (omega arith))
-            (λ e3. cond_both (nat_lt a (last_arrival_of fs)) _ _ P (λ e4. inl (omega arith)) (λ e4. inl (omega arith)))))
+    (λ e2. cond_both (not (is_in_time conn.delay conn.tau fs n a)) _ _ P (λ e3. inl (omega arith))
+    (λ e3. cond_both (nat_lt a (last_arrival_of fs)) _ _ P (λ e4. inl (omega arith)) (λ e4. inl (omega arith)))))
 
 pub step_within : (conn : Conn) (reserved capacity : ℕ) (fs : List Fact) → IsLawful (route_of conn) fs → (e : Event) (i : ℕ) → IsWithin reserved capacity (hop_to e) fs (facts_added fs e (answer_by conn reserved capacity fs e) ++ fs) i
 step_within conn reserved capacity fs lawful (Start c now) i = start_within reserved capacity fs c now i (state_of fs)

@@ -1,6 +1,6 @@
 -- What the facts of each connection say after every list of events.
-use Rattle.std.proofs.Common.{◌≡◌, ◌≢◌, ℕ, suc, ◌⊎◌, inl, inr, refl, ap, List, [], ◌∷◌, ◌++◌, ◌∙◌, sym, subst, arith}
-use Rattle.std.specs.Prelude.{slice_index, All, Option, None, Some}
+use Rattle.std.proofs.Common.{◌≡◌, ◌≢◌, ℕ, zero, suc, ◌⊎◌, inl, inr, refl, ap, List, [], ◌∷◌, ◌++◌, ◌∙◌, sym, subst, arith}
+use Rattle.std.specs.Prelude.{slice_index, slice_get, All, Option, None, Some}
 use Rattle.std.proofs.lemmas.Bool.{ne_eqb, eq-eqb, cond-false, cond-true, cases_eq}
 use Rattle.abt_facts.specs.declared.fact.Fact.{Fact}
 use Rattle.abt_model.specs.declared.connection_fact.ConnectionFact.{ConnectionFact}
@@ -62,26 +62,26 @@ lawful_at net past lawful c conn known = subst (λ o. IsConnLawful o (facts_of c
 
 own_lawful : (net : Topology) (past : List ConnectionFact) → AllLawful net past → (e : Event) → AsksRate e → IsConnLawful (conn_at net (conn_of e)) (facts_of (conn_of e) (after_event net past e))
 own_lawful net past lawful e rate = elim (cases_option (conn_at net (conn_of e))) [
-      inl unknown ↦ subst (λ w. IsConnLawful (conn_at net (conn_of e)) (facts_of (conn_of e) w)) (sym (after_event-unknown net past e unknown)) (lawful (conn_of e))
-    | inr known ↦ (
+  | inl unknown ↦ subst (λ w. IsConnLawful (conn_at net (conn_of e)) (facts_of (conn_of e) w)) (sym (after_event-unknown net past e unknown)) (lawful (conn_of e))
+  | inr known ↦ (
       let conn = known.0 in
       let fs = facts_of (conn_of e) past in
       let is = facts_of-own net past e ∙ ap (λ (o : Outcome). facts_added fs e o ++ fs) (outcome_of-known net past e conn known.1) in
       subst (λ o. IsConnLawful o (facts_of (conn_of e) (after_event net past e))) (sym known.1) (
       subst (IsLawful (route_of conn)) (sym is) (step_lawful conn _ _ fs (lawful_at net past lawful (conn_of e) conn known.1) e rate)))
-    ]
+]
 
 pub after_event_lawful : (net : Topology) (past : List ConnectionFact) → AllLawful net past → (e : Event) → AsksRate e → AllLawful net (after_event net past e)
 after_event_lawful net past lawful e rate d = elim (cases_eq (conn_of e) d) [
-      inl same ↦ subst (λ q. IsConnLawful (conn_at net q) (facts_of q (after_event net past e))) same (own_lawful net past lawful e rate)
-    | inr differ ↦ subst (IsConnLawful (conn_at net d)) (sym (facts_of-other net past e d differ)) (lawful d)
-    ]
+  | inl same ↦ subst (λ q. IsConnLawful (conn_at net q) (facts_of q (after_event net past e))) same (own_lawful net past lawful e rate)
+  | inr differ ↦ subst (IsConnLawful (conn_at net d)) (sym (facts_of-other net past e d differ)) (lawful d)
+]
 
 pub nothing_lawful : (net : Topology) → AllLawful net []
 nothing_lawful net c = elim (cases_option (conn_at net c)) [
-      inl unknown ↦ subst (λ o. IsConnLawful o []) (sym unknown) refl
-    | inr known ↦ subst (λ o. IsConnLawful o []) (sym known.1) tt
-    ]
+  | inl unknown ↦ subst (λ o. IsConnLawful o []) (sym unknown) refl
+  | inr known ↦ subst (λ o. IsConnLawful o []) (sym known.1) tt
+]
 
 -- each asked rate is a rate, of the first event and of the others
 pub first_asks : (e : Event) (es : List Event) → All AsksRate (e ∷ es) → AsksRate e
@@ -89,3 +89,9 @@ first_asks e es all = all 0 e (omega arith)
 
 pub others_ask : (e : Event) (es : List Event) → All AsksRate (e ∷ es) → All AsksRate es
 others_ask e es all = λ k d low. all (suc k) d (omega arith)
+
+-- what holds of each element holds of the one at a place
+pub all_at : {A : Type 0} → (P : A → Type 0) → (xs : List A) (i : ℕ) (x : A) → All P xs → slice_get xs i ≡ Some x → P x
+all_at P [] i x all e = absurd (cc)
+all_at P (y ∷ xs) zero x all e = (let is : y ≡ x = cc in subst P is (all 0 y (omega arith)))
+all_at P (y ∷ xs) (suc i) x all e = all_at P xs i x (λ k d low. all (suc k) d (omega arith)) e

@@ -6,3 +6,4 @@ pub mod Answers
 pub mod Outcomes
 pub mod Run
 pub mod Safe
+pub mod Promises
