@@ -7,6 +7,7 @@ use Rattle.abt_cell.specs.Channel.{Channel}
 use Rattle.abt_cell.specs.Message.{Terms, Reply}
 use Rattle.abt_cell.specs.declared.layout.TheConstants.{CELL_LENGTH, HEADER, PAYLOAD, FLAGS, ASK, FLOOR, UNUSED, SEQ, FILLER, CHECK, CONGESTION}
 
+-- the octets of a cell: 52 numbers of eight bits
 pub record IsCell (cell : List ℕ) : Type 0 where
   pub long : length cell ≡ CELL_LENGTH
   pub octets : (place : ℕ) → slice_index cell place < 2 ^ 8

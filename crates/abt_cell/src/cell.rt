@@ -65,7 +65,7 @@ impl Cell {
         ((self.header() >> 1) % 8) as u8
     }
 
-    /// The cell loss priority (I.361): whether the bit is set, and the cell is the first to be lost.
+    /// Whether the bit of the cell loss priority is set (I.361): such a cell may be lost before others.
     pub fn clp(&self) -> bool
         ensures { IsTrue result ↔ (clp_of self.now ≡ 1) }
     {

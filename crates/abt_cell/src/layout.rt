@@ -43,7 +43,7 @@ pub(crate) const CHECK: usize = 50;
 /// The flag that is set in an answer, which goes backward.
 pub(crate) const DIRECTION: u32 = 7;
 
-/// The flag of a source that may not send, which is written 0.
+/// The traffic management flag, which is written 0 and says nothing here.
 pub(crate) const TRAFFIC_MANAGEMENT: u32 = 6;
 
 /// The flag that is set in a no.
