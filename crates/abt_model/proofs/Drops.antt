@@ -23,7 +23,8 @@ use Rattle.abt_facts.specs.Sent.{was_passed, was_shut, was_turned, request_is_at
 use Rattle.abt_facts.specs.Hop.{newest_of, held_of}
 use Rattle.abt_facts.specs.Cells.{emitted_of, last_arrival_of, fence_of, is_in_time}
 use Rattle.abt_cell.specs.Message.{Reply, Terms}
-use Rattle.abt_net.specs.Topology.{Topology, conn_at}
+use Rattle.abt_net.specs.Topology.{Topology}
+use Rattle.abt_model.specs.Conns.{conn_at}
 use Rattle.abt_cell.specs.Channel.{Channel}
 use Rattle.abt_model.specs.Past.{facts_of}
 use Rattle.abt_model.specs.Decision.{request_of, answer_to}

@@ -1,3 +1,4 @@
+pub mod Conns
 pub mod Events
 pub mod Past
 pub mod Reserved
