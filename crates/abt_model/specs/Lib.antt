@@ -7,4 +7,5 @@ pub mod Answers
 pub mod Outcomes
 pub mod Run
 pub mod Safe
+pub mod PortTable
 pub mod Promises
