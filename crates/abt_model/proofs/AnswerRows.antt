@@ -13,7 +13,7 @@ use Rattle.abt_keep.specs.declared.plan.StorePlan.{StorePlan}
 use Rattle.abt_keep.specs.declared.plan.StorePlan.TheVariants.{Works, FailsBefore, FailsAfter}
 use Rattle.abt_node.specs.declared.reply.Back.{Back as Returned}
 use Rattle.abt_node.specs.declared.reply.Back.TheVariants.{Pass as PassBack, Drop as DropBack}
-use Rattle.abt_node.specs.declared.reply.DropCause.TheVariants.{Stale, Conflict, FloorAbove}
+use Rattle.abt_node.specs.declared.reply.DropCause.TheVariants.{Stale, Conflict}
 use Rattle.abt_node.specs.declared.reply.Onward.{Onward}
 use Rattle.abt_node.specs.declared.reply.Onward.TheVariants.{Pass, Refuse, Drop}
 use Rattle.abt_model.specs.declared.outcome.Cause.TheVariants.{Down as IsDown}

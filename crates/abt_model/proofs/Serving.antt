@@ -6,7 +6,7 @@ use Rattle.abt_rate.specs.Rate.{spacing_of}
 use Rattle.abt_gcra.specs.declared.verdict.Verdict.{Verdict}
 use Rattle.abt_gcra.specs.declared.verdict.Verdict.TheVariants.{Conforming}
 use Rattle.abt_gcra.specs.Windows.{Arrival}
-use Rattle.abt_gcra.specs.Policing.{Policing, checked, policed, due_at}
+use Rattle.abt_gcra.specs.Policing.{Policing, policed, due_at}
 use Rattle.abt_gcra.proofs.PolicingLemmas.{checked_due}
 use Rattle.abt_facts.specs.declared.fact.Fact.{Fact}
 use Rattle.abt_facts.specs.declared.fact.Fact.TheVariants.{Arrived}
@@ -14,12 +14,9 @@ use Rattle.abt_model.specs.declared.connection_fact.ConnectionFact.{ConnectionFa
 use Rattle.abt_model.specs.declared.event.Event.TheVariants.{Arrive, Request, Answer}
 use Rattle.abt_model.specs.declared.outcome.Outcome.{Outcome}
 use Rattle.abt_net.specs.declared.conn.Conn.{Conn}
-use Rattle.abt_node.specs.declared.fault.ArriveFault.TheVariants as fault
-use Rattle.abt_node.specs.declared.fault.ArriveFault.{ArriveFault}
 use Rattle.abt_node.specs.declared.reply.Onward.{Onward}
 use Rattle.abt_node.specs.declared.reply.Back.{Back as Returned}
-use Rattle.abt_model.specs.declared.outcome.Cause.TheVariants.{Unknown, NotSent}
-use Rattle.abt_model.specs.declared.outcome.Outcome.TheVariants.{Arrived as HasArrived, Requested, Answered, NotEnabled}
+use Rattle.abt_model.specs.declared.outcome.Outcome.TheVariants.{Requested, Answered}
 use Rattle.abt_facts.specs.Sent.{request_is_at, answer_is_at}
 use Rattle.abt_facts.specs.Hop.{held_of}
 use Rattle.abt_facts.specs.Cells.{taken_of}
@@ -30,9 +27,8 @@ use Rattle.abt_model.specs.Decision.{request_of, answer_to}
 use Rattle.abt_model.specs.Answers.{is_hop, answer_by}
 use Rattle.abt_model.specs.Outcomes.{request_adds, answer_adds, facts_added, after_event}
 use Rattle.abt_model.specs.PortTable.{reservation_at, due_after, policing_by, kept_at, port_table, RequestsServed, AnswersServed, ArrivalsServed}
-use Rattle.abt_node.specs.Table as table
 use Rattle.abt_node.specs.Reservation.{Reservation, held_by, decision_of, answer_of}
-use Rattle.abt_node.specs.Table.{Connection, Table, held_at, sum_of, connection_at, with_connection, reply_by, table_by, reply_to, table_after, answer_by as answer_kept, table_by_answer, table_after_answer, arrival_by, arrival_of, arrival_at, policing_after, table_by_arrival, table_after_arrival}
+use Rattle.abt_node.specs.Table.{sum_of, connection_at, reply_by, table_by, reply_to, answer_by as answer_kept, table_by_answer, arrival_by, arrival_of, policing_after, table_by_arrival}
 use Rattle.abt_model.proofs.Chain.{at_asked, asked_last}
 use Rattle.abt_model.proofs.Sums.{hop_of-port}
 use Rattle.abt_model.proofs.Worlds.{facts_of-own, facts_of-other, outcome_of-known, AllLawful, lawful_at}

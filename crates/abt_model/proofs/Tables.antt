@@ -5,9 +5,9 @@ use Rattle.std.proofs.lemmas.Bool.{false≢true, ne_eqb, cond-false, cond-true, 
 use Rattle.std.specs.List.{slice_index_or, enumerate_from}
 use Rattle.std.specs.FinMap as finmap
 use Rattle.std.proofs.lemmas.List.Sums.{sum_by-cons}
-use Rattle.std.specs.Ordering.{is_eq, eq_by_cmp}
+use Rattle.std.specs.Ordering.{is_eq}
 use Rattle.std.specs.declared.cmp.Ordering.TheVariants.{Less, Equal, Greater}
-use Rattle.std.specs.FinMap.{FinMap, get, insert, values, entries, from_entries, find, put, get-from_entries, get-insert, get-entries, entries-insert, len-entries, len-empty, same_map}
+use Rattle.std.specs.FinMap.{FinMap, insert, values, entries, from_entries, find, put, get-from_entries, get-insert, get-entries, entries-insert, len-entries, len-empty, same_map}
 use Rattle.std.specs.FinMap.Entries.{by_order}
 use Rattle.abt_facts.specs.declared.fact.Fact.{Fact}
 use Rattle.abt_model.specs.declared.connection_fact.ConnectionFact.{ConnectionFact}
@@ -21,7 +21,7 @@ use Rattle.abt_model.specs.Past.{facts_of}
 use Rattle.abt_model.specs.Reserved.{hop_of}
 use Rattle.abt_model.specs.Outcomes.{conn_of, facts_added, after_event}
 use Rattle.abt_model.specs.PortTable.{kept_at, kept_from, port_table, hop_visited, TotalsAreReserved, TablesHaveRows, TablesStay}
-use Rattle.abt_node.specs.Table.{Connection, Table, held_at, sum_of, connection_at, with_connection}
+use Rattle.abt_node.specs.Table.{Connection, held_at, connection_at, with_connection}
 use Rattle.abt_model.proofs.Sums.{numbered_sum, holding}
 use Rattle.abt_model.proofs.Worlds.{facts_of-own, facts_of-other, outcome_of-known, AllLawful, lawful_at}
 use Rattle.abt_model.proofs.AnswerRows.{step_stays}

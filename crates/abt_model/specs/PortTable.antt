@@ -1,6 +1,6 @@
 -- The table that the facts of a net give a port: what each connection through it reserves and, at its first hop, what its policer
 -- keeps.
-use Rattle.std.specs.Prelude.{◌≡◌, ◌≢◌, ℕ, ◌+◌, ◌≤◌, ◌==◌, Bool, List, [], ◌∷◌, if◌then◌else◌, max, unwrap_or, slice_index, Option, None, Some, Result, Ok}
+use Rattle.std.specs.Prelude.{◌≡◌, ◌≢◌, ℕ, ◌+◌, ◌≤◌, ◌==◌, Bool, List, [], ◌∷◌, if◌then◌else◌, max, unwrap_or, slice_index, Option, None, Some, Ok}
 use Rattle.std.specs.FinMap.{from_entries}
 use Rattle.abt_cell.specs.Channel.{Channel}
 use Rattle.abt_gcra.specs.declared.verdict.Verdict.{Verdict}
