@@ -1,5 +1,5 @@
 -- What follows from the answers that a source hears.
-use Rattle.std.proofs.Common.{◌≡◌, ◌≢◌, ℕ, ◌-◌, ◌≤◌, ◌⊎◌, inl, inr, ap, true, false, List, [], ◌∷◌, ◌∙◌, sym, subst, arith}
+use Rattle.std.proofs.Common.{◌≡◌, ℕ, ◌-◌, ◌≤◌, ◌⊎◌, inl, inr, ap, true, false, List, [], ◌∷◌, ◌∙◌, sym, subst, arith}
 use Rattle.std.specs.Prelude.{◌==◌, not, if◌then◌else◌}
 use Rattle.std.proofs.lemmas.Bool.{false≢true, eqb-true, ne_eqb, cases_lt, false_from_ne_true, and_from, cond_both, not-false}
 use Rattle.abt_facts.specs.declared.fact.Fact.{Fact}
@@ -10,13 +10,14 @@ use Rattle.abt_model.specs.declared.outcome.Outcome.{Outcome}
 use Rattle.abt_net.specs.declared.conn.Conn.{Conn}
 use Rattle.abt_model.specs.declared.outcome.Cause.TheVariants.{NotSent}
 use Rattle.abt_model.specs.declared.outcome.Heard.{Heard as Hearing}
-use Rattle.abt_model.specs.declared.outcome.Heard.TheVariants.{Raised, Refused, Ignored}
+use Rattle.abt_model.specs.declared.outcome.Heard.TheVariants.{Raised, Ignored}
 use Rattle.abt_model.specs.declared.outcome.Outcome.TheVariants.{Told as HasTold, NotEnabled}
 use Rattle.abt_facts.specs.Requests.{was_asked, floor_of}
 use Rattle.abt_facts.specs.Source.{SourceState, Down, Idle, Asking, state_of, rate_of, last_of, yes_was_heard}
 use Rattle.abt_facts.specs.Sent.{was_shut, was_back, answer_is_home}
 use Rattle.abt_facts.specs.Hop.{newest_of, is_open_at}
-use Rattle.abt_net.specs.Topology.{Topology, conn_at}
+use Rattle.abt_net.specs.Topology.{Topology}
+use Rattle.abt_model.specs.Conns.{conn_at}
 use Rattle.abt_model.specs.Past.{facts_of}
 use Rattle.abt_model.specs.Answers.{hearing, told_answer}
 use Rattle.abt_model.specs.Promises.{YesWasSent, NoWasSent, OneAnswerEach, RatesWait, YesStandsEverywhere}

@@ -1,5 +1,5 @@
 -- No message is dropped since ports and sources disagree.
-use Rattle.std.proofs.Common.{◌≡◌, ◌≢◌, ℕ, ◌+◌, ◌-◌, ◌≤◌, ◌<◌, inl, inr, refl, ap, Bool, true, false, List, length, ◌∙◌, sym, arith}
+use Rattle.std.proofs.Common.{◌≡◌, ℕ, ◌+◌, ◌-◌, ◌≤◌, ◌<◌, inl, inr, refl, ap, Bool, true, false, List, length, ◌∙◌, sym, arith}
 use Rattle.std.specs.Prelude.{◌||◌, ◌&&◌, ◌==◌, not, nat_lt, nat_le, Option}
 use Rattle.std.proofs.lemmas.Bool.{false≢true, eqb-true, eq-eqb, false_from_ne_true, and_from, and_parts, cond_both, not-false, not-true, ltb-true, ltb-false, eqb-false}
 use Rattle.std.proofs.lemmas.Bool.Decides.{nat_tests}
@@ -12,18 +12,16 @@ use Rattle.abt_net.specs.declared.conn.Conn.{Conn}
 use Rattle.abt_keep.specs.declared.plan.StorePlan.{StorePlan}
 use Rattle.abt_keep.specs.declared.plan.StorePlan.TheVariants.{Works, FailsBefore, FailsAfter}
 use Rattle.abt_node.specs.declared.reply.Onward.{Onward}
-use Rattle.abt_node.specs.declared.reply.Onward.TheVariants.{Pass, Refuse, Drop}
 use Rattle.abt_node.specs.declared.reply.Back.{Back as Returned}
-use Rattle.abt_node.specs.declared.reply.Back.TheVariants.{Pass as PassBack, Drop as DropBack}
-use Rattle.abt_model.specs.declared.outcome.Cause.TheVariants.{Unknown}
-use Rattle.abt_model.specs.declared.outcome.Outcome.TheVariants.{Requested, Answered, Told as HasTold, NotEnabled}
+use Rattle.abt_model.specs.declared.outcome.Outcome.TheVariants.{Requested, Answered}
 use Rattle.abt_facts.specs.Requests.{floor_of, ask_of}
 use Rattle.abt_facts.specs.Source.{SourceState, Down, Idle, Asking, state_of, rate_of, last_of, clock_of, next_of}
 use Rattle.abt_facts.specs.Sent.{was_passed, was_shut, was_turned, request_is_at, answer_is_at, answer_is_home, request_is_through}
 use Rattle.abt_facts.specs.Hop.{newest_of, held_of}
 use Rattle.abt_facts.specs.Cells.{emitted_of, last_arrival_of, fence_of, is_in_time}
 use Rattle.abt_cell.specs.Message.{Reply, Terms}
-use Rattle.abt_net.specs.Topology.{Topology, conn_at}
+use Rattle.abt_net.specs.Topology.{Topology}
+use Rattle.abt_model.specs.Conns.{conn_at}
 use Rattle.abt_cell.specs.Channel.{Channel}
 use Rattle.abt_model.specs.Past.{facts_of}
 use Rattle.abt_model.specs.Decision.{request_of, answer_to}

@@ -1,11 +1,10 @@
 -- Which fact may follow which facts of one connection. All proofs on connections go by induction on such a list.
-use Rattle.std.proofs.Common.{◌≡◌, ◌≢◌, ℕ, ◌+◌, ◌≤◌, ◌<◌, ◌⊎◌, Bool, true, false, List, [], ◌∷◌, length, min}
+use Rattle.std.proofs.Common.{◌≡◌, ◌≢◌, ℕ, ◌+◌, ◌≤◌, ◌<◌, ◌⊎◌, true, false, List, [], ◌∷◌, length, min}
 use Rattle.abt_rate.specs.Rate.{IsRate}
-use Rattle.abt_gcra.specs.declared.verdict.Verdict.{Verdict}
 use Rattle.abt_net.specs.declared.conn.Conn.{Conn}
 use Rattle.abt_facts.specs.declared.fact.Fact.{Fact}
 use Rattle.abt_facts.specs.declared.fact.Fact.TheVariants.{Started, Crashed, Stored, Asked, Heard, Delivered, Passed, Shut, Turned, Back, Emitted, Arrived}
-use Rattle.abt_facts.specs.Requests.{was_asked, floor_of, ask_of}
+use Rattle.abt_facts.specs.Requests.{was_asked, floor_of}
 use Rattle.abt_facts.specs.Source.{Asking, state_of, rate_of, stored_of, last_of, clock_of, next_of}
 use Rattle.abt_facts.specs.Sent.{was_delivered, was_passed, was_shut, was_turned, was_back}
 use Rattle.abt_facts.specs.Hop.{newest_of, held_of}

@@ -19,3 +19,8 @@ pub mod Served
 pub mod EveryPasts
 pub mod Runs
 pub mod Stories
+pub mod Reservations
+pub mod AnswerRows
+pub mod Tables
+pub mod Serving
+pub mod EveryTable

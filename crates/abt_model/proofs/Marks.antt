@@ -1,5 +1,5 @@
 -- The marks of the requests that came to the first hop.
-use Rattle.std.proofs.Common.{◌≡◌, ◌≢◌, ℕ, ◌≤◌, ◌⊎◌, inl, inr, refl, true, List, [], ◌∷◌, arith}
+use Rattle.std.proofs.Common.{◌≡◌, ℕ, ◌≤◌, ◌⊎◌, inl, inr, refl, true, List, [], ◌∷◌, arith}
 use Rattle.std.proofs.lemmas.Bool.{false≢true, ne_eqb, cond-false}
 use Rattle.abt_facts.specs.declared.fact.Fact.{Fact}
 use Rattle.abt_facts.specs.declared.fact.Fact.TheVariants.{Asked, Delivered, Passed, Shut}

@@ -14,12 +14,12 @@ use Rattle.abt_model.specs.declared.connection_fact.ConnectionFact.{ConnectionFa
 use Rattle.abt_model.specs.declared.event.Event.TheVariants.{Arrive}
 use Rattle.abt_model.specs.declared.outcome.Outcome.{Outcome}
 use Rattle.abt_net.specs.declared.conn.Conn.{Conn}
-use Rattle.abt_model.specs.declared.outcome.Cause.TheVariants.{NotSent, Fenced, Delay, ClockBack}
-use Rattle.abt_model.specs.declared.outcome.Outcome.TheVariants.{Arrived as HasArrived, NotEnabled}
+use Rattle.abt_model.specs.declared.outcome.Outcome.TheVariants.{Arrived as HasArrived}
 use Rattle.abt_facts.specs.Source.{clock_of, hold_off, next_of}
 use Rattle.abt_facts.specs.Hop.{held_of}
 use Rattle.abt_facts.specs.Cells.{emitted_of, moment_of, last_arrival_of, fence_of, taken_of, verdict_at, is_in_time}
-use Rattle.abt_net.specs.Topology.{Topology, conn_at, IsWithinRules, IsConnWithin}
+use Rattle.abt_net.specs.Topology.{Topology, IsWithinRules, IsConnWithin}
+use Rattle.abt_model.specs.Conns.{conn_at}
 use Rattle.abt_model.specs.Past.{facts_of}
 use Rattle.abt_model.specs.Answers.{emit_max, arrive_answer}
 use Rattle.abt_model.specs.Promises.{ArrivalsConform, NextIsDue, CellsAreApart, ArrivalsInRange}

@@ -1,5 +1,5 @@
 -- Each event adds facts that may follow.
-use Rattle.std.proofs.Common.{◌≡◌, ◌≢◌, ℕ, ◌+◌, ◌-◌, ◌≤◌, ◌<◌, ◌⊎◌, inl, inr, refl, ap, Bool, true, false, List, [], ◌∷◌, ◌++◌, length, ◌∙◌, sym, subst, arith}
+use Rattle.std.proofs.Common.{◌≡◌, ℕ, ◌+◌, ◌-◌, ◌≤◌, ◌<◌, ◌⊎◌, inl, inr, refl, ap, Bool, true, false, List, [], ◌∷◌, ◌++◌, length, ◌∙◌, sym, subst, arith}
 use Rattle.std.specs.Prelude.{◌==◌, not, nat_lt}
 use Rattle.std.proofs.lemmas.Bool.{false≢true, or_left, eqb-true, ne_eqb, eq-eqb, cond-false, cond-true, cases_eq, and_parts, cond_both, not-false, ltb-true, ltb-false, eqb-false}
 use Rattle.std.proofs.lemmas.Bool.Decides.{nat_tests}
@@ -29,8 +29,8 @@ use Rattle.abt_facts.specs.Cells.{emitted_of, moment_of, last_arrival_of, fence_
 use Rattle.abt_cell.specs.Message.{Reply}
 use Rattle.abt_cell.specs.Channel.{Channel}
 use Rattle.abt_model.specs.Events.{AsksRate}
-use Rattle.abt_model.specs.Decision.{request_of, answer_to, request_decision, answer_decision}
-use Rattle.abt_model.specs.Answers.{emit_max, start_max, number_max, if_up, start_answer, next_request, stored_answer, ask_answer, again_answer, emit_answer, arrive_answer, hearing, told_answer, is_hop, answer_by}
+use Rattle.abt_model.specs.Decision.{request_of, answer_to}
+use Rattle.abt_model.specs.Answers.{emit_max, start_max, number_max, if_up, start_answer, ask_answer, emit_answer, arrive_answer, hearing, told_answer, is_hop, answer_by}
 use Rattle.abt_model.specs.Outcomes.{delivery, request_adds, answer_adds, facts_added}
 use Rattle.abt_model.proofs.Chain.{at_asked, asked_last, stored_within}
 use Rattle.abt_model.proofs.Decisions.{decide, decide_back, decide_pass, decide_refuse, decide_back_pass}

@@ -10,10 +10,9 @@ use Rattle.abt_model.specs.declared.event.Event.{Event}
 use Rattle.abt_model.specs.declared.event.Event.TheVariants.{Start, Ask, Again, Crash, Emit, Arrive, Request, Turn, Answer, Told}
 use Rattle.abt_model.specs.declared.outcome.Outcome.{Outcome}
 use Rattle.abt_net.specs.declared.conn.Conn.{Conn}
-use Rattle.abt_model.specs.declared.outcome.Cause.TheVariants.{Unknown}
-use Rattle.abt_model.specs.declared.outcome.Outcome.TheVariants.{NotEnabled}
 use Rattle.abt_facts.specs.Hop.{held_of}
-use Rattle.abt_net.specs.Topology.{Topology, conn_at}
+use Rattle.abt_net.specs.Topology.{Topology}
+use Rattle.abt_model.specs.Conns.{conn_at}
 use Rattle.abt_model.specs.Events.{AsksRate}
 use Rattle.abt_model.specs.Past.{facts_of}
 use Rattle.abt_model.specs.Reserved.{hop_of, held_on, reserved_on}

@@ -1,6 +1,6 @@
 -- What the events of one connection answer, by the connection's facts, the newest first (docs/FORMATS.md, "Events and
 -- outcomes"). The causes that stop an event are tried in the order of that table.
-use Rattle.std.specs.Prelude.{ℕ, ◌+◌, ◌-◌, ◌^◌, ◌==◌, ◌&&◌, not, nat_lt, nat_le, Bool, true, false, List, length, if◌then◌else◌, min, slice_index}
+use Rattle.std.specs.Prelude.{ℕ, ◌+◌, ◌-◌, ◌^◌, ◌==◌, ◌&&◌, not, nat_lt, nat_le, Bool, List, length, if◌then◌else◌, min}
 use Rattle.abt_rate.specs.Rate.{spacing_of}
 use Rattle.abt_cell.specs.Channel.{Channel}
 use Rattle.abt_cell.specs.Message.{Terms}
@@ -11,7 +11,6 @@ use Rattle.abt_source.specs.declared.fault.StartFault.TheVariants.{TimeRange as 
 use Rattle.abt_source.specs.declared.fault.AskFault.TheVariants.{SeqExhausted, Keep}
 use Rattle.abt_net.specs.declared.conn.Conn.{Conn}
 use Rattle.abt_facts.specs.declared.fact.Fact.{Fact}
-use Rattle.abt_facts.specs.Requests.{floor_of, ask_of}
 use Rattle.abt_facts.specs.Source.{SourceState, Down, Idle, Asking, state_of, rate_of, last_of, clock_of, hold_off, next_of}
 use Rattle.abt_facts.specs.Sent.{request_is_at, request_is_through, answer_is_at, answer_is_home}
 use Rattle.abt_facts.specs.Hop.{held_of}

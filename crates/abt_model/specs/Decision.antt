@@ -1,6 +1,6 @@
 -- What a hop does with a message, by the facts of its connection (docs/RULES.md, "Node"). A message of a net is that of its
 -- number: it has the floor and the asked rate of the ask.
-use Rattle.std.specs.Prelude.{ℕ, ◌+◌, ◌-◌, ◌==◌, ◌&&◌, ◌||◌, not, nat_lt, nat_le, Bool, true, false, List, if◌then◌else◌}
+use Rattle.std.specs.Prelude.{ℕ, ◌+◌, ◌-◌, ◌==◌, ◌&&◌, ◌||◌, not, nat_lt, nat_le, Bool, false, List, if◌then◌else◌}
 use Rattle.abt_cell.specs.Channel.{Channel}
 use Rattle.abt_cell.specs.Message.{Terms, Reply}
 use Rattle.abt_node.specs.declared.reply.Onward.{Onward}

@@ -1,5 +1,4 @@
 -- The events that code can name.
-use Rattle.std.specs.Prelude.{ℕ}
 use Rattle.abt_rate.specs.Rate.{IsRate}
 use Rattle.abt_model.specs.declared.event.Event.{Event}
 use Rattle.abt_model.specs.declared.event.Event.TheVariants.{Ask}

@@ -1,3 +1,4 @@
+pub mod Conns
 pub mod Events
 pub mod Past
 pub mod Reserved
@@ -6,4 +7,5 @@ pub mod Answers
 pub mod Outcomes
 pub mod Run
 pub mod Safe
+pub mod PortTable
 pub mod Promises

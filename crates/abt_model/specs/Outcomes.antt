@@ -1,13 +1,14 @@
 -- What an event answers after the past of a net, and which facts it adds.
 use Rattle.std.specs.Prelude.{ℕ, ◌+◌, ◌-◌, ◌==◌, Bool, true, false, List, [], ◌∷◌, if◌then◌else◌, slice_index, Option, None, Some}
-use Rattle.abt_keep.specs.declared.plan.StorePlan.TheVariants.{Works, FailsAfter}
+use Rattle.abt_keep.specs.declared.plan.StorePlan.TheVariants.{FailsAfter}
 use Rattle.abt_node.specs.declared.reply.Onward.{Onward}
 use Rattle.abt_node.specs.declared.reply.Onward.TheVariants.{Pass, Refuse, Drop}
 use Rattle.abt_node.specs.declared.reply.Back.{Back}
 use Rattle.abt_node.specs.declared.reply.Back.TheVariants.{Pass as PassBack, Drop as DropBack}
 use Rattle.abt_source.specs.declared.fault.AskFault.TheVariants.{Keep}
 use Rattle.abt_net.specs.declared.conn.Conn.{Conn}
-use Rattle.abt_net.specs.Topology.{Topology, conn_at}
+use Rattle.abt_net.specs.Topology.{Topology}
+use Rattle.abt_model.specs.Conns.{conn_at}
 use Rattle.abt_facts.specs.declared.fact.Fact.{Fact}
 use Rattle.abt_facts.specs.declared.fact.Fact.TheVariants.{Started as FactStarted, Crashed as FactCrashed, Stored, Asked as FactAsked, Heard as FactHeard, Emitted as FactEmitted, Delivered, Passed, Shut, Turned as FactTurned, Back as FactBack, Arrived as FactArrived}
 use Rattle.abt_facts.specs.Source.{rate_of, stored_of, last_of}
@@ -17,9 +18,9 @@ use Rattle.abt_model.specs.declared.connection_fact.ConnectionFact.{ConnectionFa
 use Rattle.abt_model.specs.declared.event.Event.{Event}
 use Rattle.abt_model.specs.declared.event.Event.TheVariants.{Start, Ask, Again, Crash, Emit, Arrive, Request, Turn, Answer, Told}
 use Rattle.abt_model.specs.declared.outcome.Cause.TheVariants.{Unknown}
-use Rattle.abt_model.specs.declared.outcome.Heard.TheVariants.{Raised, Refused, Ignored}
+use Rattle.abt_model.specs.declared.outcome.Heard.TheVariants.{Raised, Refused}
 use Rattle.abt_model.specs.declared.outcome.Outcome.{Outcome}
-use Rattle.abt_model.specs.declared.outcome.Outcome.TheVariants.{Started, StartRefused, Asked, AskRefused, Repeated, Crashed, Emitted, EmitRefused, Arrived, Requested, Turned, Answered, Told as HasTold, NotEnabled}
+use Rattle.abt_model.specs.declared.outcome.Outcome.TheVariants.{Started, Asked, AskRefused, Crashed, Emitted, Arrived, Requested, Turned, Answered, Told as HasTold, NotEnabled}
 use Rattle.abt_model.specs.Past.{facts_of, with_facts}
 use Rattle.abt_model.specs.Reserved.{reserved_on}
 use Rattle.abt_model.specs.Answers.{answer_by}

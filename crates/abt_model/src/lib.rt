@@ -7,6 +7,7 @@ mod event;
 mod headline;
 mod one_more;
 mod outcome;
+mod port_laws;
 
 pub use command::SourceCommand;
 pub use connection_fact::ConnectionFact;
@@ -14,3 +15,4 @@ pub use event::Event;
 pub use headline::{arrivals_conform, every_past_is_safe, messages_agree, rates_wait_for_answers};
 pub use one_more::one_more_event;
 pub use outcome::{Cause, Heard, Outcome};
+pub use port_laws::{tables_follow_facts, tables_stand_for_facts};
