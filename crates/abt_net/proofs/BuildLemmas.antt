@@ -3,7 +3,8 @@ use Rattle.std.proofs.Common.{◌≡◌, ◌≢◌, ◌⊎◌, ◌↔◌, Ok, Er
 use Rattle.std.specs.Prelude.{IsErrOf}
 use Rattle.abt_net.specs.declared.fault.NetFault.{NetFault}
 use Rattle.abt_net.specs.declared.fault.NetFault.TheVariants.{Memory}
-use Rattle.abt_net.specs.Faults.{IsWrong, IsFirstFault, IsAnswered}
+use Rattle.abt_net.specs.Faults.{IsWrong, IsFirstFault}
+use Rattle.abt_net.specs.Search.{IsAnswered}
 use Rattle.abt_net.specs.Topology.{Topology, IsWithinRules}
 use Rattle.abt_net.proofs.FaultLemmas.{one_first}
 use Rattle.abt_net.proofs.RuleLemmas.{no_fault}

@@ -1,5 +1,5 @@
 -- Two lists keep the rules exactly if no fault applies to them.
-use Rattle.std.proofs.Common.{◌≡◌, ℕ, ◌<◌, ◌≤◌, ◌⊎◌, List, length, get_or, Option, Some, None, sym, ◌∙◌, ap, subst, inl, inr, arith}
+use Rattle.std.proofs.Common.{◌≡◌, ℕ, ◌^◌, ◌<◌, ◌≤◌, ◌⊎◌, List, length, get_or, Option, Some, None, sym, ◌∙◌, ap, subst, inl, inr, arith}
 use Rattle.std.specs.Prelude.{Any, All, IsSomeAnd, slice_get, option_map}
 use Rattle.std.proofs.lemmas.Bool.{cases_lt, cases_order}
 use Rattle.std.proofs.lemmas.List.{get_or_default}
@@ -8,7 +8,6 @@ use Rattle.abt_cell.specs.Channel.{Channel}
 use Rattle.abt_net.specs.declared.conn.Conn.{Conn}
 use Rattle.abt_net.specs.declared.fault.NetFault.{NetFault}
 use Rattle.abt_net.specs.declared.fault.NetFault.TheVariants.{NoPort, PathLength, PathRepeat, VcRepeat, Limit, Memory}
-use Rattle.abt_net.specs.declared.limits.TheConstants.{PORTS_MAX, CONNECTIONS_MAX, HOPS_MAX, CAPACITY_MAX, TAU_MAX, DELAY_MAX}
 use Rattle.abt_net.specs.Faults.{LeavesNet, HasWrongLength, VisitsTwice, RepeatsChannel, IsPastLimits, IsWrong}
 use Rattle.abt_net.specs.Topology.{Topology, channel_at, IsConnWithin, IsWithinRules}
 use Rattle.abt_net.proofs.ChannelLemmas.{same_some}
@@ -36,11 +35,11 @@ none_at_place P conns none k holds =
 
 -- ---- without a fault the rules are kept
 
-conn_within : (ports : ℕ) (conn : Conn) → ¬ LeavesNet ports conn → ¬ HasWrongLength conn → ¬ VisitsTwice conn → conn.tau ≤ TAU_MAX → conn.delay ≤ DELAY_MAX → IsConnWithin ports conn
+conn_within : (ports : ℕ) (conn : Conn) → ¬ LeavesNet ports conn → ¬ HasWrongLength conn → ¬ VisitsTwice conn → conn.tau ≤ 10 ^ 12 → conn.delay ≤ 10 ^ 13 → IsConnWithin ports conn
 conn_within ports conn stays fits once tau delay = record {
   in_net = λ k d within. elim (cases_lt (get_or conn.path k d) ports) [ inl below ↦ below | inr above ↦ absurd (stays (any_at (λ p. ports ≤ p) conn.path k d within above)) ];
   has_hop = elim (cases_lt 0 (length conn.path)) [ inl some ↦ some | inr none ↦ absurd (fits (inl (omega arith))) ];
-  hops = elim (cases_lt HOPS_MAX (length conn.path)) [ inl many ↦ absurd (fits (inr many)) | inr few ↦ few ];
+  hops = elim (cases_lt 16 (length conn.path)) [ inl many ↦ absurd (fits (inr many)) | inr few ↦ few ];
   visits_once = λ i j d before within same. once (i, j, before, within, get_or_default conn.path i 0 d (omega arith) ∙ same ∙ get_or_default conn.path j d 0 within);
   tau = tau;
   delay = delay;
@@ -57,8 +56,8 @@ rules_kept net clear = record {
       (λ leaves. clear (NoPort k) (at_place (LeavesNet (length net.capacities)) net.conns k d within leaves))
       (λ wrong. clear (PathLength k) (at_place HasWrongLength net.conns k d within wrong))
       (λ twice. clear (PathRepeat k) (at_place VisitsTwice net.conns k d within twice))
-      (elim (cases_lt TAU_MAX (get_or net.conns k d).tau) [ inl above ↦ absurd (clear Limit (inr (inr (inr (any_at (λ (conn : Conn). (TAU_MAX < conn.tau) ⊎ (DELAY_MAX < conn.delay)) net.conns k d within (inl above)))))) | inr kept ↦ kept ])
-      (elim (cases_lt DELAY_MAX (get_or net.conns k d).delay) [ inl above ↦ absurd (clear Limit (inr (inr (inr (any_at (λ (conn : Conn). (TAU_MAX < conn.tau) ⊎ (DELAY_MAX < conn.delay)) net.conns k d within (inr above)))))) | inr kept ↦ kept ]);
+      (elim (cases_lt (10 ^ 12) (get_or net.conns k d).tau) [ inl above ↦ absurd (clear Limit (inr (inr (inr (any_at (λ (conn : Conn). (10 ^ 12 < conn.tau) ⊎ (10 ^ 13 < conn.delay)) net.conns k d within (inl above)))))) | inr kept ↦ kept ])
+      (elim (cases_lt (10 ^ 13) (get_or net.conns k d).delay) [ inl above ↦ absurd (clear Limit (inr (inr (inr (any_at (λ (conn : Conn). (10 ^ 12 < conn.tau) ⊎ (10 ^ 13 < conn.delay)) net.conns k d within (inr above)))))) | inr kept ↦ kept ]);
   own_channels = λ i j d before within same. clear (VcRepeat j) (
     within,
     (
@@ -67,9 +66,9 @@ rules_kept net clear = record {
       ap (option_map (λ (conn : Conn). conn.vc)) (slice_get-get_or net.conns i d (omega arith)) ∙ ap Some same ∙ sym (ap (option_map (λ (conn : Conn). conn.vc)) (slice_get-get_or net.conns j d within)),
     ),
   );
-  ports = elim (cases_lt PORTS_MAX (length net.capacities)) [ inl above ↦ absurd (clear Limit (inl above)) | inr kept ↦ kept ];
-  connections = elim (cases_lt CONNECTIONS_MAX (length net.conns)) [ inl above ↦ absurd (clear Limit (inr (inl above))) | inr kept ↦ kept ];
-  each_capacity = within_limit (λ u. u) CAPACITY_MAX net.capacities (λ above. clear Limit (inr (inr (inl above))));
+  ports = elim (cases_lt 256 (length net.capacities)) [ inl above ↦ absurd (clear Limit (inl above)) | inr kept ↦ kept ];
+  connections = elim (cases_lt 1024 (length net.conns)) [ inl above ↦ absurd (clear Limit (inr (inl above))) | inr kept ↦ kept ];
+  each_capacity = within_limit (λ u. u) (2 ^ 60) net.capacities (λ above. clear Limit (inr (inr (inl above))));
 }
 
 -- ---- where the rules are kept there is no fault
@@ -78,7 +77,7 @@ right_length : (ports : ℕ) (conn : Conn) → IsConnWithin ports conn → ¬ Ha
 right_length ports conn fits (inl none) = omega (arith, fits.has_hop)
 right_length ports conn fits (inr many) = omega (arith, fits.hops)
 
-in_limits : (ports : ℕ) (conn : Conn) → IsConnWithin ports conn → ¬ ((TAU_MAX < conn.tau) ⊎ (DELAY_MAX < conn.delay))
+in_limits : (ports : ℕ) (conn : Conn) → IsConnWithin ports conn → ¬ ((10 ^ 12 < conn.tau) ⊎ (10 ^ 13 < conn.delay))
 in_limits ports conn fits (inl above) = omega (arith, fits.tau)
 in_limits ports conn fits (inr above) = omega (arith, fits.delay)
 
@@ -92,8 +91,8 @@ no_repeat net kept c (within, (b, before, same)) = elim (slice_get_cases net.con
 no_limit_passed : (net : Topology) → IsWithinRules net → ¬ IsPastLimits net
 no_limit_passed net kept (inl ports) = omega (arith, kept.ports)
 no_limit_passed net kept (inr (inl connections)) = omega (arith, kept.connections)
-no_limit_passed net kept (inr (inr (inl above))) = none_of_all (λ u. CAPACITY_MAX < u) net.capacities (λ k d within over. let at_most = kept.each_capacity k d within in omega arith) above
-no_limit_passed net kept (inr (inr (inr above))) = none_of_all (λ (conn : Conn). (TAU_MAX < conn.tau) ⊎ (DELAY_MAX < conn.delay)) net.conns (λ k d within. in_limits (length net.capacities) _ (kept.each_conn k d within)) above
+no_limit_passed net kept (inr (inr (inl above))) = none_of_all (λ u. 2 ^ 60 < u) net.capacities (λ k d within over. let at_most = kept.each_capacity k d within in omega arith) above
+no_limit_passed net kept (inr (inr (inr above))) = none_of_all (λ (conn : Conn). (10 ^ 12 < conn.tau) ⊎ (10 ^ 13 < conn.delay)) net.conns (λ k d within. in_limits (length net.capacities) _ (kept.each_conn k d within)) above
 
 pub no_fault : (net : Topology) → IsWithinRules net → (fault : NetFault) → ¬ IsWrong fault net
 no_fault net kept (NoPort c) =

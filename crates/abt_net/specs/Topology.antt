@@ -1,15 +1,18 @@
 -- Nets, and the rules that they keep.
-use Rattle.std.specs.Prelude.{◌≢◌, ℕ, ◌<◌, ◌≤◌, List, length, Option, slice_get, option_map, All, AllPairs}
+use Rattle.std.specs.Prelude.{◌≢◌, ℕ, ◌^◌, ◌<◌, ◌≤◌, List, length, Option, slice_get, option_map, All, AllPairs}
 use Rattle.abt_cell.specs.Channel.{Channel}
 use Rattle.abt_net.specs.declared.conn.Conn.{Conn}
-use Rattle.abt_net.specs.declared.limits.TheConstants.{PORTS_MAX, CONNECTIONS_MAX, HOPS_MAX, CAPACITY_MAX, TAU_MAX, DELAY_MAX}
 
 -- the capacities of the ports and the connections; both are numbered from 0 by their place
 pub record Topology : Type 0 where
   pub capacities : List ℕ
   pub conns : List Conn
 
--- the channel of connection number c, if there are so many
+-- connection number c, if the net has so many
+abbrev pub conn_at : Topology → ℕ → Option Conn
+conn_at net c = slice_get net.conns c
+
+-- the channel of connection number c of a list, if it has so many
 abbrev pub channel_at : List Conn → ℕ → Option Channel
 channel_at conns c = option_map (λ (conn : Conn). conn.vc) (slice_get conns c)
 
@@ -17,15 +20,15 @@ channel_at conns c = option_map (λ (conn : Conn). conn.vc) (slice_get conns c)
 pub record IsConnWithin (ports : ℕ) (conn : Conn) : Type 0 where
   pub in_net : All (λ p. p < ports) conn.path
   pub has_hop : 0 < length conn.path
-  pub hops : length conn.path ≤ HOPS_MAX
+  pub hops : length conn.path ≤ 16
   pub visits_once : AllPairs (λ p q. p ≢ q) conn.path
-  pub tau : conn.tau ≤ TAU_MAX
-  pub delay : conn.delay ≤ DELAY_MAX
+  pub tau : conn.tau ≤ 10 ^ 12
+  pub delay : conn.delay ≤ 10 ^ 13
 
 -- the rules that each net keeps
 pub record IsWithinRules (net : Topology) : Type 0 where
   pub each_conn : All (IsConnWithin (length net.capacities)) net.conns
   pub own_channels : AllPairs (λ b c. b.vc ≢ c.vc) net.conns
-  pub ports : length net.capacities ≤ PORTS_MAX
-  pub connections : length net.conns ≤ CONNECTIONS_MAX
-  pub each_capacity : All (λ u. u ≤ CAPACITY_MAX) net.capacities
+  pub ports : length net.capacities ≤ 256
+  pub connections : length net.conns ≤ 1024
+  pub each_capacity : All (λ u. u ≤ 2 ^ 60) net.capacities

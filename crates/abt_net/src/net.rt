@@ -3,7 +3,7 @@
 ghost use Rattle.std.specs.Prelude.{◌≡◌, ◌≢◌, ◌↔◌, ◌⊎◌, ℕ, Some, IfOk, IfSome, IsOk, IsErrOf};
 ghost use Rattle.abt_net.specs.Faults.{IsFirstFault};
 ghost use Rattle.abt_net.specs.Search.{NamesLeast};
-ghost use Rattle.abt_net.specs.Topology.{Topology, IsWithinRules, channel_at};
+ghost use Rattle.abt_net.specs.Topology.{IsWithinRules, channel_at};
 ghost use Rattle.abt_net.specs.declared.fault.NetFault.{NetFault};
 
 use crate::conn::Conn;
