@@ -1,29 +1,17 @@
 -- The cell that is written for a request or an answer.
-use Rattle.std.proofs.Common.{◌≡◌, ℕ, ◌+◌, ◌*◌, ◌/◌, ◌%◌, ◌^◌, ◌<◌, ◌≤◌, Bool, true, false, cond, arith, ap, sym, subst, refl, ◌∙◌, bit_xor}
+use Rattle.std.proofs.Common.{◌≡◌, ℕ, ◌+◌, ◌*◌, ◌/◌, ◌%◌, ◌^◌, ◌<◌, Bool, true, false, cond, arith, ap, sym, subst, refl, ◌∙◌, bit_xor}
 use Rattle.std.specs.Int.Bits.{xor_shifted}
 use Rattle.std.specs.Int.{bit_at}
 use Rattle.std.specs.Prelude.{if◌then◌else◌, ◌==◌}
+use Rattle.abt_rate.specs.Code.{code_of}
 use Rattle.abt_rate.specs.Rate.{units_of, IsCanonical}
 use Rattle.abt_cell.specs.Message.{Terms}
 use Rattle.abt_cell.specs.Polynomial.{polynomial_of, IsMultiple, IsRemainder}
-use Rattle.abt_cell.specs.Layout.{octets_with, header_of, ask_code, floor_code, seq_of, payload_of}
-use Rattle.abt_cell.specs.Reading.{IsWritten, request_of, octet_7_of}
+use Rattle.abt_cell.specs.Codec.{octets_with, header_for, draft_of, request_of, flags_of, IsSayable}
+use Rattle.abt_cell.specs.Layout.{header_of, ask_code, floor_code, seq_of, payload_of}
+use Rattle.abt_cell.specs.Reading.{IsWritten}
 use Rattle.abt_cell.specs.declared.message.Rm.{Rm}
 use Rattle.abt_cell.specs.declared.message.Rm.TheVariants.{Request, Answer}
-
--- what the fields of a cell are to be
-pub record Fields (rm : Rm) (header ask floor seq : ℕ) : Type 0 where
-  pub vpi : (request_of rm).vc.vpi < 2 ^ 12
-  pub vci : (request_of rm).vc.vci < 2 ^ 16
-  pub header_is : header ≡ (request_of rm).vc.vpi * 2 ^ 20 + (request_of rm).vc.vci * 2 ^ 4 + 12
-  pub ask_units : units_of ask ≡ (request_of rm).ask
-  pub ask_canonical : IsCanonical ask
-  pub floor_units : units_of floor ≡ (request_of rm).floor
-  pub floor_canonical : IsCanonical floor
-  pub order : (request_of rm).floor ≤ (request_of rm).ask
-  pub seq_is : seq ≡ (request_of rm).seq
-  pub seq_positive : 0 < seq
-  pub seq_fits : seq < 2 ^ 32
 
 header-octets_with : (header flags ask floor seq check : ℕ) → header < 2 ^ 32 → header_of (octets_with header flags ask floor seq check) ≡ header
 header-octets_with header flags ask floor seq check fits = omega arith
@@ -53,7 +41,7 @@ sum-octets_with x check low =
     let fits : check < 2 ^ 16 = omega arith in
     rw shifted (xor_shifted x 16 check fits)
 
--- ---- octet 7
+-- ---- the flags
 
 record Flags (rm : Rm) (flags : ℕ) : Type 0 where
   pub maintenance : bit_at flags 4 ≡ 0
@@ -64,7 +52,7 @@ record Flags (rm : Rm) (flags : ℕ) : Type 0 where
   pub reserved : (bit_at flags 1 ≡ 0) × (bit_at flags 0 ≡ 0)
   pub content : (terms : Terms) → terms ≡ request_of rm → (if bit_at flags 3 == 0 then Request terms else Answer (record { terms = terms; granted = bit_at flags 5 == 0 })) ≡ rm
 
-answer-flags : (terms : Terms) (granted : Bool) → Flags (Answer (record { terms = terms; granted = granted })) (cond granted 0x8c 0xac)
+answer-flags : (terms : Terms) (granted : Bool) → Flags (Answer (record { terms = terms; granted = granted })) (0x8c + cond granted 0 0x20)
 answer-flags terms true = record {
   maintenance = refl;
   rigid = refl;
@@ -84,7 +72,7 @@ answer-flags terms false = record {
   content = λ same e. ap (λ t. Answer (record { terms = t; granted = false })) e;
 }
 
-flags-are : (rm : Rm) → Flags rm (octet_7_of rm)
+flags-are : (rm : Rm) → Flags rm (flags_of rm)
 flags-are (Request terms) = record {
   maintenance = refl;
   rigid = refl;
@@ -101,35 +89,38 @@ flags-are (Answer reply) = answer-flags reply.terms reply.granted
 terms-are : (t : Terms) (vpi vci seq floor ask : ℕ) → vpi ≡ t.vc.vpi → vci ≡ t.vc.vci → seq ≡ t.seq → floor ≡ t.floor → ask ≡ t.ask → let built : Terms = record { vc = record { vpi = vpi; vci = vci }; seq = seq; floor = floor; ask = ask } in built ≡ t
 terms-are t vpi vci seq floor ask a b c d e = rw (a, b, c, d, e)
 
-module _ (rm : Rm) (header ask floor seq check : ℕ) (fields : Fields rm header ask floor seq) where
-  pub written : IsRemainder (polynomial_of (payload_of (octets_with header (octet_7_of rm) ask floor seq 0))) check → IsWritten rm (octets_with header (octet_7_of rm) ask floor seq check)
-  written remains =
-      let vpi = fields.vpi in
-      let vci = fields.vci in
-      let header_is = fields.header_is in
+module _ (rm : Rm) (check : ℕ) (sayable : IsSayable rm) (remains : IsRemainder (polynomial_of (payload_of (draft_of rm 0))) check) where
+  pub written : IsWritten rm (draft_of rm check)
+  written =
+      let header : ℕ = header_for (request_of rm) in
+      let ask : ℕ = code_of (request_of rm).ask in
+      let floor : ℕ = code_of (request_of rm).floor in
+      let seq : ℕ = (request_of rm).seq in
+      let vpi = sayable.vpi in
+      let vci = sayable.vci in
       let low = remains.degree in
-      let reserved_ask = fields.ask_canonical.reserved in
-      let reserved_floor = fields.floor_canonical.reserved in
-      let seq_positive = fields.seq_positive in
-      let header_fits : header < 2 ^ 32 = omega arith in
-      let header_as = header-octets_with header (octet_7_of rm) ask floor seq check header_fits in
-      let ask_as = ask-octets_with header (octet_7_of rm) ask floor seq check (omega arith) in
-      let floor_as = floor-octets_with header (octet_7_of rm) ask floor seq check (omega arith) in
-      let seq_as = seq-octets_with header (octet_7_of rm) ask floor seq check fields.seq_fits in
+      let reserved_ask = sayable.ask.canonical.reserved in
+      let reserved_floor = sayable.floor.canonical.reserved in
+      let positive = sayable.seq_positive in
+      let header_fits : header_for (request_of rm) < 2 ^ 32 = omega arith in
+      let header_as = header-octets_with header (flags_of rm) ask floor seq check header_fits in
+      let ask_as = ask-octets_with header (flags_of rm) ask floor seq check (omega arith) in
+      let floor_as = floor-octets_with header (flags_of rm) ask floor seq check (omega arith) in
+      let seq_as = seq-octets_with header (flags_of rm) ask floor seq check sayable.seq_fits in
       let flags = flags-are rm in
-      let ask_units = ap units_of ask_as ∙ fields.ask_units in
-      let floor_units = ap units_of floor_as ∙ fields.floor_units in
+      let ask_units = ap units_of ask_as ∙ sayable.ask.units_are in
+      let floor_units = ap units_of floor_as ∙ sayable.floor.units_are in
       record {
         reads = record {
           pti = ap (λ h. h / 2 % 2 ^ 3) header_as ∙ omega arith;
-          check = subst IsMultiple (sum-octets_with _ check low ∙ sym (polynomial-octets_with header (octet_7_of rm) ask floor seq check (omega arith))) remains.multiple;
+          check = subst IsMultiple (sum-octets_with _ check low ∙ sym (polynomial-octets_with header (flags_of rm) ask floor seq check (omega arith))) remains.multiple;
           protocol = refl;
           maintenance = flags.maintenance;
           rigid = flags.rigid;
           direction = flags.direction;
           seq = λ none. absurd (omega arith);
-          rates = rw (ask_units, floor_units) fields.order;
-          content = flags.content _ (terms-are (request_of rm) _ _ _ _ _ (ap (λ h. h / 2 ^ 20) header_as ∙ omega arith) (ap (λ h. h / 2 ^ 4 % 2 ^ 16) header_as ∙ omega arith) (seq_as ∙ fields.seq_is) floor_units ask_units);
+          rates = rw (ask_units, floor_units) sayable.order;
+          content = flags.content _ (terms-are (request_of rm) _ _ _ _ _ (ap (λ h. h / 2 ^ 20) header_as ∙ omega arith) (ap (λ h. h / 2 ^ 4 % 2 ^ 16) header_as ∙ omega arith) seq_as floor_units ask_units);
         };
         clp = ap (λ h. h % 2) header_as ∙ omega arith;
         traffic_management = flags.traffic_management;
@@ -138,6 +129,6 @@ module _ (rm : Rm) (header ask floor seq check : ℕ) (fields : Fields rm header
         unused = refl;
         filler = refl;
         above_check = omega arith;
-        ask = subst IsCanonical (sym ask_as) fields.ask_canonical;
-        floor = subst IsCanonical (sym floor_as) fields.floor_canonical;
+        ask = subst IsCanonical (sym ask_as) sayable.ask.canonical;
+        floor = subst IsCanonical (sym floor_as) sayable.floor.canonical;
       }

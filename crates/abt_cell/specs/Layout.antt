@@ -1,22 +1,28 @@
--- Where the fields of a cell lie. A cell is 52 octets: the header's 1 to 4 and the payload's 6 to 53.
-use Rattle.std.specs.Prelude.{◌≡◌, ℕ, ◌+◌, ◌-◌, ◌*◌, ◌/◌, ◌%◌, ◌^◌, ◌<◌, List, [], ◌∷◌, ◌++◌, length, slice_index, slice_range, drop, replicate, ◌==◌}
-use Rattle.std.specs.Int.{bit_at, w16, w32, to_be_bytes}
+-- Where the fields of a cell lie. A cell is its 52 octets: the header's 1 to 4, and the payload's 6 to 53. The names in
+-- capitals are places of octets and of bits, counted from 0, and are those of the code (src/layout.rt).
+use Rattle.std.specs.Prelude.{◌≡◌, ℕ, ◌+◌, ◌*◌, ◌/◌, ◌%◌, ◌^◌, ◌<◌, List, length, slice_index, slice_range, drop, ◌==◌}
+use Rattle.std.specs.Int.{bit_at}
 use Rattle.abt_rate.specs.Rate.{units_of}
 use Rattle.abt_cell.specs.Channel.{Channel}
 use Rattle.abt_cell.specs.Message.{Terms, Reply}
+use Rattle.abt_cell.specs.declared.layout.TheConstants.{CELL_LENGTH, HEADER, PAYLOAD, FLAGS, ASK, FLOOR, UNUSED, SEQ, FILLER, CHECK, CONGESTION}
 
 pub record IsCell (cell : List ℕ) : Type 0 where
-  pub long : length cell ≡ 52
-  pub octets : (i : ℕ) → slice_index cell i < 2 ^ 8
+  pub long : length cell ≡ CELL_LENGTH
+  pub octets : (place : ℕ) → slice_index cell place < 2 ^ 8
 
 -- two octets from a place on, the first the higher
 abbrev pub word_at : List ℕ → ℕ → ℕ
-word_at cell i = slice_index cell i * 2 ^ 8 + slice_index cell (i + 1)
+word_at cell place = slice_index cell place * 2 ^ 8 + slice_index cell (place + 1)
+
+-- four octets from a place on, the first the highest
+abbrev pub long_at : List ℕ → ℕ → ℕ
+long_at cell place = word_at cell place * 2 ^ 16 + word_at cell (place + 2)
 
 -- ---- the header: VPI (12 bits), VCI (16), PTI (3), CLP (1)
 
 abbrev pub header_of : List ℕ → ℕ
-header_of cell = word_at cell 0 * 2 ^ 16 + word_at cell 2
+header_of cell = long_at cell HEADER
 
 abbrev pub channel_of : List ℕ → Channel
 channel_of cell = record { vpi = header_of cell / 2 ^ 20; vci = header_of cell / 2 ^ 4 % 2 ^ 16 }
@@ -30,42 +36,36 @@ clp_of cell = header_of cell % 2
 -- ---- the payload
 
 abbrev pub payload_of : List ℕ → List ℕ
-payload_of cell = drop 4 cell
+payload_of cell = drop PAYLOAD cell
 
--- octet n of the payload, 6 to 53
-abbrev pub octet : List ℕ → ℕ → ℕ
-octet cell n = slice_index cell (n - 2)
-
--- a bit of octet 7, from 8, the most significant, to 1
+-- a bit of the flags
 abbrev pub flag : List ℕ → ℕ → ℕ
-flag cell n = bit_at (octet cell 7) (n - 1)
+flag cell place = bit_at (slice_index cell FLAGS) place
 
--- octets 8 to 9, 10 to 11 and 18 to 21
 abbrev pub ask_code : List ℕ → ℕ
-ask_code cell = word_at cell 6
+ask_code cell = word_at cell ASK
 
 abbrev pub floor_code : List ℕ → ℕ
-floor_code cell = word_at cell 8
+floor_code cell = word_at cell FLOOR
 
 abbrev pub seq_of : List ℕ → ℕ
-seq_of cell = word_at cell 16 * 2 ^ 16 + word_at cell 18
+seq_of cell = long_at cell SEQ
+
+-- the octets that carry nothing
+abbrev pub unused_of : List ℕ → List ℕ
+unused_of cell = slice_range cell UNUSED SEQ
+
+abbrev pub filler_of : List ℕ → List ℕ
+filler_of cell = slice_range cell FILLER CHECK
+
+-- six bits that carry nothing, and the check
+abbrev pub check_of : List ℕ → ℕ
+check_of cell = word_at cell CHECK
+
+-- ---- what the fields say
 
 abbrev pub terms_of : List ℕ → Terms
 terms_of cell = record { vc = channel_of cell; seq = seq_of cell; floor = units_of (floor_code cell); ask = units_of (ask_code cell) }
 
 abbrev pub reply_of : List ℕ → Reply
-reply_of cell = record { terms = terms_of cell; granted = flag cell 6 == 0 }
-
--- octets a to b of the payload
-abbrev pub octets_between : List ℕ → ℕ → ℕ → List ℕ
-octets_between cell a b = slice_range cell (a - 2) (b - 1)
-
--- octets 52 to 53
-abbrev pub check_of : List ℕ → ℕ
-check_of cell = word_at cell 50
-
--- the octets of a cell with these fields, and the others as they are written
-abbrev pub octets_with : (header octet_7 ask floor seq check : ℕ) → List ℕ
-octets_with header octet_7 ask floor seq check =
-    to_be_bytes w32 header ++ (2 ∷ octet_7 ∷ []) ++ to_be_bytes w16 ask ++ to_be_bytes w16 floor ++ replicate 6 0
-    ++ to_be_bytes w32 seq ++ replicate 30 0x6a ++ to_be_bytes w16 check
+reply_of cell = record { terms = terms_of cell; granted = flag cell CONGESTION == 0 }

@@ -1,6 +1,6 @@
 -- Polynomials over the field of two elements, as numbers: bit i is the coefficient of x^i.
 -- `bit_xor` is their sum, and `* 2` multiplies by x.
-use Rattle.std.specs.Prelude.{◌≡◌, ℕ, ◌+◌, ◌*◌, ◌^◌, ◌<◌, List, [], ◌∷◌, Bool, if◌then◌else◌, bit_xor, fold}
+use Rattle.std.specs.Prelude.{◌≡◌, ℕ, ◌+◌, ◌*◌, ◌/◌, ◌^◌, ◌<◌, List, [], ◌∷◌, Bool, if◌then◌else◌, bit_xor, fold}
 
 -- x^10 + x^9 + x^5 + x^4 + x + 1
 abbrev pub generator : ℕ
@@ -24,3 +24,8 @@ pub record IsRemainder (p r : ℕ) : Type 0 where
 -- the polynomial of octets: each has eight coefficients, the highest first
 abbrev pub polynomial_of : List ℕ → ℕ
 polynomial_of octets = fold (λ p octet. p * 2 ^ 8 + octet) 0 octets
+
+-- the polynomial of octets without its ten lowest coefficients, which are the place of the check: x^10 times that of the
+-- bits before it
+abbrev pub unchecked_part : List ℕ → ℕ
+unchecked_part octets = polynomial_of octets / 2 ^ 10 * 2 ^ 10

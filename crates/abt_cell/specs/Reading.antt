@@ -1,49 +1,40 @@
--- Which cells are RM cells, what they say, and which fault the others have.
-use Rattle.std.specs.Prelude.{◌≡◌, ◌≢◌, ℕ, ◌+◌, ◌*◌, ◌^◌, ◌<◌, ◌≤◌, List, replicate, if◌then◌else◌, ◌==◌}
+-- Which cells are RM cells, what they say, which fault the others have, and which one cell is written (docs/FORMATS.md, "The
+-- RM cell").
+use Rattle.std.specs.Prelude.{◌≡◌, ◌≢◌, ℕ, ◌<◌, ◌≤◌, ◌^◌, List, replicate, slice_index, if◌then◌else◌, ◌==◌}
 use Rattle.abt_rate.specs.Rate.{units_of, IsCanonical}
 use Rattle.abt_cell.specs.Polynomial.{polynomial_of, IsMultiple}
-use Rattle.abt_cell.specs.Layout.{pti_of, clp_of, payload_of, octet, flag, ask_code, floor_code, seq_of, terms_of, reply_of, octets_between}
-use Rattle.abt_cell.specs.Message.{Terms}
+use Rattle.abt_cell.specs.Layout.{pti_of, clp_of, payload_of, flag, ask_code, floor_code, seq_of, check_of, unused_of, filler_of, terms_of, reply_of}
+use Rattle.abt_cell.specs.declared.layout.TheConstants.{PROTOCOL, DIRECTION, TRAFFIC_MANAGEMENT, CONGESTION, MAINTENANCE, ACKNOWLEDGEMENT, RIGID, RM_CELL, ABT, FILLER_OCTET}
 use Rattle.abt_cell.specs.declared.message.Rm.{Rm}
 use Rattle.abt_cell.specs.declared.message.Rm.TheVariants.{Request, Answer}
 use Rattle.abt_cell.specs.declared.fault.RmFault.{RmFault}
 use Rattle.abt_cell.specs.declared.fault.RmFault.TheVariants.{NotRm, Crc, Protocol, Maintenance, Elastic, Direction, SeqZero, RateOrder}
 
--- Bit 4 tells an answer from a request.
+-- a request, or with the acknowledgement flag an answer
 abbrev pub content_of : List ℕ → Rm
-content_of cell = if flag cell 4 == 0 then Request (terms_of cell) else Answer (reply_of cell)
-
--- the request that is made or answered
-abbrev pub request_of : Rm → Terms
-request_of (Request terms) = terms
-request_of (Answer reply) = reply.terms
-
--- octet 7 as it is written
-abbrev pub octet_7_of : Rm → ℕ
-octet_7_of (Request terms) = 0x04
-octet_7_of (Answer reply) = if reply.granted then 0x8c else 0xac
+content_of cell = if flag cell ACKNOWLEDGEMENT == 0 then Request (terms_of cell) else Answer (reply_of cell)
 
 -- The cell is an RM cell that says rm.
 pub record Reads (cell : List ℕ) (rm : Rm) : Type 0 where
-  pub pti : pti_of cell ≡ 6
+  pub pti : pti_of cell ≡ RM_CELL
   pub check : IsMultiple (polynomial_of (payload_of cell))
-  pub protocol : octet cell 6 ≡ 2
-  pub maintenance : flag cell 5 ≡ 0
-  pub rigid : flag cell 3 ≡ 1
+  pub protocol : slice_index cell PROTOCOL ≡ ABT
+  pub maintenance : flag cell MAINTENANCE ≡ 0
+  pub rigid : flag cell RIGID ≡ 1
   -- A request is forward, an answer backward.
-  pub direction : flag cell 8 ≡ flag cell 4
+  pub direction : flag cell DIRECTION ≡ flag cell ACKNOWLEDGEMENT
   pub seq : seq_of cell ≢ 0
   pub rates : units_of (floor_code cell) ≤ units_of (ask_code cell)
   pub content : content_of cell ≡ rm
 
 -- what each fault says, of its own field alone
 abbrev pub IsWrong : RmFault → List ℕ → Type 0
-IsWrong NotRm cell = pti_of cell ≢ 6
+IsWrong NotRm cell = pti_of cell ≢ RM_CELL
 IsWrong Crc cell = ¬ IsMultiple (polynomial_of (payload_of cell))
-IsWrong Protocol cell = octet cell 6 ≢ 2
-IsWrong Maintenance cell = flag cell 5 ≢ 0
-IsWrong Elastic cell = flag cell 3 ≢ 1
-IsWrong Direction cell = flag cell 8 ≢ flag cell 4
+IsWrong Protocol cell = slice_index cell PROTOCOL ≢ ABT
+IsWrong Maintenance cell = flag cell MAINTENANCE ≢ 0
+IsWrong Elastic cell = flag cell RIGID ≢ 1
+IsWrong Direction cell = flag cell DIRECTION ≢ flag cell ACKNOWLEDGEMENT
 IsWrong SeqZero cell = seq_of cell ≡ 0
 IsWrong RateOrder cell = units_of (ask_code cell) < units_of (floor_code cell)
 
@@ -67,11 +58,13 @@ pub record IsFirstFault (cell : List ℕ) (fault : RmFault) : Type 0 where
 pub record IsWritten (rm : Rm) (cell : List ℕ) : Type 0 where
   pub reads : Reads cell rm
   pub clp : clp_of cell ≡ 0
-  pub traffic_management : flag cell 7 ≡ 0
-  pub congestion : flag cell 4 ≡ 0 → flag cell 6 ≡ 0
-  pub reserved : (flag cell 2 ≡ 0) × (flag cell 1 ≡ 0)
-  pub unused : octets_between cell 12 17 ≡ replicate 6 0
-  pub filler : octets_between cell 22 51 ≡ replicate 30 0x6a
-  pub above_check : octet cell 52 < 4
+  pub traffic_management : flag cell TRAFFIC_MANAGEMENT ≡ 0
+  pub congestion : flag cell ACKNOWLEDGEMENT ≡ 0 → flag cell CONGESTION ≡ 0
+  -- the two flags below the rigid one
+  pub reserved : (flag cell 1 ≡ 0) × (flag cell 0 ≡ 0)
+  pub unused : unused_of cell ≡ replicate 6 0
+  pub filler : filler_of cell ≡ replicate 30 FILLER_OCTET
+  -- nothing above the ten bits of the check
+  pub above_check : check_of cell < 2 ^ 10
   pub ask : IsCanonical (ask_code cell)
   pub floor : IsCanonical (floor_code cell)

@@ -1,16 +1,19 @@
 //! Cells of 52 octets.
 
-ghost use Rattle.std.specs.Prelude.{◌≡◌, ◌<◌, ◌≤◌, ◌↔◌, length, IsTrue, IsOk, IfOk};
-ghost use Rattle.abt_cell.specs.Layout.{word_at, header_of, channel_of, pti_of, clp_of, payload_of, octet, flag, seq_of};
+ghost use Rattle.std.specs.Prelude.{◌≡◌, ◌↔◌, length, IsTrue, IsOk, IfOk};
+ghost use Rattle.abt_cell.specs.Layout.{long_at, channel_of, pti_of, clp_of, payload_of};
 
 use crate::fault::CellFault;
+use crate::layout::{CELL_LENGTH, HEADER, PAYLOAD, PAYLOAD_LENGTH};
 use crate::vc::Vc;
 use std::marker::Model;
 
-/// A cell without its HEC octet: four octets of header and 48 of payload.
-#[derive(Clone, Copy, Debug, PartialEq, Eq)]
+/// A cell without its HEC octet: four octets of header, as at a network node interface (I.361), and 48 of payload.
+///
+/// Contracts see a cell as the list of its octets.
+#[derive(Clone, Copy, Debug, PartialEq, Eq, Hash)]
 pub struct Cell {
-    pub(crate) octets: [u8; 52],
+    pub(crate) octets: [u8; CELL_LENGTH],
 }
 
 impl Model for Cell {
@@ -28,88 +31,60 @@ impl Model for Cell {
 }
 
 impl Cell {
-    /// The cell of 52 octets.
+    /// The cell of these octets, or [`CellFault::Length`] where there aren't 52. Any 52 octets are a cell.
     pub fn from_octets(octets: &[u8]) -> Result<Cell, CellFault>
+        ensures ok { IsOk result ↔ (length octets.now ≡ 52) }
         ensures value { IfOk result (λ cell. cell ≡ octets.now) }
-        ensures length { IsOk result ↔ (length octets.now ≡ 52) }
     {
-        if octets.len() != 52 {
+        if octets.len() != CELL_LENGTH {
             return Err(CellFault::Length);
         }
-        let mut copy = [0; 52];
+        let mut copy = [0; CELL_LENGTH];
         copy.copy_from_slice(octets);
         Ok(Cell { octets: copy })
     }
 
-    pub fn to_octets(&self) -> [u8; 52]
+    /// The octets in the order in which they are sent, the header first.
+    pub fn to_octets(&self) -> [u8; CELL_LENGTH]
         ensures { result ≡ self.now }
     {
         self.octets
     }
 
+    /// The virtual channel that the header names: 12 bits of VPI and 16 of VCI (I.361).
     pub fn vc(&self) -> Vc
         ensures { result ≡ channel_of self.now }
     {
         Vc::of_header(self.header())
     }
 
-    /// The payload type.
+    /// The payload type, three bits (I.361). Binary 110 is an RM cell of a virtual channel.
     pub fn pti(&self) -> u8
         ensures { result ≡ pti_of self.now }
     {
-        (self.header() >> 1 & 7) as u8
+        ((self.header() >> 1) % 8) as u8
     }
 
-    /// The cell loss priority.
+    /// The cell loss priority (I.361): whether the bit is set, and the cell is the first to be lost.
     pub fn clp(&self) -> bool
         ensures { IsTrue result ↔ (clp_of self.now ≡ 1) }
     {
-        self.header() & 1 == 1
+        self.header() % 2 == 1
     }
 
-    pub fn payload(&self) -> [u8; 48]
+    /// The 48 octets after the header.
+    #[tactic(auto, using(crate::proofs::Payload::whole_payload))]
+    pub fn payload(&self) -> [u8; PAYLOAD_LENGTH]
         ensures { result ≡ payload_of self.now }
     {
-        let mut payload = [0; 48];
-        payload.copy_from_slice(&self.octets[4..]);
+        let mut payload = [0; PAYLOAD_LENGTH];
+        payload.copy_from_slice(&self.octets[PAYLOAD..]);
         payload
     }
 
     fn header(&self) -> u32
-        ensures value { result ≡ header_of self.now }
+        ensures { result ≡ long_at self.now HEADER }
     {
-        (self.word_at(0) as u32) << 16 | self.word_at(2) as u32
-    }
-
-    // Two octets from a place on.
-    pub(crate) fn word_at(&self, place: usize) -> u16
-        requires { place < 51 }
-        ensures { result ≡ word_at self.now place }
-    {
-        self.octets[place] as u16 * 256 + self.octets[place + 1] as u16
-    }
-
-    // Octet `number` of the payload.
-    pub(crate) fn octet(&self, number: usize) -> u8
-        requires low { 6 ≤ number }
-        requires high { number ≤ 53 }
-        ensures { result ≡ octet self.now number }
-    {
-        self.octets[number - 2]
-    }
-
-    // A bit of octet 7, 8 the most significant.
-    pub(crate) fn flag(&self, number: u32) -> bool
-        requires low { 1 ≤ number }
-        requires high { number ≤ 8 }
-        ensures { IsTrue result ↔ (flag self.now number ≡ 1) }
-    {
-        (self.octets[5] >> (number - 1)) & 1 == 1
-    }
-
-    pub(crate) fn seq(&self) -> u32
-        ensures { result ≡ seq_of self.now }
-    {
-        (self.word_at(16) as u32) << 16 | self.word_at(18) as u32
+        self.long_at(HEADER)
     }
 }

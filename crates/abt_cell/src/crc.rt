@@ -1,22 +1,36 @@
-//! The check of a payload.
+//! The check of a payload: a remainder of polynomials over the field of two elements.
 
-ghost use Rattle.std.specs.Prelude.{◌≡◌, ℕ, ◌+◌, ◌*◌, ◌/◌, ◌^◌, ◌<◌, ◌↔◌, ◌==◌, IsTrue};
+ghost use Rattle.std.specs.Prelude.{◌≡◌, ℕ, ◌+◌, ◌*◌, ◌^◌, ◌<◌, ◌↔◌, ◌==◌, IsTrue};
 ghost use Rattle.abt_cell.specs.Division.{divided, remainder_of};
-ghost use Rattle.abt_cell.specs.Polynomial.{polynomial_of, IsMultiple, IsRemainder};
+ghost use Rattle.abt_cell.specs.Polynomial.{polynomial_of, unchecked_part, IsMultiple, IsRemainder};
 
+use crate::layout::{CHECK, PAYLOAD, PAYLOAD_LENGTH};
+
+/// The generator `x^10 + x^9 + x^5 + x^4 + x + 1`, bit i for `x^i`.
 const GENERATOR: u32 = 0x633;
 
-/// The check over the first 374 bits of a payload: the remainder of x^10 times their polynomial.
-pub fn crc10(payload: &[u8; 48]) -> u16
-    ensures remainder { IsRemainder (polynomial_of payload.now / 2 ^ 10 * 2 ^ 10) result }
-    ensures only { (r : ℕ) → IsRemainder (polynomial_of payload.now / 2 ^ 10 * 2 ^ 10) r → r ≡ result }
+/// The CRC-10 of a payload: of its first 374 bits, for the last ten to hold (docs/FORMATS.md, "The check"). The last ten
+/// bits are not read. A payload that holds its check there is divisible by the generator.
+pub fn crc10(payload: &[u8; PAYLOAD_LENGTH]) -> u16
+    ensures remainder { IsRemainder (unchecked_part payload.now) result }
+    ensures only { (r : ℕ) → IsRemainder (unchecked_part payload.now) r → r ≡ result }
 {
-    let message = remainder(&payload[..46]);
-    with_octet(with_octet(message, payload[46] & 0xfc), 0)
+    remainder(&without_check(payload))
 }
 
-/// The remainder of the polynomial of octets.
-pub fn remainder(octets: &[u8]) -> u16
+// The payload with its last ten bits 0.
+fn without_check(payload: &[u8; PAYLOAD_LENGTH]) -> [u8; PAYLOAD_LENGTH]
+    ensures { polynomial_of result ≡ unchecked_part payload.now }
+{
+    let mut message = [0; PAYLOAD_LENGTH];
+    message.copy_from_slice(payload);
+    message[CHECK - PAYLOAD] = payload[CHECK - PAYLOAD] / 4 * 4;
+    message[CHECK - PAYLOAD + 1] = 0;
+    message
+}
+
+// The remainder of the polynomial of octets.
+pub(crate) fn remainder(octets: &[u8]) -> u16
     ensures value { result ≡ remainder_of octets.now }
     ensures remainder { IsRemainder (polynomial_of octets.now) result }
     ensures only { (r : ℕ) → IsRemainder (polynomial_of octets.now) r → r ≡ result }
@@ -28,8 +42,8 @@ pub fn remainder(octets: &[u8]) -> u16
     remainder
 }
 
-/// Whether the polynomial of octets is a multiple of the generator.
-pub fn is_multiple(octets: &[u8]) -> bool
+// Whether the polynomial of octets is a multiple of the generator.
+pub(crate) fn is_multiple(octets: &[u8]) -> bool
     ensures value { result ≡ (remainder_of octets.now == 0) }
     ensures multiple { IsTrue result ↔ IsMultiple (polynomial_of octets.now) }
 {

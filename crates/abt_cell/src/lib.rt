@@ -1,9 +1,12 @@
-//! Cells, and the requests and answers that RM cells carry.
+//! Cells of 52 octets, and the requests and answers that RM cells carry: reading, writing and the check
+//! (docs/FORMATS.md). Nothing here takes memory.
 #![tactic(auto)]
 
 mod cell;
 mod crc;
 mod fault;
+mod field;
+mod layout;
 mod message;
 mod read;
 mod vc;

@@ -2,12 +2,22 @@
 
 ghost use Rattle.std.specs.Prelude.{◌≡◌, ◌<◌, ◌≤◌, ◌↔◌, IsSome, IfSome};
 
+use crate::layout::{ACKNOWLEDGEMENT, CONGESTION, DIRECTION, RIGID};
 use crate::vc::Vc;
 use abt_rate::Rate;
 use std::marker::Model;
 
-/// A request of a source: its floor, which it keeps meanwhile, and the rate that it asks for.
-#[derive(Clone, Copy, Debug, PartialEq, Eq)]
+/// The flags of a request, of a yes and of a no, as they are written.
+const REQUEST_FLAGS: u8 = 1 << RIGID;
+
+const YES_FLAGS: u8 = 1 << DIRECTION | 1 << ACKNOWLEDGEMENT | 1 << RIGID;
+
+const NO_FLAGS: u8 = YES_FLAGS | 1 << CONGESTION;
+
+/// A request of a source for a rate on its channel (I.371, block transfer with delayed transmission; docs/RULES.md,
+/// "Source"). It has a number, from 1, the floor, which is the rate that the source keeps until it hears an answer, and the
+/// rate that it asks for, which is at least the floor.
+#[derive(Clone, Copy, Debug, PartialEq, Eq, Hash)]
 pub struct Request {
     vc: Vc,
     seq: u32,
@@ -29,9 +39,10 @@ impl Model for Request {
 }
 
 impl Request {
-    /// The request, unless `seq` is 0 or `ask` is below `floor`.
+    /// The request with this number, floor and asked rate, or `None` where the number is 0 or the asked rate is below the
+    /// floor.
     pub fn new(vc: Vc, seq: u32, floor: Rate, ask: Rate) -> Option<Request>
-        ensures within { IsSome result ↔ ((0 < seq) × (floor ≤ ask)) }
+        ensures some { IsSome result ↔ ((0 < seq) × (floor ≤ ask)) }
         ensures value { IfSome result (λ r. r ≡ record { vc = vc; seq = seq; floor = floor; ask = ask }) }
     {
         if seq == 0 || ask < floor {
@@ -45,12 +56,14 @@ impl Request {
         })
     }
 
+    /// The channel that the request is about.
     pub fn vc(&self) -> Vc
         ensures { result ≡ self.now.vc }
     {
         self.vc
     }
 
+    /// The sequence number, from 1.
     pub fn seq(&self) -> u32
         ensures value { result ≡ self.now.seq }
         ensures positive { 0 < result }
@@ -58,6 +71,7 @@ impl Request {
         self.seq
     }
 
+    /// The rate that the source keeps until it hears an answer.
     pub fn floor(&self) -> Rate
         ensures value { result ≡ self.now.floor }
         ensures order { self.now.floor ≤ self.now.ask }
@@ -65,6 +79,7 @@ impl Request {
         self.floor
     }
 
+    /// The rate that is asked for.
     pub fn ask(&self) -> Rate
         ensures value { result ≡ self.now.ask }
         ensures order { self.now.floor ≤ self.now.ask }
@@ -73,8 +88,9 @@ impl Request {
     }
 }
 
-/// An answer to a request: whether the rate was granted.
-#[derive(Clone, Copy, Debug, PartialEq, Eq)]
+/// An answer to a request, which repeats all of it: a yes where the asked rate was granted along the whole path, a no
+/// where some port refused it (I.371; docs/RULES.md, "Path").
+#[derive(Clone, Copy, Debug, PartialEq, Eq, Hash)]
 pub struct Answer {
     request: Request,
     granted: bool,
@@ -91,6 +107,7 @@ impl Model for Answer {
 }
 
 impl Answer {
+    /// The answer to a request: a yes where it was granted, else a no.
     pub fn of(request: &Request, granted: bool) -> Answer
         ensures { result ≡ record { terms = request.now; granted = granted } }
     {
@@ -100,12 +117,14 @@ impl Answer {
         }
     }
 
+    /// The channel of the request that is answered.
     pub fn vc(&self) -> Vc
         ensures { result ≡ self.now.terms.vc }
     {
         self.request.vc()
     }
 
+    /// The sequence number of the request that is answered.
     pub fn seq(&self) -> u32
         ensures value { result ≡ self.now.terms.seq }
         ensures positive { 0 < result }
@@ -113,6 +132,7 @@ impl Answer {
         self.request.seq()
     }
 
+    /// The floor of the request that is answered.
     pub fn floor(&self) -> Rate
         ensures value { result ≡ self.now.terms.floor }
         ensures order { self.now.terms.floor ≤ self.now.terms.ask }
@@ -120,6 +140,7 @@ impl Answer {
         self.request.floor()
     }
 
+    /// The asked rate of the request that is answered.
     pub fn ask(&self) -> Rate
         ensures value { result ≡ self.now.terms.ask }
         ensures order { self.now.terms.floor ≤ self.now.terms.ask }
@@ -127,12 +148,14 @@ impl Answer {
         self.request.ask()
     }
 
+    // The request that is answered.
     pub(crate) fn request(&self) -> Request
         ensures { result ≡ self.now.terms }
     {
         self.request
     }
 
+    /// Whether it is a yes.
     pub fn granted(&self) -> bool
         ensures { result ≡ self.now.granted }
     {
@@ -140,15 +163,17 @@ impl Answer {
     }
 }
 
-/// What an RM cell carries.
-#[derive(Clone, Copy, Debug, PartialEq, Eq)]
+/// What an RM cell carries: a request on its way forward, or an answer on its way back.
+#[derive(Clone, Copy, Debug, PartialEq, Eq, Hash)]
 pub enum Rm {
+    /// A request, forward.
     Request(Request),
+    /// An answer, backward.
     Answer(Answer),
 }
 
 impl Rm {
-    ghost use Rattle.abt_cell.specs.Reading.{request_of, octet_7_of};
+    ghost use Rattle.abt_cell.specs.Codec.{request_of, flags_of};
 
     // The request that is made or answered.
     pub(crate) fn request(&self) -> Request
@@ -160,13 +185,14 @@ impl Rm {
         }
     }
 
-    // Octet 7 as it is written.
-    pub(crate) fn octet_7(&self) -> u8
-        ensures { result ≡ octet_7_of self.now }
+    // The flags as they are written.
+    pub(crate) fn flags(&self) -> u8
+        ensures { result ≡ flags_of self.now }
     {
         match self {
-            Rm::Request(_) => 0x04,
-            Rm::Answer(answer) => if answer.granted() { 0x8c } else { 0xac },
+            Rm::Request(_) => REQUEST_FLAGS,
+            Rm::Answer(answer) if answer.granted() => YES_FLAGS,
+            Rm::Answer(_) => NO_FLAGS,
         }
     }
 }

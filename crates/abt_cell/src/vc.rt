@@ -4,7 +4,10 @@ ghost use Rattle.std.specs.Prelude.{◌≡◌, ◌<◌, ◌/◌, ◌%◌, ◌^�
 
 use std::marker::Model;
 
-/// A virtual channel, by its VPI of 12 bits and its VCI.
+/// A virtual channel: its virtual path identifier of 12 bits and its virtual channel identifier of 16, as cells carry
+/// them at a network node interface (I.361).
+///
+/// Channels are ordered by their path and then by their own identifier. Contracts see a channel as the record of the two.
 #[derive(Clone, Copy, Debug, PartialEq, Eq, PartialOrd, Ord, Hash)]
 pub struct Vc {
     vpi: u16,
@@ -27,9 +30,9 @@ impl Model for Vc {
 }
 
 impl Vc {
-    /// The channel, unless `vpi` is above 4095.
+    /// The channel of these identifiers, or `None` where `vpi` doesn't fit its 12 bits.
     pub fn new(vpi: u16, vci: u16) -> Option<Vc>
-        ensures within { IsSome result ↔ (vpi < 2 ^ 12) }
+        ensures some { IsSome result ↔ (vpi < 2 ^ 12) }
         ensures value { IfSome result (λ vc. vc ≡ record { vpi = vpi; vci = vci }) }
     {
         if vpi < 4096 {
@@ -45,10 +48,11 @@ impl Vc {
     {
         Vc {
             vpi: (header >> 20) as u16,
-            vci: ((header >> 4) & 0xffff) as u16,
+            vci: ((header >> 4) % 65536) as u16,
         }
     }
 
+    /// The virtual path identifier, at most 4095 (I.361).
     pub fn vpi(self) -> u16
         ensures value { result ≡ self.vpi }
         ensures within { result < 2 ^ 12 }
@@ -56,6 +60,7 @@ impl Vc {
         self.vpi
     }
 
+    /// The virtual channel identifier (I.361).
     pub fn vci(self) -> u16
         ensures { result ≡ self.vci }
     {

@@ -2,5 +2,7 @@
 #![tactic(auto)]
 
 mod fact;
+mod verdicts;
 
 pub use fact::Fact;
+pub use verdicts::verdicts_keep_windows;

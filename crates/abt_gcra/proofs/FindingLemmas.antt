@@ -1,14 +1,13 @@
 -- The verdict that is found is the one of the windows.
-use Rattle.std.proofs.Common.{◌≡◌, ◌≢◌, ℕ, ◌+◌, ◌<◌, ◌≤◌, ◌⊎◌, List, [], ◌∷◌, ◌++◌, Bool, true, false, inl, inr, arith, ap, sym, subst, refl}
+use Rattle.std.proofs.Common.{◌≡◌, ◌≢◌, ℕ, ◌+◌, ◌≤◌, List, [], ◌∷◌, ◌++◌, true, false, inl, inr, arith, ap, sym, subst, refl}
 use Rattle.std.specs.Prelude.{nat_le}
 use Rattle.std.proofs.lemmas.Bool.{and_parts, and_from, leb-true, le-leb, cases_Bool, cases_eq, ne_eqb}
-use Rattle.std.proofs.lemmas.Bool.Decides.{nat_tests}
 use Rattle.abt_rate.specs.Rate.{spacing_of}
 use Rattle.abt_gcra.specs.declared.verdict.Verdict.{Verdict}
 use Rattle.abt_gcra.specs.declared.verdict.Verdict.TheVariants.{Conforming, TooEarly, NoRate}
 use Rattle.abt_gcra.specs.Windows.{Arrival, Conforms, spacings, IsVerdict, IsVerdictAt}
 use Rattle.abt_gcra.specs.Finding.{keeps, conforms, verdict_of, verdict_at}
-use Rattle.abt_gcra.proofs.WindowsLemmas.{KeepsWindows, keeps_none, conforms_none, conforms_more, conforms_older, conforms_keeps, spacings-cons}
+use Rattle.abt_gcra.proofs.WindowsLemmas.{KeepsWindows, conforms_none, conforms_more, conforms_older, conforms_keeps, spacings-cons}
 
 -- the windows that end by a limit, with the spacings that are owed after the newest of the cells
 abbrev KeepsOwed : (limit owed : ℕ) → List Arrival → Type 0
@@ -43,12 +42,12 @@ keeps_found limit owed (cell ∷ cells) holds =
     let first = holds [] cells cell refl in
     let le : cell.at + (cell.spacing + owed) ≤ limit = omega arith in
     and_from _ _ (le-leb _ _ le) (
-      keeps_found limit (cell.spacing + owed) cells (
-        λ between older earlier is.
-            let kept = holds (cell ∷ between) older earlier (ap (λ rest. cell ∷ rest) is) in
-            let more = spacings-cons cell between in
-            omega (arith, kept)
-      )
+    keeps_found limit (cell.spacing + owed) cells (
+    λ between older earlier is.
+    let kept = holds (cell ∷ between) older earlier (ap (λ rest. cell ∷ rest) is) in
+    let more = spacings-cons cell between in
+    omega (arith, kept)
+    )
     )
 
 owed_windows : (limit : ℕ) (cells : List Arrival) → KeepsOwed limit 0 cells → KeepsWindows limit cells
@@ -86,7 +85,7 @@ verdict-is tau taken cell =
           subst (IsVerdict tau taken cell) (sym (verdict_conforming tau taken cell conform)) conform
       | inr early ↦
           subst (IsVerdict tau taken cell) (sym (verdict_early tau taken cell early)) (
-            λ conform. let test = conforms_found tau (cell ∷ taken) conform in absurd (cc)
+          λ conform. let test = conforms_found tau (cell ∷ taken) conform in absurd (cc)
           )
     ]
 

@@ -1,11 +1,10 @@
 -- What a shaper emits keeps the windows of a policer.
-use Rattle.std.proofs.Common.{◌≡◌, ℕ, ◌+◌, ◌-◌, ◌*◌, ◌<◌, ◌≤◌, List, [], ◌∷◌, ◌++◌, arith, ap, refl, map}
-use Rattle.std.specs.Prelude.{All}
+use Rattle.std.proofs.Common.{◌≡◌, ℕ, ◌+◌, ◌<◌, ◌≤◌, List, [], ◌∷◌, arith, ap, refl}
 use Rattle.std.proofs.lemmas.List.Elements.{All-head, All-tail}
 use Rattle.std.proofs.Math.Nat.{mul-le-mul_left}
 use Rattle.abt_rate.specs.Rate.{spacing_of}
 use Rattle.abt_rate.proofs.Rates.{spacing_least}
-use Rattle.abt_gcra.specs.Windows.{Arrival, Conforms}
+use Rattle.abt_gcra.specs.Windows.{Conforms}
 use Rattle.abt_gcra.specs.Passage.{Passage, AreShaped, AreDelayed, AreHeldFor, arrivals_of}
 use Rattle.abt_gcra.proofs.WindowsLemmas.{KeepsWindows, keeps_none, keeps_more, keeps_within, conforms_none, conforms_more}
 

@@ -1,5 +1,5 @@
 -- What a policer keeps stands for the cells that it took, and its verdicts are those of the windows.
-use Rattle.std.proofs.Common.{◌≡◌, ◌≢◌, ℕ, ◌+◌, ◌<◌, ◌≤◌, List, ◌∷◌, ◌==◌, true, false, Some, inl, inr, arith, sym, subst, refl, max, unwrap_or, nat_lt}
+use Rattle.std.proofs.Common.{◌≡◌, ◌≢◌, ℕ, ◌+◌, ◌<◌, ◌≤◌, List, ◌∷◌, Some, inl, inr, arith, sym, subst, refl, max}
 use Rattle.std.proofs.lemmas.Bool.{cases_lt, cases_eq}
 use Rattle.std.proofs.lemmas.Bool.Decides.{nat_tests}
 use Rattle.abt_rate.specs.Rate.{spacing_of}
@@ -7,7 +7,7 @@ use Rattle.abt_gcra.specs.declared.verdict.Verdict.{Verdict}
 use Rattle.abt_gcra.specs.declared.verdict.Verdict.TheVariants.{Conforming, TooEarly, NoRate}
 use Rattle.abt_gcra.specs.Windows.{Arrival, Conforms, IsVerdict, IsVerdictAt, taken_after}
 use Rattle.abt_gcra.specs.Policing.{Policing, checked, policed, due_at}
-use Rattle.abt_gcra.specs.Standing.{StandsFor, TatStandsFor}
+use Rattle.abt_gcra.specs.Standing.{StandsFor}
 use Rattle.abt_gcra.proofs.WindowsLemmas.{due_conforms, conforms_due, due_stands}
 
 -- the two ways that a check goes
@@ -18,6 +18,19 @@ checked_early p at spacing early = grind (arith, nat_tests)
 pub checked_due : (p : Policing) (at spacing : ℕ) → due_at p at ≤ at + p.tau → checked p at spacing ≡ (Conforming, record p { tat = Some (max at (due_at p at) + spacing); clock = at })
 unfolding checked
 checked_due p at spacing due = grind (arith, nat_tests)
+
+-- what a check leaves of the tolerance and the clock
+abbrev LeavesClock : Policing → ℕ → (Verdict × Policing) → Type 0
+LeavesClock p at out = (out.1.tau ≡ p.tau) × (out.1.clock ≡ at)
+
+pub checked-clock : (old new : Policing) (verdict : Verdict) (at spacing : ℕ) → (verdict, new) ≡ checked old at spacing → (new.tau ≡ old.tau) × (new.clock ≡ at)
+checked-clock old new verdict at spacing is =
+    subst (LeavesClock old at) (sym is) (
+    elim (cases_lt (at + old.tau) (due_at old at)) as (λ _. LeavesClock old at (checked old at spacing)) [
+      | inl early ↦ subst (LeavesClock old at) (sym (checked_early old at spacing early)) (refl, refl)
+      | inr due ↦ subst (LeavesClock old at) (sym (checked_due old at spacing due)) (refl, refl)
+    ]
+    )
 
 -- What a cell's verdict is after the cells that were taken, and that what is kept then stands for them and it.
 abbrev Follows : Policing → List Arrival → Arrival → (Verdict × Policing) → Type 0

@@ -3,3 +3,4 @@ pub mod Passage
 pub mod Policing
 pub mod Standing
 pub mod Finding
+pub mod Refusal

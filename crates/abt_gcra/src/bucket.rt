@@ -33,9 +33,7 @@ impl Model for Bucket {
 
     ghost view = { λ b. record { tau = b.tau; tat = option_map (λ last. last + b.level) b.last_taken; clock = b.clock } };
 
-    ghost invariant = {
-        λ b. (b.tau ≤ 10 ^ 12) × (b.level ≤ 2 * 10 ^ 12) × IfSome b.last_taken (λ last. last ≤ b.clock)
-    };
+    ghost invariant = { λ b. (b.tau ≤ 10 ^ 12) × (b.level ≤ 2 * 10 ^ 12) × IfSome b.last_taken (λ last. last ≤ b.clock) };
 }
 
 impl Bucket {
@@ -59,15 +57,11 @@ impl Bucket {
         requires least { 1 ≤ spacing }
         requires greatest { spacing ≤ SPACING_MAX }
         ensures clock_back { IsErrOf result GcraFault.ClockBack ↔ (at < self.old.clock) }
-        ensures time_range {
-            IsErrOf result GcraFault.TimeRange ↔ ((self.old.clock ≤ at) × (ARRIVE_MAX < at))
-        }
+        ensures time_range { IsErrOf result GcraFault.TimeRange ↔ ((self.old.clock ≤ at) × (ARRIVE_MAX < at)) }
         ensures ok { IfOk result (λ verdict. (verdict, self.new) ≡ checked self.old at spacing) }
-        ensures windows {
-            (taken : List Arrival) → StandsFor self.old taken → IfOk result (λ verdict.
-                IsVerdict self.old.tau taken (record { at = at; spacing = spacing }) verdict ×
-                StandsFor self.new (taken_after taken (record { at = at; spacing = spacing }) verdict))
-        }
+        ensures windows { (taken : List Arrival) → StandsFor self.old taken → IfOk result (λ verdict.
+            IsVerdict self.old.tau taken (record { at = at; spacing = spacing }) verdict ×
+            StandsFor self.new (taken_after taken (record { at = at; spacing = spacing }) verdict)) }
         ensures same { OnErr result (self.new ≡ self.old) }
     {
         may_arrive(self.clock, at)?;

@@ -15,6 +15,20 @@ pub enum GcraFault {
     TimeRange,
 }
 
+/// Why a list of cells is given no verdicts. Memory is looked for before the others.
+#[derive(Clone, Copy, Debug, PartialEq, Eq, Error)]
+pub enum PoliceFault {
+    /// This cell is the first that is refused, since its arrival is below that of the cell before it.
+    #[error("the clock went back at cell {index}")]
+    ClockBack { index: usize },
+    /// This cell is the first that is refused, since its arrival is above [`ARRIVE_MAX`](crate::ARRIVE_MAX).
+    #[error("the arrival of cell {index} is out of range")]
+    TimeRange { index: usize },
+    /// There is no memory for the verdicts.
+    #[error("out of memory")]
+    Memory,
+}
+
 // Whether a cell may arrive at a moment, where the last one arrived at the clock.
 pub(crate) fn may_arrive(clock: u64, at: u64) -> Result<(), GcraFault>
     ensures clock_back { IsErrOf result GcraFault.ClockBack ↔ (at < clock) }

@@ -54,15 +54,11 @@ impl Gcra {
         requires least { 1 ≤ spacing }
         requires greatest { spacing ≤ SPACING_MAX }
         ensures clock_back { IsErrOf result GcraFault.ClockBack ↔ (at < self.old.clock) }
-        ensures time_range {
-            IsErrOf result GcraFault.TimeRange ↔ ((self.old.clock ≤ at) × (ARRIVE_MAX < at))
-        }
+        ensures time_range { IsErrOf result GcraFault.TimeRange ↔ ((self.old.clock ≤ at) × (ARRIVE_MAX < at)) }
         ensures ok { IfOk result (λ verdict. (verdict, self.new) ≡ checked self.old at spacing) }
-        ensures windows {
-            (taken : List Arrival) → StandsFor self.old taken → IfOk result (λ verdict.
-                IsVerdict self.old.tau taken (record { at = at; spacing = spacing }) verdict ×
-                StandsFor self.new (taken_after taken (record { at = at; spacing = spacing }) verdict))
-        }
+        ensures windows { (taken : List Arrival) → StandsFor self.old taken → IfOk result (λ verdict.
+            IsVerdict self.old.tau taken (record { at = at; spacing = spacing }) verdict ×
+            StandsFor self.new (taken_after taken (record { at = at; spacing = spacing }) verdict)) }
         ensures same { OnErr result (self.new ≡ self.old) }
     {
         self.advance(at)?;
@@ -77,9 +73,7 @@ impl Gcra {
     /// Moves the clock alone, as for a cell that isn't policed.
     pub(crate) fn advance(&mut self, at: u64) -> Result<(), GcraFault>
         ensures clock_back { IsErrOf result GcraFault.ClockBack ↔ (at < self.old.clock) }
-        ensures time_range {
-            IsErrOf result GcraFault.TimeRange ↔ ((self.old.clock ≤ at) × (ARRIVE_MAX < at))
-        }
+        ensures time_range { IsErrOf result GcraFault.TimeRange ↔ ((self.old.clock ≤ at) × (ARRIVE_MAX < at)) }
         ensures ok { IfOk result (λ _. self.new ≡ record self.old { clock = at }) }
         ensures same { OnErr result (self.new ≡ self.old) }
     {

@@ -7,13 +7,18 @@ mod fault;
 mod gcra;
 mod law;
 mod limits;
+mod list;
 mod policer;
 mod verdict;
 
 pub use bucket::Bucket;
-pub use fault::GcraFault;
+pub use fault::{GcraFault, PoliceFault};
 pub use gcra::Gcra;
 pub use law::{conforming_cells_are_taken, shaped_cells_conform, verdict_is_found};
 pub use limits::{ARRIVE_MAX, SPACING_MAX, TAU_MAX};
+pub use list::police;
 pub use policer::Policer;
 pub use verdict::Verdict;
+
+#[cfg(test)]
+mod tests;

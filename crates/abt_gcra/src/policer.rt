@@ -45,22 +45,14 @@ impl Policer {
     }
 
     /// The verdict on a cell that arrives at a moment, where a rate is held for its connection.
-    #[tactic(
-        auto,
-        using(crate::proofs::PolicingLemmas::policed_windows),
-        unfolding(crate::specs::Policing::policed)
-    )]
+    #[tactic(auto, using(crate::proofs::PolicingLemmas::policed_windows), unfolding(crate::specs::Policing::policed))]
     pub fn arrive(&mut self, at: u64, held: Rate) -> Result<Verdict, GcraFault>
         ensures clock_back { IsErrOf result GcraFault.ClockBack ↔ (at < self.old.clock) }
-        ensures time_range {
-            IsErrOf result GcraFault.TimeRange ↔ ((self.old.clock ≤ at) × (ARRIVE_MAX < at))
-        }
+        ensures time_range { IsErrOf result GcraFault.TimeRange ↔ ((self.old.clock ≤ at) × (ARRIVE_MAX < at)) }
         ensures ok { IfOk result (λ verdict. (verdict, self.new) ≡ policed self.old at held) }
-        ensures windows {
-            (taken : List Arrival) → StandsFor self.old taken → IfOk result (λ verdict.
-                IsVerdictAt self.old.tau taken at held verdict ×
-                StandsFor self.new (taken_after taken (record { at = at; spacing = spacing_of held }) verdict))
-        }
+        ensures windows { (taken : List Arrival) → StandsFor self.old taken → IfOk result (λ verdict.
+            IsVerdictAt self.old.tau taken at held verdict ×
+            StandsFor self.new (taken_after taken (record { at = at; spacing = spacing_of held }) verdict)) }
         ensures same { OnErr result (self.new ≡ self.old) }
     {
         let Some(spacing) = held.spacing() else {

@@ -10,3 +10,6 @@ pub use fault::StoreFault;
 pub use memory::MemoryStore;
 pub use plan::StorePlan;
 pub use store::SeqStore;
+
+#[cfg(test)]
+mod tests;

@@ -1,3 +1,4 @@
+pub mod Events
 pub mod Past
 pub mod Reserved
 pub mod Decision
@@ -5,3 +6,4 @@ pub mod Answers
 pub mod Outcomes
 pub mod Run
 pub mod Safe
+pub mod Promises

@@ -4,9 +4,13 @@
 mod command;
 mod connection_fact;
 mod event;
+mod headline;
+mod one_more;
 mod outcome;
 
 pub use command::SourceCommand;
 pub use connection_fact::ConnectionFact;
 pub use event::Event;
+pub use headline::{arrivals_conform, every_past_is_safe, messages_agree, rates_wait_for_answers};
+pub use one_more::one_more_event;
 pub use outcome::{Cause, Heard, Outcome};

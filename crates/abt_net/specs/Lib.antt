@@ -1,1 +1,3 @@
 pub mod Topology
+pub mod Faults
+pub mod Search

@@ -1,5 +1,6 @@
 -- Nets, and the rules that they keep.
-use Rattle.std.specs.Prelude.{◌≢◌, ℕ, ◌<◌, ◌≤◌, List, length, Option, slice_get, All, AllPairs}
+use Rattle.std.specs.Prelude.{◌≢◌, ℕ, ◌<◌, ◌≤◌, List, length, Option, slice_get, option_map, All, AllPairs}
+use Rattle.abt_cell.specs.Channel.{Channel}
 use Rattle.abt_net.specs.declared.conn.Conn.{Conn}
 use Rattle.abt_net.specs.declared.limits.TheConstants.{PORTS_MAX, CONNECTIONS_MAX, HOPS_MAX, CAPACITY_MAX, TAU_MAX, DELAY_MAX}
 
@@ -8,9 +9,9 @@ pub record Topology : Type 0 where
   pub capacities : List ℕ
   pub conns : List Conn
 
--- connection number c, if the net has so many
-abbrev pub conn_at : Topology → ℕ → Option Conn
-conn_at net c = slice_get net.conns c
+-- the channel of connection number c, if there are so many
+abbrev pub channel_at : List Conn → ℕ → Option Channel
+channel_at conns c = option_map (λ (conn : Conn). conn.vc) (slice_get conns c)
 
 -- the rules of one connection, in a net of so many ports
 pub record IsConnWithin (ports : ℕ) (conn : Conn) : Type 0 where

@@ -1,5 +1,6 @@
 //! Connections.
 
+use crate::limits::HOPS_MAX;
 use crate::path::Path;
 use abt_cell::Vc;
 
@@ -14,4 +15,39 @@ pub struct Conn {
     pub delay: u64,
     /// By how much a cell may come too early at the first hop, in picoseconds.
     pub tau: u64,
+}
+
+impl Conn {
+    ghost use Rattle.std.specs.Prelude.{◌≡◌, ◌<◌, ◌≤◌, ◌↔◌, ◌⊎◌, IsTrue, length};
+    ghost use Rattle.abt_net.specs.Faults.{LeavesNet, HasWrongLength, VisitsTwice};
+
+    // Whether the path names a port that a net of so many ports doesn't have.
+    pub(crate) fn leaves_net(&self, ports: usize) -> bool
+        ensures { IsTrue result ↔ LeavesNet ports self.now }
+    {
+        self.path
+            .as_slice()
+            .iter()
+            .any(|port| usize::from(*port) >= ports)
+    }
+
+    // Whether the path has no hop, or too many.
+    pub(crate) fn has_wrong_length(&self) -> bool
+        ensures { IsTrue result ↔ HasWrongLength self.now }
+    {
+        self.path.is_empty() || self.path.len() > HOPS_MAX
+    }
+
+    // Whether the path visits a port twice.
+    pub(crate) fn visits_twice(&self) -> bool
+        ensures { IsTrue result ↔ VisitsTwice self.now }
+    {
+        let ports = self.path.as_slice();
+        for (hop, port) in ports.iter().enumerate() {
+            if ports[..hop].contains(port) {
+                return true;
+            }
+        }
+        false
+    }
 }

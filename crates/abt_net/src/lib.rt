@@ -1,12 +1,16 @@
 //! Nets: ports with their capacities, and the connections that run over them.
 #![tactic(auto)]
 
+mod channels;
 mod conn;
 mod fault;
 mod limits;
+mod net;
 mod path;
+mod rules;
 
 pub use conn::Conn;
 pub use fault::NetFault;
 pub use limits::{CAPACITY_MAX, CONNECTIONS_MAX, DELAY_MAX, HOPS_MAX, PORTS_MAX, TAU_MAX};
+pub use net::Net;
 pub use path::Path;

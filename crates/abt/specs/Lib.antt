@@ -1,0 +1,5 @@
+pub mod Names
+pub mod RateText
+pub mod CellText
+pub mod PortText
+pub mod Plans

@@ -1,0 +1,18 @@
+//! Texts that are told as far as they are taken.
+ghost use Rattle.abt.specs.Plans.{Tells};
+
+use abt_text::put;
+use std::io::Write;
+
+/// What is told where no memory is found.
+pub const MEMORY_LINE: &str = "fault: memory\n";
+
+/// What is told where the output can't be written.
+pub const WRITE_LINE: &str = "fault: write\n";
+
+/// Writes a text as far as the writer takes it.
+pub fn tell_text<W: Write>(writer: &mut W, text: &str)
+    ensures { Tells text.now (W.contents writer.old) (W.contents writer.new) }
+{
+    let _ = put(writer, text.as_bytes());
+}

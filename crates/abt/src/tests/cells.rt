@@ -1,0 +1,110 @@
+use super::{A, B, B2, LA, NB, YA, expect};
+use std::test::Fail;
+
+const FILLER: &str = "6a6a6a6a6a6a6a6a6a6a6a6a6a6a6a6a6a6a6a6a6a6a6a6a6a6a6a6a6a6a";
+
+#[test]
+fn the_test_cells_say_what_they_say(rt: HostRuntime) -> Result<(), Fail> {
+    for (cell, text) in [
+        (A, "request vpi 1 vci 100 seq 1 floor 0000 ask 5258\n"),
+        (B, "request vpi 1 vci 101 seq 1 floor 0000 ask 5258\n"),
+        (B2, "request vpi 1 vci 101 seq 2 floor 0000 ask 5120\n"),
+        (NB, "answer no vpi 1 vci 101 seq 1 floor 0000 ask 5258\n"),
+        (YA, "answer yes vpi 1 vci 100 seq 1 floor 0000 ask 5258\n"),
+        (LA, "request vpi 1 vci 100 seq 2 floor 5120 ask 5120\n"),
+    ] {
+        expect(&rt, rt.alloc(), &["cell", cell], 0, text, "")?;
+    }
+    Ok(())
+}
+
+#[test]
+fn a_changed_cell_has_its_first_fault(rt: HostRuntime) -> Result<(), Fail> {
+    let alloc = rt.alloc();
+    for (head, check, fault) in [
+        (
+            "0010064a02045258000000000000000000000001",
+            "038c",
+            "fault: NotRm\n",
+        ),
+        (
+            "0010064c02005258000000000000000000000001",
+            "038c",
+            "fault: Crc\n",
+        ),
+        (
+            "0010064c02005258000000000000000000000001",
+            "023d",
+            "fault: Elastic\n",
+        ),
+        (
+            "0010064c01045258000000000000000000000001",
+            "0085",
+            "fault: Protocol\n",
+        ),
+        (
+            "0010064c02145258000000000000000000000001",
+            "037b",
+            "fault: Maintenance\n",
+        ),
+        (
+            "0010064c02845258000000000000000000000001",
+            "0207",
+            "fault: Direction\n",
+        ),
+        (
+            "0010064c02045258000000000000000000000000",
+            "0138",
+            "fault: SeqZero\n",
+        ),
+        (
+            "0010064c02040000525800000000000000000001",
+            "00c7",
+            "fault: RateOrder\n",
+        ),
+    ] {
+        let cell = format!(in alloc; "{head}{FILLER}{check}")?;
+        expect(&rt, alloc, &["cell", cell.as_str()], 1, "", fault)?;
+    }
+    Ok(())
+}
+
+#[test]
+fn ignored_bits_and_the_case_of_digits_say_nothing(rt: HostRuntime) -> Result<(), Fail> {
+    let alloc = rt.alloc();
+    let said = "request vpi 1 vci 100 seq 1 floor 0000 ask 5258\n";
+    let served = format!(in alloc; "1 pass {A}\ntotal 307200\n")?;
+    for (head, check) in [
+        ("0010064c02245258000000000000000000000001", "0262"),
+        ("0010064c02445258000000000000000000000001", "0050"),
+        ("0010064c02075258000000000000000000000001", "02b4"),
+        ("0010064c0204d258000000000000000000000001", "01e9"),
+        ("0010064C02045258000000000000000000000001", "038C"),
+    ] {
+        let cell = format!(in alloc; "{head}{FILLER}{check}")?;
+        expect(&rt, alloc, &["cell", cell.as_str()], 0, said, "")?;
+        expect(
+            &rt,
+            alloc,
+            &["port", "512000", cell.as_str()],
+            0,
+            served.as_str(),
+            "",
+        )?;
+    }
+    Ok(())
+}
+
+#[test]
+fn other_texts_are_no_cell(rt: HostRuntime) -> Result<(), Fail> {
+    let alloc = rt.alloc();
+    for text in ["zz", "0", "0z", "+0", "0 0"] {
+        expect(&rt, alloc, &["cell", text], 1, "", "fault: hex\n")?;
+    }
+    let short = &A[..102];
+    let long = format!(in alloc; "{A}00")?;
+    for text in ["", "00", short, long.as_str()] {
+        expect(&rt, alloc, &["cell", text], 1, "", "fault: Length\n")?;
+    }
+    Ok(())
+}

@@ -1,0 +1,80 @@
+//! The words of a command line, and the plans that they ask for.
+ghost use Rattle.std.specs.Prelude.{IfOk};
+ghost use Rattle.abt.specs.Plans.{IsWithinLimits};
+
+use crate::command::{CAPACITY, CODE, HEX, command};
+use crate::plan::{Plan, WordsFault};
+use abt_node::CAPACITY_MAX;
+use clap::ArgMatches;
+use clap::error::ErrorKind;
+use std::alloc::{AllocError, Global};
+
+/// The plan that the words behind the program's name ask for.
+///
+/// `clap` decides which words are refused, and writes what is told then, and the help; a capacity is digits alone.
+pub fn plan_words<'a>(alloc: Global, words: &'a [&'a str]) -> Result<Plan, WordsFault>
+    ensures limits { IfOk result IsWithinLimits }
+{
+    let matches = match command(alloc)?.try_get_matches_from(words) {
+        Ok(matches) => matches,
+        Err(error) => return Err(refusal(alloc, &error)),
+    };
+    match matches.subcommand() {
+        Some(("rate", found)) => Ok(Plan::Rate(text_of(alloc, found, CODE)?)),
+        Some(("cell", found)) => Ok(Plan::Cell(text_of(alloc, found, HEX)?)),
+        Some(("port", found)) => port_plan(alloc, found),
+        _ => no_plan(alloc, "no such command"),
+    }
+}
+
+fn port_plan(alloc: Global, found: &ArgMatches<'_>) -> Result<Plan, WordsFault>
+    ensures { IfOk result IsWithinLimits }
+{
+    let capacity = match found.get_one::<u64>(CAPACITY) {
+        Some(capacity) if capacity <= CAPACITY_MAX && is_digits(found.get_str(CAPACITY)) =>
+            capacity,
+        _ => return no_plan(
+            alloc,
+            "a capacity is a decimal number of at most 2^60, digits alone",
+        ),
+    };
+    let mut cells = Vec::new(alloc);
+    for cell in found.get_strs(HEX).unwrap_or(&[]) {
+        let cell = String::from_str(alloc, cell)?;
+        if cells.push(cell).is_err() {
+            return Err(WordsFault::Memory);
+        }
+    }
+    Ok(Plan::Port { capacity, cells })
+}
+
+// Whether a text is digits alone: `clap` takes a plus sign as well.
+fn is_digits(text: Option<&str>) -> bool {
+    match text {
+        Some(text) => text.bytes().all(|octet| octet.is_ascii_digit()),
+        None => false,
+    }
+}
+
+fn no_plan(alloc: Global, why: &str) -> Result<Plan, WordsFault>
+    ensures { IfOk result IsWithinLimits }
+{
+    let text = format!(in alloc; "error: {why}\n\nFor more information, try '--help'.\n")?;
+    Err(WordsFault::Words(text))
+}
+
+// What `clap` refuses, as it says so.
+fn refusal(alloc: Global, error: &clap::Error) -> WordsFault {
+    let Ok(text) = format!(in alloc; "{error}") else {
+        return WordsFault::Memory;
+    };
+    match error.kind() {
+        ErrorKind::OutOfMemory => WordsFault::Memory,
+        ErrorKind::DisplayHelp => WordsFault::Help(text),
+        _ => WordsFault::Words(text),
+    }
+}
+
+fn text_of(alloc: Global, found: &ArgMatches<'_>, id: &str) -> Result<String, AllocError> {
+    String::from_str(alloc, found.get_str(id).unwrap_or(""))
+}

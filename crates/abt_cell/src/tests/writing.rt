@@ -1,0 +1,36 @@
+use super::{A, cells_that_read_as_a, test_cells};
+use crate::{read_rm, write_rm};
+use std::test::Fail;
+
+#[test]
+fn each_test_cell_is_written_as_it_is_spelled(rt: HostRuntime) -> Result<(), Fail> {
+    for (spelled, rm) in test_cells().ok_or("a request")? {
+        assert_eq!(rt; write_rm(&rm), spelled.cell());
+    }
+    Ok(())
+}
+
+#[test]
+fn cell_a_is_written_octet_by_octet(rt: HostRuntime) -> Result<(), Fail> {
+    let rm = read_rm(&A.cell()).map_err(|_| "no fault")?;
+    let octets = write_rm(&rm).to_octets();
+    assert_eq!(rt;
+        octets,
+        [
+            0x00, 0x10, 0x06, 0x4c, 0x02, 0x04, 0x52, 0x58, 0x00, 0x00, 0x00, 0x00, 0x00, 0x00,
+            0x00, 0x00, 0x00, 0x00, 0x00, 0x01, 0x6a, 0x6a, 0x6a, 0x6a, 0x6a, 0x6a, 0x6a, 0x6a,
+            0x6a, 0x6a, 0x6a, 0x6a, 0x6a, 0x6a, 0x6a, 0x6a, 0x6a, 0x6a, 0x6a, 0x6a, 0x6a, 0x6a,
+            0x6a, 0x6a, 0x6a, 0x6a, 0x6a, 0x6a, 0x6a, 0x6a, 0x03, 0x8c,
+        ]
+    );
+    Ok(())
+}
+
+#[test]
+fn whatever_reads_as_a_is_written_as_a(rt: HostRuntime) -> Result<(), Fail> {
+    for cell in cells_that_read_as_a() {
+        let rm = read_rm(&cell).map_err(|_| "no fault")?;
+        assert_eq!(rt; write_rm(&rm), A.cell());
+    }
+    Ok(())
+}

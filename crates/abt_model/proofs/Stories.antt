@@ -1,0 +1,423 @@
+-- Worked runs, computed from the definitions alone. Their expected answers were written down before any code stood.
+use Rattle.std.proofs.Common.{◌≡◌, ℕ, refl, true, false, List, [], ◌∷◌}
+use Rattle.abt_cell.specs.Channel.{Channel}
+use Rattle.abt_gcra.specs.declared.verdict.Verdict.TheVariants.{Conforming}
+use Rattle.abt_keep.specs.declared.plan.StorePlan.TheVariants.{Works, FailsBefore, FailsAfter}
+use Rattle.abt_shaper.specs.declared.fault.ShapeFault.TheVariants.{Zero, TooSoon}
+use Rattle.abt_source.specs.declared.fault.StartFault.TheVariants.{TimeRange as StartTimeRange}
+use Rattle.abt_source.specs.declared.fault.AskFault.TheVariants.{Keep}
+use Rattle.abt_node.specs.declared.reply.Onward.TheVariants.{Pass, Refuse}
+use Rattle.abt_node.specs.declared.reply.Back.TheVariants.{Pass as PassBack}
+use Rattle.abt_net.specs.Topology.{Topology}
+use Rattle.abt_facts.specs.Source.{rate_of}
+use Rattle.abt_facts.specs.Hop.{held_of}
+use Rattle.abt_model.specs.declared.event.Event.{Event}
+use Rattle.abt_model.specs.declared.event.Event.TheVariants.{Start, Ask, Again, Crash, Emit, Arrive, Request, Turn, Answer, Told}
+use Rattle.abt_model.specs.declared.outcome.Cause.TheVariants.{Down as IsDown, Running, NotSent, Fenced, Delay as OutOfTime, ClockBack, Unknown, NotAsking}
+use Rattle.abt_model.specs.declared.outcome.Heard.TheVariants.{Raised, Refused, Ignored}
+use Rattle.abt_model.specs.declared.outcome.Outcome.{Outcome}
+use Rattle.abt_model.specs.declared.outcome.Outcome.TheVariants.{Started, StartRefused, Asked, AskRefused, Crashed, Emitted, EmitRefused, Arrived, Requested, Turned, Answered, Told as HasTold, NotEnabled}
+use Rattle.abt_model.specs.Past.{facts_of}
+use Rattle.abt_model.specs.Reserved.{reserved_on}
+use Rattle.abt_model.specs.Run.{facts_after, outcomes_of}
+
+abbrev first_channel : Channel
+first_channel = record { vpi = 1; vci = 100 }
+
+abbrev second_channel : Channel
+second_channel = record { vpi = 1; vci = 101 }
+
+abbrev one_link : Topology
+one_link = record { capacities = 512000 ∷ []; conns = record { vc = first_channel; path = 0 ∷ []; delay = 1000; tau = 200 } ∷ [] }
+
+abbrev two_links : Topology
+two_links = record {
+  capacities = 512000 ∷ 512000 ∷ [];
+  conns = record { vc = first_channel; path = 1 ∷ []; delay = 1000; tau = 200 } ∷ record { vc = second_channel; path = 0 ∷ 1 ∷ []; delay = 1000; tau = 200 } ∷ [];
+}
+
+abbrev fastest_link : Topology
+fastest_link = record { capacities = 2196875771904 ∷ []; conns = record { vc = first_channel; path = 0 ∷ []; delay = 1000; tau = 1000 } ∷ [] }
+
+abbrev asked : Channel → (seq floor ask : ℕ) → Outcome
+asked vc seq floor ask = Asked (record { vc = vc; seq = seq; floor = floor; ask = ask })
+
+abbrev refused : Channel → (seq floor ask : ℕ) → Outcome
+refused vc seq floor ask = Requested (Refuse (record { terms = record { vc = vc; seq = seq; floor = floor; ask = ask }; granted = false }))
+
+-- Two connections share a link. The second is raised, asks for more than fits, and keeps what it had.
+abbrev a_full_link_refuses_and_the_lower_rate_stays_events : List Event
+a_full_link_refuses_and_the_lower_rate_stays_events =
+    Start 0 0
+    ∷ Start 1 0
+    ∷ Ask 0 307200 Works
+    ∷ Request 0 1 1
+    ∷ Ask 1 204800 Works
+    ∷ Request 1 1 1
+    ∷ Turn 1 1
+    ∷ Request 1 2 1
+    ∷ Turn 1 1
+    ∷ Answer 1 2 1 true
+    ∷ Answer 1 1 1 true
+    ∷ Told 1 1 true
+    ∷ Ask 1 307200 Works
+    ∷ Request 1 1 2
+    ∷ Request 1 2 2
+    ∷ Answer 1 1 2 false
+    ∷ Told 1 2 false
+    ∷ []
+
+pub a_full_link_refuses_and_the_lower_rate_stays : outcomes_of two_links a_full_link_refuses_and_the_lower_rate_stays_events
+    ≡ Started
+    ∷ Started
+    ∷ asked first_channel 1 0 307200
+    ∷ Requested Pass
+    ∷ asked second_channel 1 0 204800
+    ∷ Requested Pass
+    ∷ NotEnabled NotSent
+    ∷ Requested Pass
+    ∷ Turned
+    ∷ Answered PassBack
+    ∷ Answered PassBack
+    ∷ HasTold Raised
+    ∷ asked second_channel 2 204800 307200
+    ∷ Requested Pass
+    ∷ refused second_channel 2 204800 307200
+    ∷ Answered PassBack
+    ∷ HasTold Refused
+    ∷ []
+a_full_link_refuses_and_the_lower_rate_stays = refl
+
+pub a_full_link_refuses_and_the_lower_rate_stays_rate : rate_of (facts_of 1 (facts_after two_links a_full_link_refuses_and_the_lower_rate_stays_events)) ≡ 204800
+a_full_link_refuses_and_the_lower_rate_stays_rate = refl
+
+pub a_full_link_refuses_and_the_lower_rate_stays_first_rate : rate_of (facts_of 0 (facts_after two_links a_full_link_refuses_and_the_lower_rate_stays_events)) ≡ 0
+a_full_link_refuses_and_the_lower_rate_stays_first_rate = refl
+
+pub a_full_link_refuses_and_the_lower_rate_stays_held_first : held_of (facts_of 0 (facts_after two_links a_full_link_refuses_and_the_lower_rate_stays_events)) 1 ≡ 307200
+a_full_link_refuses_and_the_lower_rate_stays_held_first = refl
+
+pub a_full_link_refuses_and_the_lower_rate_stays_held : held_of (facts_of 1 (facts_after two_links a_full_link_refuses_and_the_lower_rate_stays_events)) 1 ≡ 204800
+a_full_link_refuses_and_the_lower_rate_stays_held = refl
+
+pub a_full_link_refuses_and_the_lower_rate_stays_held_last : held_of (facts_of 1 (facts_after two_links a_full_link_refuses_and_the_lower_rate_stays_events)) 2 ≡ 204800
+a_full_link_refuses_and_the_lower_rate_stays_held_last = refl
+
+pub a_full_link_refuses_and_the_lower_rate_stays_total : reserved_on two_links (facts_after two_links a_full_link_refuses_and_the_lower_rate_stays_events) 0 ≡ 204800
+a_full_link_refuses_and_the_lower_rate_stays_total = refl
+
+pub a_full_link_refuses_and_the_lower_rate_stays_total_last : reserved_on two_links (facts_after two_links a_full_link_refuses_and_the_lower_rate_stays_events) 1 ≡ 512000
+a_full_link_refuses_and_the_lower_rate_stays_total_last = refl
+
+-- Then the first connection gives its rate back. A request that was refused is refused again.
+abbrev a_refusal_stands_though_room_is_made_events : List Event
+a_refusal_stands_though_room_is_made_events =
+    Start 0 0
+    ∷ Start 1 0
+    ∷ Ask 0 307200 Works
+    ∷ Request 0 1 1
+    ∷ Ask 1 204800 Works
+    ∷ Request 1 1 1
+    ∷ Turn 1 1
+    ∷ Request 1 2 1
+    ∷ Turn 1 1
+    ∷ Answer 1 2 1 true
+    ∷ Answer 1 1 1 true
+    ∷ Told 1 1 true
+    ∷ Ask 1 307200 Works
+    ∷ Request 1 1 2
+    ∷ Request 1 2 2
+    ∷ Answer 1 1 2 false
+    ∷ Told 1 2 false
+    ∷ Ask 0 0 Works
+    ∷ Request 0 1 2
+    ∷ Request 1 1 2
+    ∷ Request 1 2 2
+    ∷ []
+
+pub a_refusal_stands_though_room_is_made : outcomes_of two_links a_refusal_stands_though_room_is_made_events
+    ≡ Started
+    ∷ Started
+    ∷ asked first_channel 1 0 307200
+    ∷ Requested Pass
+    ∷ asked second_channel 1 0 204800
+    ∷ Requested Pass
+    ∷ NotEnabled NotSent
+    ∷ Requested Pass
+    ∷ Turned
+    ∷ Answered PassBack
+    ∷ Answered PassBack
+    ∷ HasTold Raised
+    ∷ asked second_channel 2 204800 307200
+    ∷ Requested Pass
+    ∷ refused second_channel 2 204800 307200
+    ∷ Answered PassBack
+    ∷ HasTold Refused
+    ∷ asked first_channel 2 0 0
+    ∷ Requested Pass
+    ∷ refused second_channel 2 204800 307200
+    ∷ refused second_channel 2 204800 307200
+    ∷ []
+a_refusal_stands_though_room_is_made = refl
+
+pub a_refusal_stands_though_room_is_made_total : reserved_on two_links (facts_after two_links a_refusal_stands_though_room_is_made_events) 0 ≡ 204800
+a_refusal_stands_though_room_is_made_total = refl
+
+pub a_refusal_stands_though_room_is_made_total_last : reserved_on two_links (facts_after two_links a_refusal_stands_though_room_is_made_events) 1 ≡ 204800
+a_refusal_stands_though_room_is_made_total_last = refl
+
+-- A source asks again before the yes to its first request comes.
+abbrev a_yes_to_an_abandoned_number_raises_nothing_events : List Event
+a_yes_to_an_abandoned_number_raises_nothing_events =
+    Start 0 0
+    ∷ Ask 0 204800 Works
+    ∷ Request 0 1 1
+    ∷ Turn 0 1
+    ∷ Answer 0 1 1 true
+    ∷ Ask 0 307200 Works
+    ∷ Told 0 1 true
+    ∷ []
+
+pub a_yes_to_an_abandoned_number_raises_nothing : outcomes_of one_link a_yes_to_an_abandoned_number_raises_nothing_events
+    ≡ Started
+    ∷ asked first_channel 1 0 204800
+    ∷ Requested Pass
+    ∷ Turned
+    ∷ Answered PassBack
+    ∷ asked first_channel 2 0 307200
+    ∷ HasTold Ignored
+    ∷ []
+a_yes_to_an_abandoned_number_raises_nothing = refl
+
+pub a_yes_to_an_abandoned_number_raises_nothing_rate : rate_of (facts_of 0 (facts_after one_link a_yes_to_an_abandoned_number_raises_nothing_events)) ≡ 0
+a_yes_to_an_abandoned_number_raises_nothing_rate = refl
+
+pub a_yes_to_an_abandoned_number_raises_nothing_held : held_of (facts_of 0 (facts_after one_link a_yes_to_an_abandoned_number_raises_nothing_events)) 1 ≡ 204800
+a_yes_to_an_abandoned_number_raises_nothing_held = refl
+
+-- A source crashes and starts while a yes is under way.
+abbrev a_restart_hears_no_old_answer_events : List Event
+a_restart_hears_no_old_answer_events =
+    Start 0 0
+    ∷ Ask 0 204800 Works
+    ∷ Request 0 1 1
+    ∷ Turn 0 1
+    ∷ Answer 0 1 1 true
+    ∷ Crash 0
+    ∷ Ask 0 204800 Works
+    ∷ Start 0 5
+    ∷ Told 0 1 true
+    ∷ Ask 0 307200 Works
+    ∷ Told 0 1 true
+    ∷ []
+
+pub a_restart_hears_no_old_answer : outcomes_of one_link a_restart_hears_no_old_answer_events
+    ≡ Started
+    ∷ asked first_channel 1 0 204800
+    ∷ Requested Pass
+    ∷ Turned
+    ∷ Answered PassBack
+    ∷ Crashed
+    ∷ NotEnabled IsDown
+    ∷ Started
+    ∷ HasTold Ignored
+    ∷ asked first_channel 2 0 307200
+    ∷ HasTold Ignored
+    ∷ []
+a_restart_hears_no_old_answer = refl
+
+-- A source that was raised sends cells, none before the hold-off is over.
+abbrev cells_leave_after_the_hold_off_and_conform_events : List Event
+cells_leave_after_the_hold_off_and_conform_events =
+    Start 0 5000000000000
+    ∷ Ask 0 512000 Works
+    ∷ Request 0 1 1
+    ∷ Turn 0 1
+    ∷ Answer 0 1 1 true
+    ∷ Told 0 1 true
+    ∷ Emit 0 5900000000000
+    ∷ Emit 0 6000000000000
+    ∷ Emit 0 6001000000000
+    ∷ Arrive 0 0 6000000001200
+    ∷ Arrive 0 1 6001000001000
+    ∷ []
+
+pub cells_leave_after_the_hold_off_and_conform : outcomes_of one_link cells_leave_after_the_hold_off_and_conform_events
+    ≡ Started
+    ∷ asked first_channel 1 0 512000
+    ∷ Requested Pass
+    ∷ Turned
+    ∷ Answered PassBack
+    ∷ HasTold Raised
+    ∷ EmitRefused (TooSoon 6000000000000)
+    ∷ Emitted 0 6001000000000
+    ∷ Emitted 1 6002000000000
+    ∷ Arrived Conforming
+    ∷ Arrived Conforming
+    ∷ []
+cells_leave_after_the_hold_off_and_conform = refl
+
+-- A decrease passes the first hop before a cell that left earlier.
+abbrev a_request_stops_the_cells_that_it_overtook_events : List Event
+a_request_stops_the_cells_that_it_overtook_events =
+    Start 0 5000000000000
+    ∷ Ask 0 512000 Works
+    ∷ Request 0 1 1
+    ∷ Turn 0 1
+    ∷ Answer 0 1 1 true
+    ∷ Told 0 1 true
+    ∷ Emit 0 5900000000000
+    ∷ Emit 0 6000000000000
+    ∷ Ask 0 204800 Works
+    ∷ Request 0 1 2
+    ∷ Arrive 0 0 6000000001000
+    ∷ Emit 0 6001000000000
+    ∷ Arrive 0 1 6001000001201
+    ∷ Arrive 0 1 6001000000999
+    ∷ Arrive 0 1 6001000001200
+    ∷ Arrive 0 1 6001000001200
+    ∷ Arrive 0 2 6003500001000
+    ∷ []
+
+pub a_request_stops_the_cells_that_it_overtook : outcomes_of one_link a_request_stops_the_cells_that_it_overtook_events
+    ≡ Started
+    ∷ asked first_channel 1 0 512000
+    ∷ Requested Pass
+    ∷ Turned
+    ∷ Answered PassBack
+    ∷ HasTold Raised
+    ∷ EmitRefused (TooSoon 6000000000000)
+    ∷ Emitted 0 6001000000000
+    ∷ asked first_channel 2 204800 204800
+    ∷ Requested Pass
+    ∷ NotEnabled Fenced
+    ∷ Emitted 1 6003500000000
+    ∷ NotEnabled OutOfTime
+    ∷ NotEnabled OutOfTime
+    ∷ Arrived Conforming
+    ∷ NotEnabled Fenced
+    ∷ NotEnabled NotSent
+    ∷ []
+a_request_stops_the_cells_that_it_overtook = refl
+
+-- A write was stored and failed, and the ask is tried again.
+abbrev a_failed_write_can_be_tried_again_events : List Event
+a_failed_write_can_be_tried_again_events =
+    Start 0 0
+    ∷ Ask 0 204800 FailsAfter
+    ∷ Ask 0 204800 Works
+    ∷ []
+
+pub a_failed_write_can_be_tried_again : outcomes_of one_link a_failed_write_can_be_tried_again_events
+    ≡ Started
+    ∷ AskRefused Keep
+    ∷ asked first_channel 1 0 204800
+    ∷ []
+a_failed_write_can_be_tried_again = refl
+
+-- A write was stored and failed, and the source starts again.
+abbrev a_stored_number_is_used_up_events : List Event
+a_stored_number_is_used_up_events =
+    Start 0 0
+    ∷ Ask 0 204800 FailsAfter
+    ∷ Crash 0
+    ∷ Start 0 0
+    ∷ Ask 0 204800 Works
+    ∷ []
+
+pub a_stored_number_is_used_up : outcomes_of one_link a_stored_number_is_used_up_events
+    ≡ Started
+    ∷ AskRefused Keep
+    ∷ Crashed
+    ∷ Started
+    ∷ asked first_channel 2 0 204800
+    ∷ []
+a_stored_number_is_used_up = refl
+
+-- A write failed before it was stored, and the source starts again.
+abbrev a_number_that_was_not_stored_is_free_events : List Event
+a_number_that_was_not_stored_is_free_events =
+    Start 0 0
+    ∷ Ask 0 204800 FailsBefore
+    ∷ Crash 0
+    ∷ Start 0 0
+    ∷ Ask 0 204800 Works
+    ∷ []
+
+pub a_number_that_was_not_stored_is_free : outcomes_of one_link a_number_that_was_not_stored_is_free_events
+    ≡ Started
+    ∷ AskRefused Keep
+    ∷ Crashed
+    ∷ Started
+    ∷ asked first_channel 1 0 204800
+    ∷ []
+a_number_that_was_not_stored_is_free = refl
+
+-- What is not enabled says why.
+abbrev causes_are_tried_in_order_events : List Event
+causes_are_tried_in_order_events =
+    Emit 0 5
+    ∷ Start 0 9
+    ∷ Start 0 9
+    ∷ Again 0
+    ∷ Emit 0 8
+    ∷ Emit 0 9
+    ∷ Start 7 0
+    ∷ Request 0 2 1
+    ∷ Request 0 1 1
+    ∷ []
+
+pub causes_are_tried_in_order : outcomes_of one_link causes_are_tried_in_order_events
+    ≡ NotEnabled IsDown
+    ∷ Started
+    ∷ NotEnabled Running
+    ∷ NotEnabled NotAsking
+    ∷ NotEnabled ClockBack
+    ∷ EmitRefused Zero
+    ∷ NotEnabled Unknown
+    ∷ NotEnabled Unknown
+    ∷ NotEnabled NotSent
+    ∷ []
+causes_are_tried_in_order = refl
+
+-- A start one picosecond above its greatest moment.
+abbrev a_start_too_late_is_refused_events : List Event
+a_start_too_late_is_refused_events =
+    Start 0 2305842009213693953
+    ∷ []
+
+pub a_start_too_late_is_refused : outcomes_of one_link a_start_too_late_is_refused_events
+    ≡ StartRefused StartTimeRange
+    ∷ []
+a_start_too_late_is_refused = refl
+
+-- The greatest rate, over an access line with as much tolerance as delay.
+abbrev the_greatest_rate_conforms_events : List Event
+the_greatest_rate_conforms_events =
+    Start 0 0
+    ∷ Ask 0 2196875771904 Works
+    ∷ Request 0 1 1
+    ∷ Turn 0 1
+    ∷ Answer 0 1 1 true
+    ∷ Told 0 1 true
+    ∷ Emit 0 1000000000000
+    ∷ Emit 0 1000000000234
+    ∷ Arrive 0 0 1000000002000
+    ∷ Arrive 0 1 1000000001999
+    ∷ Arrive 0 1 1000000002000
+    ∷ []
+
+pub the_greatest_rate_conforms : outcomes_of fastest_link the_greatest_rate_conforms_events
+    ≡ Started
+    ∷ asked first_channel 1 0 2196875771904
+    ∷ Requested Pass
+    ∷ Turned
+    ∷ Answered PassBack
+    ∷ HasTold Raised
+    ∷ Emitted 0 1000000000234
+    ∷ Emitted 1 1000000000468
+    ∷ Arrived Conforming
+    ∷ NotEnabled ClockBack
+    ∷ Arrived Conforming
+    ∷ []
+the_greatest_rate_conforms = refl

@@ -1,0 +1,4 @@
+pub mod ChannelLemmas
+pub mod FaultLemmas
+pub mod RuleLemmas
+pub mod BuildLemmas
