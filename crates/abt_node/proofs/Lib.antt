@@ -1,2 +1,4 @@
 pub mod RowsLemmas
 pub mod ServedLemmas
+pub mod RuleLemmas
+pub mod TableLemmas

@@ -4,12 +4,17 @@
 mod any_grant;
 mod fault;
 mod grant;
+mod laws;
 mod port;
 mod reply;
 mod row;
 
 pub use fault::{AddFault, ArriveFault};
 pub use grant::{Decided, Grant, Open, Shut, State};
+pub use laws::{
+    answers_change_their_connection, answers_follow_the_rule, requests_change_their_connection,
+    requests_follow_the_rule,
+};
 pub use port::{CAPACITY_MAX, CONNECTIONS_MAX, Port};
 pub use reply::{Back, DropCause, Onward};
 
