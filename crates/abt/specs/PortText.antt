@@ -2,7 +2,6 @@
 use Rattle.std.specs.Prelude.{ℕ, ◌+◌, List, [], ◌∷◌, Option, Some, None, Result, Ok, Err, codes, nat_le, if◌then◌else◌}
 use Rattle.std.specs.FinMap as map
 use Rattle.abt_cell.specs.Channel.{Channel}
-use Rattle.abt_cell.specs.Reading.{request_of}
 use Rattle.abt_cell.specs.declared.message.Rm.{Rm}
 use Rattle.abt_cell.specs.declared.message.Rm.TheVariants.{Request, Answer}
 use Rattle.abt_node.specs.Table.{Table, new_table, opening, with_connection, sum_of, reply_to, table_after, answer_to, table_after_answer}
@@ -13,7 +12,7 @@ use Rattle.abt_node.specs.declared.reply.Back.TheVariants as back
 use Rattle.abt_node.specs.declared.reply.DropCause.{DropCause}
 use Rattle.abt_text.specs.Text.{Text, ◌⋅◌, newline, decimal}
 use Rattle.abt.specs.Names.{fault_name, cause_name}
-use Rattle.abt.specs.CellText.{message_of, message_hex}
+use Rattle.abt.specs.CellText.{message_of, message_hex, terms_of}
 use Rattle.abt.specs.declared.fault.Fault.{Fault}
 use Rattle.abt.specs.declared.fault.Fault.TheVariants.{Full}
 
@@ -58,11 +57,11 @@ table_served old None rm = old
 
 -- what a port does with a cell, and its table then; what is no RM cell changes nothing
 abbrev pub answer_text : Table → Result Rm Fault → Text
-answer_text table (Ok rm) = served_text (table_knowing table (request_of rm).vc) rm
+answer_text table (Ok rm) = served_text (table_knowing table (terms_of rm).vc) rm
 answer_text table (Err fault) = fault_text fault
 
 abbrev pub table_past : Table → Result Rm Fault → Table
-table_past table (Ok rm) = table_served table (table_knowing table (request_of rm).vc) rm
+table_past table (Ok rm) = table_served table (table_knowing table (terms_of rm).vc) rm
 table_past table (Err fault) = table
 
 abbrev pub line_of : Table → ℕ → Text → Text

@@ -1,7 +1,6 @@
 //! Cells as hexadecimal text, and the text of `abt cell`.
 ghost use Rattle.std.specs.Prelude.{◌≡◌, ◌⊎◌, Ok, Err, IfOk, IfErr, string_bytes};
-ghost use Rattle.abt.specs.CellText.{message_of, message_hex, vc_text, rates_text, terms_text, cell_line, cell_text};
-ghost use Rattle.abt_cell.specs.Reading.{request_of};
+ghost use Rattle.abt.specs.CellText.{message_of, message_hex, vc_text, rates_text, terms_text, terms_of, cell_line, cell_text};
 ghost use Rattle.abt.specs.declared.fault.Fault.TheVariants.{Memory};
 
 use crate::fault::Fault;
@@ -47,21 +46,18 @@ pub fn message_hex(alloc: Global, rm: &Rm) -> Result<String, AllocError>
 fn cell_line(alloc: Global, rm: &Rm) -> Result<String, AllocError>
     ensures { IfOk result (λ line. string_bytes line ≡ cell_line rm.now) }
 {
-    let terms = terms_of(alloc, rm)?;
+    let terms = message_terms(alloc, rm)?;
     let kind = match rm {
         Rm::Request(_) => "request",
-        Rm::Answer(answer) => if answer.granted() {
-            "answer yes"
-        } else {
-            "answer no"
-        },
+        Rm::Answer(answer) if answer.granted() => "answer yes",
+        Rm::Answer(_) => "answer no",
     };
     format!(in alloc; "{kind} {terms}\n")
 }
 
 // The terms of a request, or of the request that is answered.
-fn terms_of(alloc: Global, rm: &Rm) -> Result<String, AllocError>
-    ensures { IfOk result (λ text. string_bytes text ≡ terms_text (request_of rm.now)) }
+fn message_terms(alloc: Global, rm: &Rm) -> Result<String, AllocError>
+    ensures { IfOk result (λ text. string_bytes text ≡ terms_text (terms_of rm.now)) }
 {
     match rm {
         Rm::Request(q) => terms_text(alloc, q.vc(), q.seq(), q.floor(), q.ask()),

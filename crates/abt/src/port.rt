@@ -1,10 +1,9 @@
 //! The text of `abt port`.
 ghost use Rattle.std.specs.Prelude.{◌≡◌, ◌^◌, ◌≤◌, ◌+◌, ◌++◌, IfOk, OnOk, IfErr, string_bytes};
-ghost use Rattle.abt_cell.specs.Reading.{request_of};
 ghost use Rattle.abt.specs.Names.{cause_name};
 ghost use Rattle.abt.specs.Plans.{texts_of};
 ghost use Rattle.abt.specs.PortText.{port_text, line_of, table_past, served_text, table_served, table_knowing, decision_text, table_decided, onward_text, back_text, drop_text, fault_text};
-ghost use Rattle.abt.specs.CellText.{message_of};
+ghost use Rattle.abt.specs.CellText.{message_of, terms_of};
 
 use crate::cell::{message_hex, message_of};
 use crate::fault::Fault;
@@ -47,9 +46,9 @@ fn line_of(alloc: Global, port: &mut Port, number: u64, hex: &str) -> Result<Str
 // What the port does with a message, whose connection it adds if it is new.
 fn served_text(alloc: Global, port: &mut Port, rm: &Rm) -> Result<String, AllocError>
     ensures text { IfOk result (λ text. string_bytes text
-        ≡ served_text (table_knowing port.old (request_of rm.now).vc) rm.now) }
+        ≡ served_text (table_knowing port.old (terms_of rm.now).vc) rm.now) }
     ensures table { OnOk result (port.new
-        ≡ table_served port.old (table_knowing port.old (request_of rm.now).vc) rm.now) }
+        ≡ table_served port.old (table_knowing port.old (terms_of rm.now).vc) rm.now) }
 {
     match port.add(vc_of(rm), None) {
         Ok(()) | Err(AddFault::Known) => decision_text(alloc, port, rm),
@@ -123,7 +122,7 @@ fn cause_name(cause: DropCause) -> &'static str
 }
 
 fn vc_of(rm: &Rm) -> Vc
-    ensures { result ≡ (request_of rm.now).vc }
+    ensures { result ≡ (terms_of rm.now).vc }
 {
     match rm {
         Rm::Request(request) => request.vc(),

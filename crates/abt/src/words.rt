@@ -9,6 +9,9 @@ use clap::ArgMatches;
 use clap::error::ErrorKind;
 use std::alloc::{AllocError, Global};
 
+// What a capacity has to be.
+const CAPACITY_RULE: &str = "a capacity is a decimal number of at most 2^60, digits alone";
+
 /// The plan that the words behind the program's name ask for.
 ///
 /// `clap` decides which words are refused, and writes what is told then, and the help; a capacity is digits alone.
@@ -30,14 +33,13 @@ pub fn plan_words<'a>(alloc: Global, words: &'a [&'a str]) -> Result<Plan, Words
 fn port_plan(alloc: Global, found: &ArgMatches<'_>) -> Result<Plan, WordsFault>
     ensures { IfOk result IsWithinLimits }
 {
-    let capacity = match found.get_one::<u64>(CAPACITY) {
-        Some(capacity) if capacity <= CAPACITY_MAX && is_digits(found.get_str(CAPACITY)) =>
-            capacity,
-        _ => return no_plan(
-            alloc,
-            "a capacity is a decimal number of at most 2^60, digits alone",
-        ),
+    let digits = found.get_str(CAPACITY).unwrap_or("");
+    let Some(capacity) = found.get_one::<u64>(CAPACITY) else {
+        return no_plan(alloc, CAPACITY_RULE);
     };
+    if capacity > CAPACITY_MAX || !is_digits(digits) {
+        return no_plan(alloc, CAPACITY_RULE);
+    }
     let mut cells = Vec::new(alloc);
     for cell in found.get_strs(HEX).unwrap_or(&[]) {
         let cell = String::from_str(alloc, cell)?;
@@ -49,11 +51,8 @@ fn port_plan(alloc: Global, found: &ArgMatches<'_>) -> Result<Plan, WordsFault>
 }
 
 // Whether a text is digits alone: `clap` takes a plus sign as well.
-fn is_digits(text: Option<&str>) -> bool {
-    match text {
-        Some(text) => text.bytes().all(|octet| octet.is_ascii_digit()),
-        None => false,
-    }
+fn is_digits(text: &str) -> bool {
+    text.bytes().all(|octet| octet.is_ascii_digit())
 }
 
 fn no_plan(alloc: Global, why: &str) -> Result<Plan, WordsFault>
