@@ -1,14 +1,14 @@
 -- The results of a source's calls, to compute with. What they come to stands in `SourceFacts`.
-use Rattle.std.specs.Prelude.{ℕ, ◌+◌, ◌&&◌, ◌==◌, nat_le, nat_lt, min, Bool, false, Option, None, Some, Result, Ok, Err, if◌then◌else◌}
+use Rattle.std.specs.Prelude.{ℕ, ◌+◌, ◌-◌, ◌&&◌, ◌==◌, nat_le, nat_lt, min, Bool, false, Option, None, Some, Result, Ok, Err, if◌then◌else◌}
 use Rattle.abt_cell.specs.Channel.{Channel, same_channel}
 use Rattle.abt_cell.specs.Message.{Terms, Reply}
+use Rattle.abt_facts.specs.Source.{hold_off}
 use Rattle.abt_keep.specs.declared.fault.StoreFault.{StoreFault}
 use Rattle.abt_rate.specs.Rate.{spacing_of}
 use Rattle.abt_shaper.specs.declared.fault.ShapeFault.{ShapeFault}
 use Rattle.abt_shaper.specs.declared.fault.ShapeFault.TheVariants.{ClockBack, TimeRange as EmissionTimeRange, Zero, TooSoon}
 use Rattle.abt_shaper.specs.declared.limits.TheConstants.{EMIT_MAX}
 use Rattle.abt_source.specs.SourceView.{SourceView}
-use Rattle.abt_source.specs.declared.start.TheConstants.{START_MAX, HOLD_OFF}
 use Rattle.abt_source.specs.declared.start.StartRefused.{StartRefused}
 use Rattle.abt_source.specs.declared.fault.StartFault.TheVariants.{Keep as StartKeep, TimeRange}
 use Rattle.abt_source.specs.declared.ask.AskRefused.{AskRefused}
@@ -23,13 +23,17 @@ new_source vc = record { vc = vc; rate = 0; last = 0; next = 0; emitted = None; 
 -- a source that was started from a kept number: no cell leaves during the hold-off
 abbrev pub started_source : SourceView → (number now : ℕ) → SourceView
 started_source s number now =
-    record { vc = s.vc; rate = 0; last = number; next = now + HOLD_OFF; emitted = None; newest = None }
+    record { vc = s.vc; rate = 0; last = number; next = now + hold_off; emitted = None; newest = None }
+
+-- the greatest moment of a start: the hold-off then ends at the last moment at which a cell may leave
+abbrev pub greatest_start : ℕ
+greatest_start = EMIT_MAX - hold_off
 
 -- what a start answers, by what the store gave
 abbrev pub result_of_start : SourceView → (now : ℕ) → Result ℕ StoreFault → Result SourceView StartRefused
 result_of_start s now (Err _) = Err (record { source = s; fault = StartKeep })
 result_of_start s now (Ok number) =
-    if nat_le now START_MAX then Ok (started_source s number now) else Err (record { source = s; fault = TimeRange })
+    if nat_le now greatest_start then Ok (started_source s number now) else Err (record { source = s; fault = TimeRange })
 
 -- a source that crashed: its last number and the moment of its next cell stay
 abbrev pub crashed_source : SourceView → SourceView
