@@ -3,7 +3,7 @@
 use Rattle.std.specs.Prelude.{◌≡◌, ◌≢◌, ℕ, ◌<◌, ◌≤◌, ◌^◌, List, replicate, slice_index, if◌then◌else◌, ◌==◌}
 use Rattle.abt_rate.specs.Rate.{units_of, IsCanonical}
 use Rattle.abt_cell.specs.Polynomial.{polynomial_of, IsMultiple}
-use Rattle.abt_cell.specs.Layout.{pti_of, clp_of, payload_of, flag, ask_code, floor_code, seq_of, check_of, unused_of, filler_of, terms_of, reply_of}
+use Rattle.abt_cell.specs.Layout.{IsCell, pti_of, clp_of, payload_of, flag, ask_code, floor_code, seq_of, check_of, unused_of, filler_of, terms_of, reply_of}
 use Rattle.abt_cell.specs.declared.layout.TheConstants.{PROTOCOL, DIRECTION, TRAFFIC_MANAGEMENT, CONGESTION, MAINTENANCE, ACKNOWLEDGEMENT, RIGID, RM_CELL, ABT, FILLER_OCTET}
 use Rattle.abt_cell.specs.declared.message.Rm.{Rm}
 use Rattle.abt_cell.specs.declared.message.Rm.TheVariants.{Request, Answer}
@@ -68,3 +68,9 @@ pub record IsWritten (rm : Rm) (cell : List ℕ) : Type 0 where
   pub above_check : check_of cell < 2 ^ 10
   pub ask : IsCanonical (ask_code cell)
   pub floor : IsCanonical (floor_code cell)
+
+-- The cell is written for rm, no other one is, and it reads as nothing else.
+pub record IsOnlyWritten (rm : Rm) (cell : List ℕ) : Type 0 where
+  pub written : IsWritten rm cell
+  pub only_cell : (other : List ℕ) → IsCell other → IsWritten rm other → other ≡ cell
+  pub only_reading : (other : Rm) → Reads cell other → other ≡ rm

@@ -3,7 +3,7 @@
 ghost use Rattle.std.specs.Prelude.{◌≡◌, ℕ, ◌+◌, ◌*◌, ◌^◌, ◌<◌, List};
 ghost use Rattle.abt_cell.specs.Codec.{written_of, draft_of, octets_with, header_for, IsSayable};
 ghost use Rattle.abt_cell.specs.Layout.{IsCell};
-ghost use Rattle.abt_cell.specs.Reading.{Reads, IsWritten};
+ghost use Rattle.abt_cell.specs.Reading.{Reads, IsWritten, IsOnlyWritten};
 ghost use Rattle.abt_cell.specs.declared.message.Rm.{Rm};
 
 use crate::cell::Cell;
@@ -17,18 +17,27 @@ use crate::vc::Vc;
 
 /// The one cell that is written for a request or an answer: with cell loss priority 0, every field that a reader
 /// ignores as it is to be written, and canonical codes (docs/FORMATS.md, "The RM cell").
-#[tactic(auto, unfolding(crate::specs::Codec::written_of))]
 pub fn write_rm(rm: &Rm) -> Cell
     ensures value { result ≡ written_of rm.now }
     ensures written { IsWritten rm.now result }
     ensures only_cell { (other : List ℕ) → IsCell other → IsWritten rm.now other → other ≡ result }
     ensures only_reading { (other : Rm) → Reads result other → other ≡ rm.now }
 {
+    Cell {
+        octets: checked(rm),
+    }
+}
+
+// The octets of the cell, with its check.
+#[tactic(auto, unfolding(crate::specs::Codec::written_of))]
+fn checked(rm: &Rm) -> [u8; CELL_LENGTH]
+    ensures cell { IsCell result }
+    ensures value { result ≡ written_of rm.now }
+    ensures only { IsOnlyWritten rm.now result }
+{
     let unchecked = draft(rm, 0);
     let check = remainder(&unchecked[PAYLOAD..]);
-    Cell {
-        octets: draft(rm, check),
-    }
+    draft(rm, check)
 }
 
 // The cell for a request or an answer with a check that may be any.
