@@ -1,14 +1,14 @@
 -- What a policer keeps stands for the cells that it took, and its verdicts are those of the windows.
-use Rattle.std.proofs.Common.{◌≡◌, ◌≢◌, ℕ, ◌+◌, ◌<◌, ◌≤◌, List, ◌∷◌, Some, inl, inr, arith, sym, subst, refl, max}
+use Rattle.std.proofs.Common.{◌≡◌, ◌≢◌, ℕ, ◌+◌, ◌<◌, ◌≤◌, List, [], ◌∷◌, Some, inl, inr, arith, sym, subst, refl, max}
 use Rattle.std.proofs.lemmas.Bool.{cases_lt, cases_eq}
 use Rattle.std.proofs.lemmas.Bool.Decides.{nat_tests}
 use Rattle.abt_rate.specs.Rate.{spacing_of}
 use Rattle.abt_gcra.specs.declared.verdict.Verdict.{Verdict}
 use Rattle.abt_gcra.specs.declared.verdict.Verdict.TheVariants.{Conforming, TooEarly, NoRate}
 use Rattle.abt_gcra.specs.Windows.{Arrival, Conforms, IsVerdict, IsVerdictAt, taken_after}
-use Rattle.abt_gcra.specs.Policing.{Policing, checked, policed, due_at}
+use Rattle.abt_gcra.specs.Policing.{Policing, fresh_policing, checked, policed, due_at}
 use Rattle.abt_gcra.specs.Standing.{StandsFor}
-use Rattle.abt_gcra.proofs.WindowsLemmas.{due_conforms, conforms_due, due_stands}
+use Rattle.abt_gcra.proofs.WindowsLemmas.{conforms_none, due_conforms, conforms_due, due_stands}
 
 -- the two ways that a check goes
 pub checked_early : (p : Policing) (at spacing : ℕ) → at + p.tau < due_at p at → checked p at spacing ≡ (TooEarly, record p { clock = at })
@@ -77,3 +77,9 @@ policed_windows old new verdict at held taken is stands =
           let out : (verdict, new) ≡ checked old at (spacing_of held) = grind (arith, nat_tests) in
           subst (FollowsAt old taken at held) (sym out) (held_follows old taken at held _ some (checked_follows old taken (record { at = at; spacing = spacing_of held }) stands))
     ]
+
+-- none was taken at first
+pub fresh_stands : (policing : Policing) (tau : ℕ) → policing ≡ fresh_policing tau → StandsFor policing []
+fresh_stands policing tau fresh =
+    let P : Policing → Type 0 = λ p. StandsFor p [] in
+    subst P (sym fresh) (record { conform = conforms_none tau; tat = refl })

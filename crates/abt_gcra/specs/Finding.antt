@@ -3,9 +3,10 @@ use Rattle.std.specs.Prelude.{ℕ, ◌+◌, ◌==◌, List, [], ◌∷◌, Bool,
 use Rattle.abt_rate.specs.Rate.{spacing_of}
 use Rattle.abt_gcra.specs.declared.verdict.Verdict.{Verdict}
 use Rattle.abt_gcra.specs.declared.verdict.Verdict.TheVariants.{Conforming, TooEarly, NoRate}
-use Rattle.abt_gcra.specs.Windows.{Arrival}
+use Rattle.abt_gcra.specs.Windows.{Arrival, arrival}
 
--- Whether the windows that end by a limit are kept, where `owed` is the spacings from the newest of the cells on.
+-- Whether the windows that end by a limit are kept, where `owed` is the spacings after the newest of
+-- the cells.
 abbrev pub keeps : (limit owed : ℕ) → List Arrival → Bool
 keeps limit owed [] = true
 keeps limit owed (cell ∷ older) =
@@ -23,4 +24,4 @@ verdict_of tau taken cell = if conforms tau (cell ∷ taken) then Conforming els
 -- the verdict on a cell at a moment, where a rate is held
 unfoldable pub verdict_at : (tau : ℕ) (taken : List Arrival) (at held : ℕ) → Verdict
 verdict_at tau taken at held =
-    if held == 0 then NoRate else verdict_of tau taken (record { at = at; spacing = spacing_of held })
+    if held == 0 then NoRate else verdict_of tau taken (arrival at (spacing_of held))

@@ -1,5 +1,5 @@
--- Cells on their way from a shaper over an access line to a policer (docs/RULES.md, "GCRA" and "Shaper"). Lists have
--- the newest first.
+-- Cells on their way from a shaper over an access line to a policer (docs/RULES.md, "GCRA" and
+-- "Shaper"). Lists have the newest first.
 use Rattle.std.specs.Prelude.{◌≡◌, ℕ, ◌+◌, ◌<◌, ◌≤◌, List, ◌∷◌, ◌++◌, All, map}
 use Rattle.abt_rate.specs.Rate.{spacing_of}
 use Rattle.abt_gcra.specs.Windows.{Arrival}
@@ -11,7 +11,8 @@ pub record Passage : Type 0 where
   pub arrived : ℕ
   pub held : ℕ
 
--- A shaper let the cells leave: each the spacing of the rate of the one before it after that one, or later.
+-- A shaper let the cells leave: each the spacing of the rate of the one before it after that one, or
+-- later.
 abbrev pub AreShaped : List Passage → Type 0
 AreShaped cells =
     (newer older : List Passage) (later earlier : Passage) →
@@ -21,9 +22,11 @@ AreShaped cells =
 -- A line delays each cell by its delay, and by at most tau more.
 abbrev pub AreDelayed : (delay tau : ℕ) → List Passage → Type 0
 AreDelayed delay tau cells =
-    All (λ cell. (cell.emitted + delay ≤ cell.arrived) × (cell.arrived ≤ cell.emitted + delay + tau)) cells
+    All
+    (λ cell. (cell.emitted + delay ≤ cell.arrived) × (cell.arrived ≤ cell.emitted + delay + tau))
+    cells
 
--- No cell overtakes another.
+-- No cell overtakes another: they arrive in the order in which they left.
 abbrev pub AreInOrder : List Passage → Type 0
 AreInOrder cells =
     (newer older : List Passage) (later earlier : Passage) →

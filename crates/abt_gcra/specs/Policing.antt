@@ -1,13 +1,13 @@
--- What a policer keeps, and what one cell does to it: the virtual scheduling of I.371 (docs/RULES.md, "GCRA"). The
--- verdicts that this gives are those of `Windows`.
+-- What a policer keeps, and what one cell does to it: the virtual scheduling of I.371 (docs/RULES.md,
+-- "GCRA"). The verdicts that this gives are those of `Windows`.
 use Rattle.std.specs.Prelude.{ℕ, ◌+◌, ◌==◌, Option, Some, None, nat_lt, max, unwrap_or, if◌then◌else◌, refl}
 use Rattle.std.specs.Coded.{Coded, code_by, coded×, coded_ℕ, coded_option}
 use Rattle.abt_rate.specs.Rate.{spacing_of}
 use Rattle.abt_gcra.specs.declared.verdict.Verdict.{Verdict}
 use Rattle.abt_gcra.specs.declared.verdict.Verdict.TheVariants.{Conforming, TooEarly, NoRate}
 
--- The tolerance; the theoretical arrival time, which is absent until a cell was taken; and the clock, which is the
--- arrival of the last cell that was given a verdict.
+-- The tolerance; the theoretical arrival time, which is absent until a cell was taken; and the clock,
+-- which is the arrival of the last cell that was given a verdict.
 pub record Policing : Type 0 where
   pub tau : ℕ
   pub tat : Option ℕ
@@ -31,7 +31,7 @@ fresh_policing tau = record { tau = tau; tat = None; clock = 0 }
 abbrev pub due_at : Policing → ℕ → ℕ
 due_at p at = unwrap_or p.tat at
 
--- a cell at a moment, which would take up the line for a spacing: its verdict, and what is kept then
+-- a cell at a moment, with the spacing from it to the next one: its verdict, and what is kept then
 unfoldable pub checked : Policing → (at spacing : ℕ) → Verdict × Policing
 checked p at spacing =
     if nat_lt (at + p.tau) (due_at p at)
@@ -40,4 +40,5 @@ checked p at spacing =
 
 -- a cell at a moment, where a rate is held: with none it has no verdict but that
 unfoldable pub policed : Policing → (at held : ℕ) → Verdict × Policing
-policed p at held = if held == 0 then (NoRate, record p { clock = at }) else checked p at (spacing_of held)
+policed p at held =
+    if held == 0 then (NoRate, record p { clock = at }) else checked p at (spacing_of held)

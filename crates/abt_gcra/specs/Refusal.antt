@@ -1,12 +1,12 @@
--- Cells that are handed in together, as pairs of arrival and spacing, and the first one that is refused.
+-- Cells that are handed in together, as pairs of arrival and spacing, and the first that is refused.
 use Rattle.std.specs.Prelude.{ℕ, zero, suc, ◌<◌, ◌≤◌, List, length, map, slice_index}
 use Rattle.abt_gcra.specs.declared.limits.TheConstants.{ARRIVE_MAX}
 use Rattle.abt_gcra.specs.declared.fault.GcraFault.{GcraFault}
 use Rattle.abt_gcra.specs.declared.fault.GcraFault.TheVariants.{ClockBack, TimeRange}
-use Rattle.abt_gcra.specs.Windows.{Arrival}
+use Rattle.abt_gcra.specs.Windows.{Arrival, arrival}
 
 abbrev pub arrivals_in : List (ℕ × ℕ) → List Arrival
-arrivals_in pairs = map (λ pair. record { at = pair.0; spacing = pair.1 }) pairs
+arrivals_in pairs = map (λ pair. arrival pair.0 pair.1) pairs
 
 -- when each cell arrives
 abbrev pub moments_in : List (ℕ × ℕ) → List ℕ
@@ -21,7 +21,8 @@ clock_before moments (suc index) = slice_index moments index
 abbrev pub IsRefused : List ℕ → ℕ → GcraFault → Type 0
 IsRefused moments index ClockBack = slice_index moments index < clock_before moments index
 IsRefused moments index TimeRange =
-    (clock_before moments index ≤ slice_index moments index) × (ARRIVE_MAX < slice_index moments index)
+    (clock_before moments index ≤ slice_index moments index) ×
+    (ARRIVE_MAX < slice_index moments index)
 
 -- the first cell that is refused, and why
 pub record IsFirstRefused (moments : List ℕ) (index : ℕ) (fault : GcraFault) : Type 0 where

@@ -10,7 +10,8 @@ IsOwed cells moment =
     (newer : List Arrival) × (cell : Arrival) × (older : List Arrival) ×
     (cells ≡ newer ++ (cell ∷ older)) × (moment ≡ cell.at + (cell.spacing + spacings newer))
 
--- The theoretical arrival time stands for cells if it is the greatest such moment, and absent if there are none.
+-- The theoretical arrival time stands for cells if it is the greatest such moment, and is absent if
+-- there are no cells.
 abbrev pub TatStandsFor : Option ℕ → List Arrival → Type 0
 TatStandsFor tat cells = MatchOption tat (cells ≡ []) (IsGreatest (IsOwed cells))
 

@@ -1,17 +1,17 @@
 //! The generic cell rate algorithm as a leaky bucket.
-ghost use Rattle.std.specs.Prelude.{◌≡◌, ◌<◌, ◌≤◌, ◌↔◌, List, IfOk, OnErr, IsErrOf};
+ghost use Rattle.std.specs.Prelude.{◌≡◌, ◌<◌, ◌≤◌, ◌↔◌, List, [], IfOk, OnErr, IsErrOf};
 ghost use Rattle.abt_gcra.specs.Policing.{fresh_policing, checked};
 ghost use Rattle.abt_gcra.specs.Standing.{StandsFor};
-ghost use Rattle.abt_gcra.specs.Windows.{Arrival, IsVerdict, taken_after};
+ghost use Rattle.abt_gcra.specs.Windows.{Arrival, arrival, IsVerdict, taken_after};
 
 use crate::fault::{GcraFault, may_arrive};
 use crate::limits::{ARRIVE_MAX, SPACING_MAX, TAU_MAX};
 use crate::verdict::Verdict;
 use std::marker::Model;
 
-/// The generic cell rate algorithm as a leaky bucket (I.371; docs/RULES.md, "GCRA"): it gives the verdicts of
-/// [`Gcra`](crate::Gcra). A contract sees the last conformance time and the level added up, which is the theoretical
-/// arrival time.
+/// The generic cell rate algorithm as a leaky bucket (I.371; docs/RULES.md, "GCRA"): it gives the
+/// verdicts of [`Gcra`](crate::Gcra). A contract sees the last conformance time and the level added
+/// up, which is the theoretical arrival time.
 ///
 /// Times are picoseconds, and so is the level of the bucket, which drains by one in each.
 #[derive(Debug, Drop)]
@@ -31,16 +31,22 @@ impl Model for Bucket {
 
     ghost coded = { policing_code };
 
-    ghost view = { λ b. record { tau = b.tau; tat = option_map (λ last. last + b.level) b.last_taken; clock = b.clock } };
+    ghost view = { λ b. record {
+      tau = b.tau;
+      tat = option_map (λ last. last + b.level) b.last_taken;
+      clock = b.clock;
+    } };
 
-    ghost invariant = { λ b. (b.tau ≤ 10 ^ 12) × (b.level ≤ 2 * 10 ^ 12) × IfSome b.last_taken (λ last. last ≤ b.clock) };
+    ghost invariant = { λ b. (b.tau ≤ 10 ^ 12) × (b.level ≤ 2 * 10 ^ 12) ×
+        IfSome b.last_taken (λ last. last ≤ b.clock) };
 }
 
 impl Bucket {
     /// An empty bucket of a tolerance.
     pub fn new(tau: u64) -> Bucket
         requires { tau ≤ TAU_MAX }
-        ensures { result ≡ fresh_policing tau }
+        ensures value { result ≡ fresh_policing tau }
+        ensures windows { StandsFor result [] }
     {
         Bucket {
             tau,
@@ -50,18 +56,19 @@ impl Bucket {
         }
     }
 
-    /// The verdict on a cell that arrives at a moment and takes up the line for a spacing. It is never
-    /// [`Verdict::NoRate`].
+    /// The verdict on a cell that arrives at a moment, with the spacing from it to the next one. It is
+    /// never [`Verdict::NoRate`].
     #[tactic(auto, unfolding(crate::specs::Policing::checked))]
     pub fn check(&mut self, at: u64, spacing: u64) -> Result<Verdict, GcraFault>
         requires least { 1 ≤ spacing }
         requires greatest { spacing ≤ SPACING_MAX }
         ensures clock_back { IsErrOf result GcraFault.ClockBack ↔ (at < self.old.clock) }
-        ensures time_range { IsErrOf result GcraFault.TimeRange ↔ ((self.old.clock ≤ at) × (ARRIVE_MAX < at)) }
+        ensures time_range { IsErrOf result GcraFault.TimeRange ↔
+            ((self.old.clock ≤ at) × (ARRIVE_MAX < at)) }
         ensures ok { IfOk result (λ verdict. (verdict, self.new) ≡ checked self.old at spacing) }
-        ensures windows { (taken : List Arrival) → StandsFor self.old taken → IfOk result (λ verdict.
-            IsVerdict self.old.tau taken (record { at = at; spacing = spacing }) verdict ×
-            StandsFor self.new (taken_after taken (record { at = at; spacing = spacing }) verdict)) }
+        ensures windows { (taken : List Arrival) → StandsFor self.old taken →
+            IfOk result (λ verdict. IsVerdict self.old.tau taken (arrival at spacing) verdict ×
+            StandsFor self.new (taken_after taken (arrival at spacing) verdict)) }
         ensures same { OnErr result (self.new ≡ self.old) }
     {
         may_arrive(self.clock, at)?;

@@ -18,10 +18,11 @@ pub enum GcraFault {
 /// Why a list of cells is given no verdicts. Memory is looked for before the others.
 #[derive(Clone, Copy, Debug, PartialEq, Eq, Error)]
 pub enum PoliceFault {
-    /// This cell is the first that is refused, since its arrival is below that of the cell before it.
+    /// This cell is the first that is refused: its arrival is below that of the one before it.
     #[error("the clock went back at cell {index}")]
     ClockBack { index: usize },
-    /// This cell is the first that is refused, since its arrival is above [`ARRIVE_MAX`](crate::ARRIVE_MAX).
+    /// This cell is the first that is refused: its arrival is above
+    /// [`ARRIVE_MAX`](crate::ARRIVE_MAX).
     #[error("the arrival of cell {index} is out of range")]
     TimeRange { index: usize },
     /// There is no memory for the verdicts.

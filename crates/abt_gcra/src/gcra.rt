@@ -1,8 +1,8 @@
 //! The generic cell rate algorithm by virtual scheduling.
-ghost use Rattle.std.specs.Prelude.{◌≡◌, ◌<◌, ◌≤◌, ◌↔◌, List, IfOk, OnErr, IsErrOf};
+ghost use Rattle.std.specs.Prelude.{◌≡◌, ◌<◌, ◌≤◌, ◌↔◌, List, [], IfOk, OnErr, IsErrOf};
 ghost use Rattle.abt_gcra.specs.Policing.{fresh_policing, checked};
 ghost use Rattle.abt_gcra.specs.Standing.{StandsFor};
-ghost use Rattle.abt_gcra.specs.Windows.{Arrival, IsVerdict, taken_after};
+ghost use Rattle.abt_gcra.specs.Windows.{Arrival, arrival, IsVerdict, taken_after};
 
 use crate::fault::{GcraFault, may_arrive};
 use crate::limits::{ARRIVE_MAX, SPACING_MAX, TAU_MAX};
@@ -38,7 +38,8 @@ impl Gcra {
     /// An algorithm of a tolerance that has met no cell.
     pub fn new(tau: u64) -> Gcra
         requires { tau ≤ TAU_MAX }
-        ensures { result ≡ fresh_policing tau }
+        ensures value { result ≡ fresh_policing tau }
+        ensures windows { StandsFor result [] }
     {
         Gcra {
             tau,
@@ -47,18 +48,19 @@ impl Gcra {
         }
     }
 
-    /// The verdict on a cell that arrives at a moment and takes up the line for a spacing. It is never
-    /// [`Verdict::NoRate`].
+    /// The verdict on a cell that arrives at a moment, with the spacing from it to the next one. It is
+    /// never [`Verdict::NoRate`].
     #[tactic(auto, unfolding(crate::specs::Policing::checked))]
     pub fn check(&mut self, at: u64, spacing: u64) -> Result<Verdict, GcraFault>
         requires least { 1 ≤ spacing }
         requires greatest { spacing ≤ SPACING_MAX }
         ensures clock_back { IsErrOf result GcraFault.ClockBack ↔ (at < self.old.clock) }
-        ensures time_range { IsErrOf result GcraFault.TimeRange ↔ ((self.old.clock ≤ at) × (ARRIVE_MAX < at)) }
+        ensures time_range { IsErrOf result GcraFault.TimeRange ↔
+            ((self.old.clock ≤ at) × (ARRIVE_MAX < at)) }
         ensures ok { IfOk result (λ verdict. (verdict, self.new) ≡ checked self.old at spacing) }
-        ensures windows { (taken : List Arrival) → StandsFor self.old taken → IfOk result (λ verdict.
-            IsVerdict self.old.tau taken (record { at = at; spacing = spacing }) verdict ×
-            StandsFor self.new (taken_after taken (record { at = at; spacing = spacing }) verdict)) }
+        ensures windows { (taken : List Arrival) → StandsFor self.old taken →
+            IfOk result (λ verdict. IsVerdict self.old.tau taken (arrival at spacing) verdict ×
+            StandsFor self.new (taken_after taken (arrival at spacing) verdict)) }
         ensures same { OnErr result (self.new ≡ self.old) }
     {
         self.advance(at)?;
@@ -73,7 +75,8 @@ impl Gcra {
     /// Moves the clock alone, as for a cell that isn't policed.
     pub(crate) fn advance(&mut self, at: u64) -> Result<(), GcraFault>
         ensures clock_back { IsErrOf result GcraFault.ClockBack ↔ (at < self.old.clock) }
-        ensures time_range { IsErrOf result GcraFault.TimeRange ↔ ((self.old.clock ≤ at) × (ARRIVE_MAX < at)) }
+        ensures time_range { IsErrOf result GcraFault.TimeRange ↔
+            ((self.old.clock ≤ at) × (ARRIVE_MAX < at)) }
         ensures ok { IfOk result (λ _. self.new ≡ record self.old { clock = at }) }
         ensures same { OnErr result (self.new ≡ self.old) }
     {

@@ -21,8 +21,9 @@ pub fn conforming_cells_are_taken()
         All (λ verdict. verdict ≡ Verdict.Conforming) verdicts }
 {}
 
-/// What a shaper emits at a rate, and a line then delays by its delay and at most `tau` more, no cell overtaking
-/// another, conforms within `tau` of a policer at that rate or a greater one, and so is found conforming by it.
+/// What a shaper emits at a rate, and a line then delays by its delay and at most `tau` more, no cell
+/// overtaking another, conforms within `tau` of a policer at that rate or a greater one, which so
+/// finds each of the cells conforming.
 pub fn shaped_cells_conform()
     ensures conform { (delay tau : ℕ) (cells : List Passage) →
         AreShaped cells → AreDelayed delay tau cells → AreInOrder cells → AreHeldFor cells →

@@ -1,5 +1,5 @@
-//! The generic cell rate algorithm of I.371 over whole picoseconds, by virtual scheduling and as a leaky bucket, and
-//! a policer that follows a rate as it changes (docs/RULES.md, "GCRA").
+//! The generic cell rate algorithm of I.371 over whole picoseconds, by virtual scheduling and as a
+//! leaky bucket, and a policer that follows a rate as it changes (docs/RULES.md, "GCRA").
 #![tactic(auto)]
 
 mod bucket;

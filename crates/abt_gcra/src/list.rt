@@ -9,11 +9,12 @@ use crate::limits::{SPACING_MAX, TAU_MAX};
 use crate::verdict::Verdict;
 use std::alloc::Global;
 
-/// The verdicts on a list of cells, each an arrival and a spacing, by the generic cell rate algorithm.
+/// The verdicts on a list of cells, each an arrival and a spacing in picoseconds, by the generic cell
+/// rate algorithm within a tolerance (I.371; docs/RULES.md, "GCRA"). Room for them is made first.
 pub fn police(alloc: Global, tau: u64, cells: &[(u64, u64)]) -> Result<Vec<Verdict>, PoliceFault>
     requires tolerance { tau ≤ TAU_MAX }
     requires spacings { All (λ cell. (1 ≤ cell.1) × (cell.1 ≤ SPACING_MAX)) cells.now }
-    ensures ok { IfOk result (λ verdicts. AreVerdicts tau [] (arrivals_in cells.now) verdicts.items) }
+    ensures ok { IfOk result (λ vs. AreVerdicts tau [] (arrivals_in cells.now) vs.items) }
 
     // Memory comes before the others.
     ensures clock_back { result ≢ Err PoliceFault.Memory →

@@ -1,9 +1,9 @@
 //! A policer that follows the rate that is held.
-ghost use Rattle.std.specs.Prelude.{◌≡◌, ◌<◌, ◌≤◌, ◌↔◌, List, IfOk, OnErr, IsErrOf};
+ghost use Rattle.std.specs.Prelude.{◌≡◌, ◌<◌, ◌≤◌, ◌↔◌, List, [], IfOk, OnErr, IsErrOf};
 ghost use Rattle.abt_rate.specs.Rate.{spacing_of};
 ghost use Rattle.abt_gcra.specs.Policing.{fresh_policing, policed};
 ghost use Rattle.abt_gcra.specs.Standing.{StandsFor};
-ghost use Rattle.abt_gcra.specs.Windows.{Arrival, IsVerdictAt, taken_after};
+ghost use Rattle.abt_gcra.specs.Windows.{Arrival, arrival, IsVerdictAt, taken_after};
 
 use crate::fault::GcraFault;
 use crate::gcra::Gcra;
@@ -12,8 +12,8 @@ use crate::verdict::Verdict;
 use abt_rate::Rate;
 use std::marker::Model;
 
-/// A policer of one connection: the generic cell rate algorithm, with the spacing of the rate that is held when a
-/// cell arrives (I.371; docs/RULES.md, "GCRA").
+/// A policer of one connection: the generic cell rate algorithm, with the spacing of the rate that is
+/// held when a cell arrives (I.371; docs/RULES.md, "GCRA").
 ///
 /// Times are picoseconds.
 #[derive(Clone, Copy, Debug, PartialEq, Eq)]
@@ -37,7 +37,8 @@ impl Policer {
     /// A policer of a tolerance that has met no cell.
     pub fn new(tau: u64) -> Policer
         requires { tau ≤ TAU_MAX }
-        ensures { result ≡ fresh_policing tau }
+        ensures value { result ≡ fresh_policing tau }
+        ensures windows { StandsFor result [] }
     {
         Policer {
             gcra: Gcra::new(tau),
@@ -48,11 +49,12 @@ impl Policer {
     #[tactic(auto, using(crate::proofs::PolicingLemmas::policed_windows), unfolding(crate::specs::Policing::policed))]
     pub fn arrive(&mut self, at: u64, held: Rate) -> Result<Verdict, GcraFault>
         ensures clock_back { IsErrOf result GcraFault.ClockBack ↔ (at < self.old.clock) }
-        ensures time_range { IsErrOf result GcraFault.TimeRange ↔ ((self.old.clock ≤ at) × (ARRIVE_MAX < at)) }
+        ensures time_range { IsErrOf result GcraFault.TimeRange ↔
+            ((self.old.clock ≤ at) × (ARRIVE_MAX < at)) }
         ensures ok { IfOk result (λ verdict. (verdict, self.new) ≡ policed self.old at held) }
-        ensures windows { (taken : List Arrival) → StandsFor self.old taken → IfOk result (λ verdict.
-            IsVerdictAt self.old.tau taken at held verdict ×
-            StandsFor self.new (taken_after taken (record { at = at; spacing = spacing_of held }) verdict)) }
+        ensures windows { (taken : List Arrival) → StandsFor self.old taken →
+            IfOk result (λ verdict. IsVerdictAt self.old.tau taken at held verdict ×
+            StandsFor self.new (taken_after taken (arrival at (spacing_of held)) verdict)) }
         ensures same { OnErr result (self.new ≡ self.old) }
     {
         let Some(spacing) = held.spacing() else {

@@ -6,7 +6,8 @@ use std::test::Fail;
 
 mod walk;
 
-// Cells with a spacing of 10 within a tolerance of 2: the fourth arrives 3 before it is due (worked by hand).
+// Cells with a spacing of 10 within a tolerance of 2. The fourth arrives at 27, and is due at 30,
+// which is 3 before (worked by hand).
 const FIVE_CELLS: [(u64, u64); 5] = [(0, 10), (8, 10), (18, 10), (27, 10), (28, 10)];
 
 const FIVE_VERDICTS: [Verdict; 5] = [

@@ -2,7 +2,8 @@
 use Rattle.std.specs.Prelude.{ℕ, ◌<◌, ◌≤◌, Option, IfSome, IsSomeAnd, refl}
 use Rattle.std.specs.Coded.{Coded, code_by, coded×, coded_ℕ, coded_option}
 
--- The earliest moment of the next cell, and the moment of the last one, which is absent until a cell left.
+-- The earliest moment of the next cell, and the moment of the last one, which is absent until a cell
+-- left.
 pub record Shaping : Type 0 where
   pub next : ℕ
   pub emitted : Option ℕ

@@ -1,5 +1,5 @@
-//! A shaper: the cells of a source leave no sooner than the rate at which the last one left allows (docs/RULES.md,
-//! "Shaper").
+//! A shaper: the cells of a source leave no sooner than the rate at which the last one left allows
+//! (docs/RULES.md, "Shaper").
 #![tactic(auto)]
 
 mod fault;

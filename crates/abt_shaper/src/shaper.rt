@@ -8,8 +8,9 @@ use crate::limits::EMIT_MAX;
 use abt_rate::Rate;
 use std::marker::Model;
 
-/// A shaper of one source: after a cell that left at a rate the next one leaves a spacing of that rate later, or
-/// later than that (docs/RULES.md, "Shaper"). So a rate that changes counts from the next cell on.
+/// A shaper of one source: after a cell that left at a rate the next one leaves a spacing of that rate
+/// later, or later than that (docs/RULES.md, "Shaper"). So a rate that changes counts from the next
+/// cell on.
 ///
 /// Moments are picoseconds.
 #[derive(Clone, Copy, Debug, PartialEq, Eq)]
@@ -48,13 +49,17 @@ impl Shaper {
     /// Lets a cell leave now, at a rate, and gives the earliest moment of the next one.
     pub fn emit(&mut self, now: u64, rate: Rate) -> Result<u64, ShapeFault>
         ensures clock_back { IsErrOf result ShapeFault.ClockBack ↔ IsBehind self.old now }
-        ensures time_range { IsErrOf result ShapeFault.TimeRange ↔ (IsOnward self.old now × (EMIT_MAX < now)) }
-        ensures zero { IsErrOf result ShapeFault.Zero ↔ (IsOnward self.old now × (now ≤ EMIT_MAX) × (rate ≡ 0)) }
+        ensures time_range { IsErrOf result ShapeFault.TimeRange ↔
+            (IsOnward self.old now × (EMIT_MAX < now)) }
+        ensures zero { IsErrOf result ShapeFault.Zero ↔
+            (IsOnward self.old now × (now ≤ EMIT_MAX) × (rate ≡ 0)) }
         ensures too_soon { (next : ℕ) → IsErrOf result (ShapeFault.TooSoon next) ↔
-            (IsOnward self.old now × (now ≤ EMIT_MAX) × (rate ≢ 0) × (now < self.old.next) × (next ≡ self.old.next)) }
+            (IsOnward self.old now × (now ≤ EMIT_MAX) × (rate ≢ 0) ×
+            (now < self.old.next) × (next ≡ self.old.next)) }
         ensures ok { IsOk result ↔ ((now ≤ EMIT_MAX) × (rate ≢ 0) × (self.old.next ≤ now)) }
         ensures value { MatchResult result
-            (λ next. (next ≡ now + spacing_of rate) × (self.new ≡ record { next = next; emitted = Some now }))
+            (λ next. (next ≡ now + spacing_of rate) ×
+            (self.new ≡ record { next = next; emitted = Some now }))
             (λ _. self.new ≡ self.old) }
     {
         if let Some(last) = self.emitted {

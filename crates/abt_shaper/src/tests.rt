@@ -1,7 +1,8 @@
 use super::*;
 use abt_rate::Rate;
 
-// The spacing of 5120 is 2500000000 picoseconds, that of 53e8 is 1000000000 (docs/RULES.md, "Rates").
+// The spacing of 5120 is 2500000000 picoseconds, that of 53e8 is 1000000000 (docs/RULES.md, "Rates"):
+// each answer is the moment plus the spacing of the rate at which the cell left.
 #[test]
 fn a_cell_waits_for_the_rate_of_the_one_before(rt: HostRuntime) {
     let slow = Rate::from_code(0x5120);

@@ -38,8 +38,8 @@ fn generated(alloc: Global, numbers: &mut Numbers) -> Result<Vec<(u64, u64)>, Al
     Ok(cells)
 }
 
-// For any two cells: the earlier one's arrival and the spacings from it up to the later one, less the tolerance, are
-// at most the later one's arrival.
+// For any two cells: the earlier one's arrival and the spacings from it up to the later one, less the
+// tolerance, are at most the later one's arrival.
 fn keeps_windows(tau: u64, cells: &[(u64, u64)]) -> bool {
     for (index, earlier) in cells.iter().enumerate() {
         let mut due = earlier.0.saturating_add(earlier.1);

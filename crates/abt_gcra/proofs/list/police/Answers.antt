@@ -1,11 +1,9 @@
-use Rattle.std.proofs.Common.{◌≡◌, ◌+◌, [], ◌∷◌, ◌++◌, arith, ap, refl, subst, ◌∙◌, drop, drop-cons, add-one, get_or}
+use Rattle.std.proofs.Common.{◌≡◌, ◌+◌, [], ◌∷◌, ◌++◌, arith, ap, subst, ◌∙◌, drop, drop-cons, add-one, get_or}
 use Rattle.std.proofs.Math.ListN.{drop_of_length-le}
 use Rattle.std.proofs.lemmas.Grind.{common_steps}
 use Rattle.abt_gcra.specs.declared.fault.GcraFault.TheVariants.{ClockBack, TimeRange}
 use Rattle.abt_gcra.specs.Refusal.{moments_in, IsFirstRefused}
-use Rattle.abt_gcra.specs.Standing.{StandsFor}
 use Rattle.abt_gcra.proofs.PolicingLemmas.{checked-clock}
-use Rattle.abt_gcra.proofs.WindowsLemmas.{conforms_none}
 use Rattle.abt_gcra.proofs.PoliceLemmas.{begun_none, begun_more, begun_all}
 use Rattle.abt_gcra.proofs.RefusalLemmas.{one_index, one_fault, first_back, first_late, accepted_next, clock_next, none_first}
 use Rattle.abt_gcra.proofs.list.police.Goals as goal
@@ -14,12 +12,10 @@ pub loop-index-init : goal.loop-index-init
 loop-index-init c = record {
   room = grind (arith, common_steps);
   count = grind (arith, common_steps);
-  tau_stays = ap (λ p. p.tau) c.new-gcra.ensures;
-  clock_is = ap (λ p. p.clock) c.new-gcra.ensures;
+  tau_stays = ap (λ p. p.tau) c.new-gcra.ensures.value;
+  clock_is = ap (λ p. p.clock) c.new-gcra.ensures.value;
   accepted = λ before fault below. absurd (omega arith);
-  begun =
-      let stands : StandsFor c.new-gcra.result [] = rw c.new-gcra.ensures (record { conform = conforms_none c.args.tau; tat = refl }) in
-      begun_none _ _ _ _ stands (grind (arith, common_steps));
+  begun = begun_none _ _ _ _ c.new-gcra.ensures.windows (grind (arith, common_steps));
 }
 
 first_is_back : (c : goal.After-drop-verdicts) → IsFirstRefused (moments_in c.args.cells.now) c.loop-index.index ClockBack
