@@ -16,6 +16,8 @@ DOCUMENTS = [
     "docs/DECISIONS.md",
 ]
 LONGEST_FILE = 400
+# Crates of types and laws: no public function of theirs has a body that a bug could stand in.
+WITHOUT_BODIES = {"abt_facts", "abt_model"}
 
 
 def crates_listed():
@@ -44,7 +46,7 @@ def faults():
         root = Path("crates") / name
         if not (root / "README.md").is_file():
             yield f"{name} has no README.md"
-        if not any((root / "must-fail").glob("*.edit")):
+        if name not in WITHOUT_BODIES and not any((root / "must-fail").glob("*.edit")):
             yield f"{name} has no edit that must fail"
         for source in sorted(root.glob("src/**/*.rt")):
             length = source.read_text().count("\n")
