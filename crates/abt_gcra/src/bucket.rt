@@ -58,7 +58,6 @@ impl Bucket {
 
     /// The verdict on a cell that arrives at a moment, with the spacing from it to the next one. It is
     /// never [`Verdict::NoRate`].
-    #[tactic(auto, unfolding(crate::specs::Policing::checked))]
     pub fn check(&mut self, at: u64, spacing: u64) -> Result<Verdict, GcraFault>
         requires least { 1 ≤ spacing }
         requires greatest { spacing ≤ SPACING_MAX }
@@ -72,16 +71,26 @@ impl Bucket {
         ensures same { OnErr result (self.new ≡ self.old) }
     {
         may_arrive(self.clock, at)?;
+        Ok(self.take(at, spacing))
+    }
+
+    // Takes a cell that may arrive, unless it comes too early.
+    #[tactic(auto, unfolding(crate::specs::Policing::checked))]
+    fn take(&mut self, at: u64, spacing: u64) -> Verdict
+        requires onward { self.old.clock ≤ at }
+        requires greatest { spacing ≤ SPACING_MAX }
+        ensures { (result, self.new) ≡ checked self.old at spacing }
+    {
         let level = match self.last_taken {
             Some(last) => self.level.saturating_sub(at - last),
             None => 0,
         };
         self.clock = at;
         if level > self.tau {
-            return Ok(Verdict::TooEarly);
+            return Verdict::TooEarly;
         }
         self.level = level + spacing;
         self.last_taken = Some(at);
-        Ok(Verdict::Conforming)
+        Verdict::Conforming
     }
 }

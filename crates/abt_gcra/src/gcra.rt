@@ -50,7 +50,6 @@ impl Gcra {
 
     /// The verdict on a cell that arrives at a moment, with the spacing from it to the next one. It is
     /// never [`Verdict::NoRate`].
-    #[tactic(auto, unfolding(crate::specs::Policing::checked))]
     pub fn check(&mut self, at: u64, spacing: u64) -> Result<Verdict, GcraFault>
         requires least { 1 ≤ spacing }
         requires greatest { spacing ≤ SPACING_MAX }
@@ -63,13 +62,24 @@ impl Gcra {
             StandsFor self.new (taken_after taken (arrival at spacing) verdict)) }
         ensures same { OnErr result (self.new ≡ self.old) }
     {
-        self.advance(at)?;
+        may_arrive(self.clock, at)?;
+        Ok(self.take(at, spacing))
+    }
+
+    // Takes a cell that may arrive, unless it comes too early.
+    #[tactic(auto, unfolding(crate::specs::Policing::checked))]
+    fn take(&mut self, at: u64, spacing: u64) -> Verdict
+        requires arrival { at ≤ ARRIVE_MAX }
+        requires greatest { spacing ≤ SPACING_MAX }
+        ensures { (result, self.new) ≡ checked self.old at spacing }
+    {
+        self.clock = at;
         let due = self.tat.unwrap_or(at);
         if due > at + self.tau {
-            return Ok(Verdict::TooEarly);
+            return Verdict::TooEarly;
         }
         self.tat = Some(at.max(due) + spacing);
-        Ok(Verdict::Conforming)
+        Verdict::Conforming
     }
 
     /// Moves the clock alone, as for a cell that isn't policed.
