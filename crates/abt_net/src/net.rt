@@ -1,6 +1,6 @@
 //! Nets.
 
-ghost use Rattle.std.specs.Prelude.{◌≡◌, ◌≢◌, ◌↔◌, ◌⊎◌, ℕ, Some, IfOk, IfSome, IsOk, IsErrOf};
+ghost use Rattle.std.specs.Prelude.{◌≡◌, ◌≢◌, ◌<◌, ◌↔◌, ◌⊎◌, ℕ, Some, IfOk, IfSome, IsOk, IsErrOf, length};
 ghost use Rattle.abt_net.specs.Faults.{IsFirstFault};
 ghost use Rattle.abt_net.specs.Search.{NamesLeast};
 ghost use Rattle.abt_net.specs.Topology.{IsWithinRules, channel_at};
@@ -69,6 +69,7 @@ impl Net {
     /// The number of the connection that has this channel.
     pub fn find(&self, vc: Vc) -> Option<u16>
         ensures value { IfSome result (λ c. channel_at self.now.conns c ≡ Some vc) }
+        ensures within { IfSome result (λ c. c < length self.now.conns) }
         ensures only { (c : ℕ) → channel_at self.now.conns c ≡ Some vc → result ≡ Some c }
         ensures rules { IsWithinRules self.now }
     {

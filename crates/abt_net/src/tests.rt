@@ -294,3 +294,32 @@ fn twelve(alloc: Global, last: u16, tau: u64) -> Result<(Vec<u64>, Vec<Conn>), A
     })?;
     Ok((vec![in alloc; 512000]?, conns))
 }
+
+#[test]
+fn faults_say_which_connection_breaks_which_rule(rt: HostRuntime) -> Result<(), Fail> {
+    let connection = 3;
+    let rows = [
+        (
+            NetFault::NoPort { connection },
+            "connection 3 names a port that is not in the net",
+        ),
+        (
+            NetFault::PathLength { connection },
+            "the path of connection 3 does not have 1 to 16 hops",
+        ),
+        (
+            NetFault::PathRepeat { connection },
+            "connection 3 visits a port twice",
+        ),
+        (
+            NetFault::VcRepeat { connection },
+            "connection 3 has the channel of an earlier one",
+        ),
+        (NetFault::Limit, "the net is past its limits"),
+        (NetFault::Memory, "out of memory"),
+    ];
+    for (fault, words) in rows {
+        assert_eq!(rt; format!(in rt.alloc(); "{fault}")?.as_str(), words);
+    }
+    Ok(())
+}
