@@ -1,10 +1,13 @@
-ghost use Rattle.std.specs.Prelude.{◌≡◌, ◌<◌, IfOk};
+ghost use Rattle.std.specs.Prelude.{◌≡◌, ◌<◌, ◌≤◌, IfOk};
+ghost use Rattle.std.specs.Option.{ForSome};
 
 use super::*;
 use abt_cell::{Answer, Request, Vc};
-use abt_gcra::Verdict;
+use abt_gcra::{TAU_MAX, Verdict};
 use abt_ledger::Ledger;
 use abt_rate::Rate;
+use std::alloc::Global;
+use std::process::Abort;
 use std::test::Fail;
 
 /// The capacity of a link of 1,000 cells per second, in units.
@@ -32,13 +35,36 @@ fn request(vc: Vc, seq: u32, floor: Rate, ask: Rate) -> Result<Request, Fail>
     Ok(Request::new(vc, seq, floor, ask).ok_or("no such request")?)
 }
 
+// A port; where memory was refused, it is asked for again.
+fn new_port(alloc: Global) -> Result<Port, Fail> {
+    if let Ok(port) = Port::new(alloc, 7, CAPACITY) {
+        return Ok(port);
+    }
+    Ok(Port::new(alloc, 7, CAPACITY)?)
+}
+
+// Adds a connection; where memory was refused, nothing has changed, and the same call then succeeds.
+fn add(rt: &impl Abort, port: &mut Port, vc: Vc, tau: Option<u64>)
+    requires { ForSome tau (λ t. t ≤ TAU_MAX) }
+{
+    let (count, total) = (port.count(), port.total());
+    let mut added = port.add(vc, tau);
+    if added == Err(AddFault::Memory) {
+        assert_eq!(rt; (port.count(), port.total()), (count, total));
+        assert_eq!(rt; port.held(vc), None);
+        added = port.add(vc, tau);
+    }
+    assert_eq!(rt; added, Ok(()));
+    assert_eq!(rt; port.count(), count + 1);
+}
+
 #[test]
 fn an_ingress_answers_by_the_first_cause(rt: HostRuntime) -> Result<(), Fail> {
     let (rest, most, all) = rates();
     let (ingress, transit, stranger) = (channel(100)?, channel(101)?, channel(102)?);
-    let mut port = Port::new(rt.alloc(), 7, CAPACITY)?;
-    assert_eq!(rt; port.add(ingress, Some(TAU)), Ok(()));
-    assert_eq!(rt; port.add(transit, None), Ok(()));
+    let mut port = new_port(rt.alloc())?;
+    add(&rt, &mut port, ingress, Some(TAU));
+    add(&rt, &mut port, transit, None);
     assert_eq!(rt; port.add(ingress, Some(TAU)), Err(AddFault::Known));
     assert_eq!(rt; port.add(ingress, None), Err(AddFault::Known));
 
@@ -95,9 +121,9 @@ fn an_ingress_answers_by_the_first_cause(rt: HostRuntime) -> Result<(), Fail> {
 fn a_no_gives_back_what_is_held_above_the_floor(rt: HostRuntime) -> Result<(), Fail> {
     let (rest, most, all) = rates();
     let (raised, waiting) = (channel(100)?, channel(101)?);
-    let mut port = Port::new(rt.alloc(), 7, CAPACITY)?;
-    assert_eq!(rt; port.add(raised, Some(TAU)), Ok(()));
-    assert_eq!(rt; port.add(waiting, None), Ok(()));
+    let mut port = new_port(rt.alloc())?;
+    add(&rt, &mut port, raised, Some(TAU));
+    add(&rt, &mut port, waiting, None);
     assert_eq!(rt;
         port.request(&request(raised, 1, Rate::ZERO, rest)?),
         Onward::Pass
@@ -141,8 +167,8 @@ fn a_no_gives_back_what_is_held_above_the_floor(rt: HostRuntime) -> Result<(), F
 fn a_yes_leaves_the_port_as_it_is(rt: HostRuntime) -> Result<(), Fail> {
     let (rest, most, _) = rates();
     let raised = channel(100)?;
-    let mut port = Port::new(rt.alloc(), 7, CAPACITY)?;
-    assert_eq!(rt; port.add(raised, None), Ok(()));
+    let mut port = new_port(rt.alloc())?;
+    add(&rt, &mut port, raised, None);
     let asks = request(raised, 1, Rate::ZERO, most)?;
     assert_eq!(rt; port.request(&asks), Onward::Pass);
     assert_eq!(rt; port.answer(&Answer::of(&asks, true)), Back::Pass);
@@ -166,9 +192,9 @@ fn a_yes_leaves_the_port_as_it_is(rt: HostRuntime) -> Result<(), Fail> {
 #[test]
 fn a_full_port_serves_those_it_knows(rt: HostRuntime) -> Result<(), Fail> {
     let (rest, ..) = rates();
-    let mut port = Port::new(rt.alloc(), 7, CAPACITY)?;
+    let mut port = new_port(rt.alloc())?;
     for vci in 0..1024u16 {
-        assert_eq!(rt; port.add(channel(vci)?, Some(TAU)), Ok(()), "at {vci}");
+        add(&rt, &mut port, channel(vci)?, Some(TAU));
     }
     assert_eq!(rt; port.add(channel(1024)?, None), Err(AddFault::Full));
     assert_eq!(rt; port.add(channel(1023)?, None), Err(AddFault::Known));
@@ -179,30 +205,6 @@ fn a_full_port_serves_those_it_knows(rt: HostRuntime) -> Result<(), Fail> {
         Onward::Pass
     );
     assert_eq!(rt; port.held(channel(1023)?), Some(rest));
-    Ok(())
-}
-
-#[test]
-fn a_refused_growth_changes_nothing(rt: HostRuntime) -> Result<(), Fail> {
-    let (rest, ..) = rates();
-    let mut port = match Port::new(rt.alloc(), 7, CAPACITY) {
-        Ok(port) => port,
-        Err(_) => Port::new(rt.alloc(), 7, CAPACITY)?,
-    };
-    for vci in 0..20u16 {
-        let vc = channel(vci)?;
-        if port.add(vc, Some(TAU)) == Err(AddFault::Memory) {
-            assert_eq!(rt; port.count(), vci as usize);
-            assert_eq!(rt; port.held(vc), None);
-            assert_eq!(rt; port.add(vc, Some(TAU)), Ok(()), "at {vci}");
-        }
-        assert_eq!(rt; port.tau(vc), Some(Some(200)));
-    }
-    assert_eq!(rt;
-        port.request(&request(channel(0)?, 1, Rate::ZERO, rest)?),
-        Onward::Pass
-    );
-    assert_eq!(rt; port.total(), 204800);
     Ok(())
 }
 
