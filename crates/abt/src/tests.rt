@@ -1,15 +1,20 @@
 //! Rows of the program from its words to its octets. Cells and their changes are those of docs/FORMATS.md, "Test cells".
 mod cells;
+mod memory;
 mod plans;
 mod ports;
 mod rates;
 mod streams;
+
+ghost use Rattle.std.specs.Prelude.{IfOk};
+ghost use Rattle.abt.specs.Plans.{IsWithinLimits};
 
 use crate::perform::perform;
 use crate::plan::{Plan, WordsFault};
 use crate::words::plan_words;
 use std::alloc::Global;
 use std::io::{self, Error, ErrorKind, Write};
+use std::process::Abort;
 use std::test::Fail;
 
 /// Request 1 of vci 100: floor 0000, ask 5258 (307200 units).
@@ -75,18 +80,26 @@ impl Write for Narrow {
 }
 
 /// The plan of some words. Where memory is refused, the words are read again.
-fn planned<'a>(alloc: Global, words: &'a [&'a str]) -> Result<Plan, Fail> {
-    let plan = match plan_words(alloc, words) {
-        Err(WordsFault::Memory) => plan_words(alloc, words),
-        plan => plan,
+fn planned<'a>(alloc: Global, words: &'a [&'a str]) -> Result<Plan, Fail>
+    ensures { IfOk result IsWithinLimits }
+{
+    let refused = match plan_words(alloc, words) {
+        Ok(plan) => return Ok(plan),
+        Err(fault) => fault,
     };
-    plan.map_err(|_| Fail::from("the words are no plan"))
+    if !matches!(refused, WordsFault::Memory) {
+        return Err(Fail::from("the words are no plan"));
+    }
+    match plan_words(alloc, words) {
+        Ok(plan) => Ok(plan),
+        Err(_) => Err(Fail::from("memory was refused twice")),
+    }
 }
 
-/// Carries out what some words ask for, and demands the status and what goes out. Where memory is refused, nothing
-/// goes out but the fault, and the same plan is then carried out.
+/// Carries out what some words ask for, and demands the status and what goes out. Where memory is refused, the same plan
+/// is carried out again.
 fn expect(
-    rt: &impl std::process::Abort,
+    rt: &impl Abort,
     alloc: Global,
     words: &[&str],
     status: u8,
@@ -94,19 +107,30 @@ fn expect(
     fault: &str,
 ) -> Result<(), Fail> {
     let plan = planned(alloc, words)?;
-    for last in [false, true] {
-        let mut out = Narrow::new(512);
-        let mut errors = Narrow::new(512);
-        let answer = perform(alloc, &plan, &mut "".as_bytes(), &mut out, &mut errors);
-        if !last && errors.taken() == b"fault: memory\n".as_slice() {
-            assert_eq!(rt; answer, 1);
-            assert_eq!(rt; out.taken(), b"".as_slice());
-            continue;
-        }
-        assert_eq!(rt; errors.taken(), fault.as_bytes());
-        assert_eq!(rt; out.taken(), text.as_bytes());
-        assert_eq!(rt; answer, status);
+    if is_done(rt, alloc, &plan, status, text, fault) {
+        return Ok(());
+    }
+    if is_done(rt, alloc, &plan, status, text, fault) {
         return Ok(());
     }
     Err(Fail::from("memory was refused twice"))
+}
+
+/// Whether a plan ends with this status, this text and this fault. If not, memory was refused: then that is told with
+/// status 1, and nothing goes out.
+fn is_done(rt: &impl Abort, alloc: Global, plan: &Plan, status: u8, text: &str, fault: &str) -> bool
+    requires { IsWithinLimits plan.now }
+{
+    let mut out = Narrow::new(512);
+    let mut errors = Narrow::new(512);
+    let answer = perform(alloc, plan, &mut "".as_bytes(), &mut out, &mut errors);
+    if errors.taken() == "fault: memory\n".as_bytes() {
+        assert_eq!(rt; answer, 1);
+        assert_eq!(rt; out.taken(), "".as_bytes());
+        return false;
+    }
+    assert_eq!(rt; errors.taken(), fault.as_bytes());
+    assert_eq!(rt; out.taken(), text.as_bytes());
+    assert_eq!(rt; answer, status);
+    true
 }

@@ -101,10 +101,25 @@ fn other_texts_are_no_cell(rt: HostRuntime) -> Result<(), Fail> {
     for text in ["zz", "0", "0z", "+0", "0 0"] {
         expect(&rt, alloc, &["cell", text], 1, "", "fault: hex\n")?;
     }
-    let short = &A[..102];
-    let long = format!(in alloc; "{A}00")?;
-    for text in ["", "00", short, long.as_str()] {
+    for text in ["", "00"] {
         expect(&rt, alloc, &["cell", text], 1, "", "fault: Length\n")?;
     }
-    Ok(())
+    let short = format!(in alloc; "0010064c02045258000000000000000000000001{FILLER}03")?;
+    expect(
+        &rt,
+        alloc,
+        &["cell", short.as_str()],
+        1,
+        "",
+        "fault: Length\n",
+    )?;
+    let long = format!(in alloc; "{A}00")?;
+    expect(
+        &rt,
+        alloc,
+        &["cell", long.as_str()],
+        1,
+        "",
+        "fault: Length\n",
+    )
 }
