@@ -1,5 +1,5 @@
 -- The names that the program prints.
-use Rattle.std.specs.Prelude.{ℕ, codes}
+use Rattle.std.specs.Prelude.{codes}
 use Rattle.abt_text.specs.Text.{Text, ◌⋅◌, newline}
 use Rattle.abt_cell.specs.declared.fault.RmFault.{RmFault}
 use Rattle.abt_cell.specs.declared.fault.RmFault.TheVariants.{NotRm, Crc, Protocol, Maintenance, Elastic, Direction, SeqZero, RateOrder}
