@@ -1,0 +1,9 @@
+//! Lists as the public types of Gadwallbunk have them.
+#![tactic(auto)]
+
+mod sequence;
+
+pub use sequence::Sequence;
+
+#[cfg(test)]
+mod tests;

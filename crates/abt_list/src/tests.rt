@@ -1,0 +1,16 @@
+use super::*;
+use std::test::Fail;
+
+#[test]
+fn what_is_pushed_stands_at_the_end(rt: HostRuntime) -> Result<(), Fail> {
+    let mut numbers = Sequence::new(rt.alloc());
+    assert!(rt; numbers.is_empty());
+    for number in [4u64, 7, 4] {
+        numbers.push(number)?;
+    }
+    assert_eq!(rt; numbers.as_slice(), [4, 7, 4].as_slice());
+    assert_eq!(rt; numbers.len(), 3);
+    let same: Sequence<u64> = Vec::from_slice(rt.alloc(), &[4, 7, 4])?.into();
+    assert_eq!(rt; same.as_slice(), numbers.as_slice());
+    Ok(())
+}
