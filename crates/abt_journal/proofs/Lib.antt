@@ -1,0 +1,4 @@
+pub mod Seen
+pub mod Growing
+pub mod Reopening
+pub mod Steps

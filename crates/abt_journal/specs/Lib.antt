@@ -1,0 +1,4 @@
+pub mod Replay
+pub mod Opening
+pub mod Journaled
+pub mod Receipts
