@@ -1,8 +1,11 @@
 -- The table that a port had at first is found in the table that it has: an input leaves the connections, and their tau.
-use Rattle.std.proofs.Common.{◌≡◌, ◌≢◌, ℕ, Bool, true, false, cond, List, [], ◌∷◌, map, Option, None, Some, refl, sym, ap, subst, ◌∙◌, nat_lt, ◌==◌}
+use Rattle.std.proofs.Common.{◌≡◌, ◌≢◌, ℕ, Bool, true, false, cond, ◌&&◌, List, [], ◌∷◌, map, length, Option, None, Some, refl, sym, ap, subst, ◌∙◌, nat_lt, ◌==◌}
 use Rattle.std.specs.Option.{option_map}
-use Rattle.std.specs.Ordering.{eq_by_cmp}
-use Rattle.std.specs.FinMap.{FinMap, get, entries, from_entries, find, get-entries, get-from_entries, same_map}
+use lib.Dec.{T}
+use Rattle.std.proofs.lemmas.List.{length-map}
+use Rattle.std.specs.Ordering.{eq_by_cmp, is_lt}
+use Rattle.std.specs.FinMap.{FinMap, get, len, entries, entries_sorted, from_entries, from_sorted, find, is_sorted, get-entries, get-from_entries, get-from_sorted, entries-from_sorted, len-entries, same_map}
+use Rattle.std.specs.FinMap.Entries.{below_all}
 use Rattle.abt_cell.specs.Channel.{Channel, channel_cmp, same_channel}
 use Rattle.abt_cell.proofs.ChannelLemmas.{channel_cmp_total, channel_cmp-IsAntisymmetric, same_channel-is, same_channel-refl}
 use Rattle.abt_gcra.specs.Policing.{Policing, policed, checked}
@@ -12,6 +15,7 @@ use Rattle.abt_journal.specs.declared.input.PortInput.{PortInput}
 use Rattle.abt_journal.specs.declared.input.PortInput.TheVariants.{Request, Answer, Arrive}
 use Rattle.abt_journal.specs.Opening.{tau_of, as_added, IsOpening, reopened}
 use Rattle.abt_journal.specs.Replay.{table_after}
+use Rattle.abt_journal.proofs.Openings.{tau_of-opening}
 use Rattle.abt_cell.specs.Message.{Terms, Reply}
 
 abbrev added_entry : Channel × Connection → Channel × Connection
@@ -113,3 +117,37 @@ pub reopened-table_after : (capacity : ℕ) (t : Table) (input : PortInput) → 
 reopened-table_after capacity t (Request q) = request_by capacity t q (connection_at t q.vc) refl
 reopened-table_after capacity t (Answer a) = answer_by capacity t a (connection_at t a.terms.vc) refl
 reopened-table_after capacity t (Arrive vc at) = arrival_by capacity t vc at (connection_at t vc) refl
+
+-- As many connections as at first
+
+below-added : (vc : Channel) (es : List (Channel × Connection)) → below_all channel_cmp vc (map added_entry es) ≡ below_all channel_cmp vc es
+below-added vc [] = refl
+below-added vc (e ∷ es) = ap (λ rest. is_lt (channel_cmp vc e.0) && rest) (below-added vc es)
+
+sorted-added : (es : List (Channel × Connection)) → is_sorted channel_cmp (map added_entry es) ≡ is_sorted channel_cmp es
+sorted-added [] = refl
+sorted-added (e ∷ es) = λ i. below-added e.0 es i && sorted-added es i
+
+pub len-reopened : (capacity : ℕ) (t : Table) → len (reopened capacity t).connections ≡ len t.connections
+len-reopened capacity t =
+    let added : List (Channel × Connection) = map added_entry (entries t.connections) in
+    let sorted : T (is_sorted channel_cmp (map added_entry (entries t.connections))) = subst T (sym (sorted-added (entries t.connections))) (entries_sorted t.connections) in
+    let same : from_entries {R = channel_cmp} (map added_entry (entries t.connections)) ≡ from_sorted (map added_entry (entries t.connections)) =
+    same_map channel_cmp_total channel_cmp-IsAntisymmetric _ _ (λ vc. get-from_entries channel_cmp_total added vc ∙ sym (get-from_sorted channel_cmp added vc sorted)) in
+    ap len same ∙ len-entries _ ∙ ap length (entries-from_sorted channel_cmp added sorted) ∙ length-map (entries t.connections) added_entry ∙ sym (len-entries t.connections)
+
+added_tau : (o : Option Connection) → option_map tau_of (option_map as_added o) ≡ option_map tau_of o
+added_tau None = refl
+added_tau (Some c) = ap Some (tau_of-opening (tau_of c))
+
+pub tau-reopened : (capacity : ℕ) (t : Table) (vc : Channel) → option_map tau_of (connection_at (reopened capacity t) vc) ≡ option_map tau_of (connection_at t vc)
+tau-reopened capacity t vc = ap (option_map tau_of) (connection_at-reopened capacity t vc) ∙ added_tau (connection_at t vc)
+
+is_as_added : (o : Option Connection) (c : Connection) → option_map as_added o ≡ Some c → c ≡ as_added c
+is_as_added None c is = absurd (cc)
+is_as_added (Some old) c is =
+    let same : as_added old ≡ c = cc in
+    sym same ∙ ap opening (sym (tau_of-opening (tau_of old))) ∙ ap as_added same
+
+pub reopened-IsOpening : (capacity : ℕ) (t : Table) → IsOpening (reopened capacity t)
+reopened-IsOpening capacity t vc c there = is_as_added (connection_at t vc) c (sym (connection_at-reopened capacity t vc) ∙ there)

@@ -46,3 +46,8 @@ seen_turn port receipts items i r seen new same below at was turn =
     let within : i < length receipts = omega (arith, ap length same, below) in
     let there : r ≡ get_or receipts i r = at ∙ ap (λ (rs : List Receipt). get_or rs i r) same in
     let more = seen_at_more port receipts i r within there in grind (arith, nat_tests)
+
+-- the last receipt of a port is what was seen of it
+pub seen_at_last : (port : ℕ) (receipts grown : List Receipt) (r : Receipt) → grown ≡ receipts ++ r ∷ [] → r.port ≡ port → seen_at port grown ≡ r.entry.place + 1
+seen_at_last port receipts grown r pushed here =
+    let more = ap (seen_at port) pushed ∙ seen_at-push port receipts r in grind (arith, nat_tests)

@@ -1,10 +1,14 @@
 //! A port with its journal.
 ghost use Rattle.std.specs.Prelude.{◌≡◌, ◌+◌, ◌<◌, ◌^◌, ◌∷◌, ◌++◌, ◌↔◌, [], Some, length, slice_get, IsTrue, IfOk, OnErr};
-ghost use Rattle.abt_journal.specs.Opening.{IsOpening};
+ghost use Rattle.std.specs.Option.{option_map};
+ghost use Rattle.std.specs.FinMap as map;
+ghost use Rattle.abt_node.specs.Table.{connection_at};
+ghost use Rattle.abt_journal.specs.Opening.{IsOpening, tau_of};
 ghost use Rattle.abt_journal.specs.Replay.{reply_by, table_after, replay, IsHistory};
 
 use crate::entry::Entry;
 use crate::input::{PortInput, PortReply};
+use abt_cell::Vc;
 use abt_node::Port;
 use std::alloc::{AllocError, Global};
 use std::marker::Model;
@@ -63,6 +67,29 @@ impl PortState {
         self.port.id()
     }
 
+    /// The capacity of the link when the journal began, in units.
+    pub fn opening_capacity(&self) -> u64
+        ensures { result ≡ self.now.opening.capacity }
+    {
+        self.opening_capacity
+    }
+
+    /// How many connections the port has, which are those that it had when the journal began.
+    pub fn count(&self) -> usize
+        ensures { result ≡ map.len self.now.opening.connections }
+    {
+        self.port.count()
+    }
+
+    /// The tolerance of a connection's policer, which is the one that it had when the journal began: `Some(None)` where
+    /// the port isn't the ingress, and `None` for another's connection.
+    pub fn tau(&self, vc: Vc) -> Option<Option<u64>>
+        ensures value { result ≡ option_map tau_of (connection_at self.now.opening vc) }
+        ensures opening { IsOpening self.now.opening }
+    {
+        self.port.tau(vc)
+    }
+
     /// The journal, of which the port's table is the replay.
     pub fn entries(&self) -> &[Entry]
         ensures value { result.now ≡ self.now.entries }
@@ -70,6 +97,15 @@ impl PortState {
         ensures replay { self.now.table ≡ replay self.now.opening self.now.entries }
     {
         self.entries.as_slice()
+    }
+
+    /// Whether the journal has this entry at its place.
+    #[tactic(auto, using(std::proofs::lemmas::Option::gets))]
+    pub fn has(&self, entry: &Entry) -> bool
+        ensures { IsTrue result ↔ (slice_get self.now.entries entry.now.place ≡ Some entry.now) }
+    {
+        let place = entry.place as usize;
+        place < self.entries.len() && self.entries[place].is(entry)
     }
 
     /// Hands an input to the port and puts the step into the journal. The answer is its place there, and the reply.
@@ -98,7 +134,8 @@ impl PortState {
 
     /// The journal alone.
     pub fn into_entries(self) -> Vec<Entry>
-        ensures { result.items ≡ self.entries }
+        ensures value { result.items ≡ self.entries }
+        ensures history { IsHistory self.opening self.entries }
     {
         let PortState {
             port,
