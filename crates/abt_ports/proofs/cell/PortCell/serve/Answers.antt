@@ -1,0 +1,5 @@
+use Rattle.std.proofs.Common.{rules}
+use Rattle.abt_ports.proofs.cell.PortCell.serve.Goals as goal
+
+pub returns-clause-wound : goal.returns-clause-wound
+returns-clause-wound g c = λ seen found is. let h = (c.step.ensures.wound seen found).0 is in (h.0, h.2)

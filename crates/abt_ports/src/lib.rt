@@ -1,0 +1,13 @@
+//! Ports under locks, and the gathering of their journals with the receipts of all callers.
+#![tactic(auto)]
+
+mod cell;
+mod fault;
+mod gate;
+mod journals;
+mod receipts;
+
+pub use cell::PortCell;
+pub use fault::GatherFault;
+pub use gate::{Gate, OpenGate};
+pub use journals::Journals;
