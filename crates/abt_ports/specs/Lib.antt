@@ -1,2 +1,4 @@
 pub mod Gathered
 pub mod Missing
+pub mod Foreign
+pub mod Faults

@@ -4,10 +4,13 @@
 mod cell;
 mod fault;
 mod gate;
+mod gathering;
 mod journals;
+mod opening;
 mod receipts;
 
 pub use cell::PortCell;
 pub use fault::GatherFault;
 pub use gate::{Gate, OpenGate};
+pub use gathering::gather;
 pub use journals::Journals;

@@ -1,0 +1,6 @@
+use Rattle.std.proofs.Common.{◌≡◌}
+use Rattle.abt_ports.proofs.Through.{IsCounted}
+use Rattle.abt_ports.proofs.opening.has_connections.Given as goal
+
+abbrev pub invariant-loop-conn : goal.invariant-loop-conn
+invariant-loop-conn l = IsCounted l.state.opening l.port l.net.conns l.conn-index l.through

@@ -1,0 +1,56 @@
+//! The journals of a run, with the receipts for all their entries.
+ghost use Rattle.std.specs.Prelude.{◌≡◌, ◌≤◌, [], IfOk, IfErr, map, length, vec_len, vec_capacity};
+ghost use Rattle.abt_ports.specs.Foreign.{AreOfNet, AreHistories};
+ghost use Rattle.abt_ports.specs.Gathered.{journals_of, AreGathered, AreReceipts};
+ghost use Rattle.abt_ports.specs.Faults.{IsFirstFault};
+
+use crate::fault::GatherFault;
+use crate::journals::Journals;
+use crate::opening::first_foreign;
+use crate::receipts::{counts_fit, first_missing};
+use abt_journal::{Entry, PortState, Seat};
+use abt_net::Net;
+use std::alloc::Global;
+
+/// Takes the journals out of the states of all ports of a net, by the numbers of the ports, where the receipts of the
+/// seats are just their entries: each is for one entry, each entry has one, and each caller's are in its order
+/// (docs/RULES.md, "Journals"). Memory is looked for first. Otherwise the fault is the first that applies, and all is
+/// dropped.
+pub fn gather(
+    alloc: Global,
+    net: &Net,
+    states: Vec<PortState>,
+    seats: Vec<Seat>,
+) -> Result<Journals, GatherFault>
+    ensures value { IfOk result (λ journals. journals ≡ journals_of states.items) }
+    ensures net { IfOk result (λ _. AreOfNet net.now states.items) }
+    ensures histories { IfOk result (AreHistories net.now) }
+    ensures gathered { IfOk result (λ journals. AreGathered journals seats.items) }
+    ensures receipts { IfOk result (λ journals. AreReceipts journals seats.items) }
+    ensures err { IfErr result (IsFirstFault net.now states.items seats.items) }
+{
+    let mut seen = vec![in alloc; 0u64; states.len()]?;
+    let ports = Vec::with_capacity(alloc, states.len())?;
+    if let Some(port) = first_foreign(net, &states) {
+        return Err(GatherFault::Foreign { port });
+    }
+    if !counts_fit(&states, &seats) {
+        return Err(GatherFault::Count);
+    }
+    if let Some((port, place)) = first_missing(&states, &seats, &mut seen) {
+        return Err(GatherFault::Missing { port, place });
+    }
+    Ok(entries_of(states, ports))
+}
+
+// The journals, in the room that is there for them.
+fn entries_of(states: Vec<PortState>, mut ports: Vec<Vec<Entry>>) -> Journals
+    requires empty { ports.items ≡ [] }
+    requires room { vec_len states ≤ vec_capacity ports }
+    ensures { result ≡ journals_of states.items }
+{
+    for state in states {
+        ports.push_reserved(state.into_entries());
+    }
+    Journals { ports }
+}
