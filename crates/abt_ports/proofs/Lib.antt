@@ -3,3 +3,6 @@ pub mod Walk
 pub mod Hops
 pub mod Rows
 pub mod Through
+pub mod Histories
+pub mod Rising
+pub mod Pigeon

@@ -121,3 +121,7 @@ all_more P xs i x at here was k y below there = elim (below_or_last k i below) [
       let one : Some y ≡ Some x = sym there ∙ ap (slice_get xs) last ∙ at in
       subst P (sym (same_Some y x one)) here)
 ]
+
+pub none_found : {A P : Type 0} (o : Option A) → o ≡ None → IfNone o P → P
+none_found None e h = h
+none_found (Some x) e h = absurd (cc)

@@ -1,5 +1,6 @@
 //! The journals of a run, with the receipts for all their entries.
-ghost use Rattle.std.specs.Prelude.{◌≡◌, ◌≤◌, [], IfOk, IfErr, map, length, vec_len, vec_capacity};
+ghost use Rattle.std.specs.Prelude.{◌≡◌, ◌≤◌, [], All, IfOk, IfErr, vec_len, vec_capacity};
+ghost use Rattle.abt_journal.specs.Replay.{IsHistory};
 ghost use Rattle.abt_ports.specs.Foreign.{AreOfNet, AreHistories};
 ghost use Rattle.abt_ports.specs.Gathered.{journals_of, AreGathered, AreReceipts};
 ghost use Rattle.abt_ports.specs.Faults.{IsFirstFault};
@@ -47,7 +48,8 @@ pub fn gather(
 fn entries_of(states: Vec<PortState>, mut ports: Vec<Vec<Entry>>) -> Journals
     requires empty { ports.items ≡ [] }
     requires room { vec_len states ≤ vec_capacity ports }
-    ensures { result ≡ journals_of states.items }
+    ensures value { result ≡ journals_of states.items }
+    ensures histories { All (λ s. IsHistory s.opening s.entries) states.items }
 {
     for state in states {
         ports.push_reserved(state.into_entries());
