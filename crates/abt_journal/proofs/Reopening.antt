@@ -1,10 +1,10 @@
 -- The table that a port had at first is found in the table that it has: an input leaves the connections, and their tau.
-use Rattle.std.proofs.Common.{◌≡◌, ◌≢◌, ℕ, Bool, true, false, cond, ◌&&◌, List, [], ◌∷◌, map, length, Option, None, Some, refl, sym, ap, subst, ◌∙◌, nat_lt, ◌==◌}
+use Rattle.std.proofs.Common.{◌≡◌, ◌≢◌, ℕ, Bool, true, false, cond, ◌&&◌, List, [], ◌∷◌, map, length, Option, None, Some, refl, sym, ap, subst, ◌∙◌, ◌==◌}
 use Rattle.std.specs.Option.{option_map}
 use lib.Dec.{T}
 use Rattle.std.proofs.lemmas.List.{length-map}
 use Rattle.std.specs.Ordering.{eq_by_cmp, is_lt}
-use Rattle.std.specs.FinMap.{FinMap, get, len, entries, entries_sorted, from_entries, from_sorted, find, is_sorted, get-entries, get-from_entries, get-from_sorted, entries-from_sorted, len-entries, same_map}
+use Rattle.std.specs.FinMap.{len, entries, entries_sorted, from_entries, from_sorted, find, is_sorted, get-entries, get-from_entries, get-from_sorted, entries-from_sorted, len-entries, same_map}
 use Rattle.std.specs.FinMap.Entries.{below_all}
 use Rattle.abt_cell.specs.Channel.{Channel, channel_cmp, same_channel}
 use Rattle.abt_cell.proofs.ChannelLemmas.{channel_cmp_total, channel_cmp-IsAntisymmetric, same_channel-is, same_channel-refl}
@@ -50,7 +50,7 @@ added_as_is (Some c) h = ap Some (sym (h c refl))
 
 -- an opening table is what it was at first
 pub reopened_opening : (t : Table) → IsOpening t → reopened t.capacity t ≡ t
-reopened_opening t h = same_table _ t refl refl (λ vc. connection_at-reopened t.capacity t vc ∙ added_as_is (connection_at t vc) (h vc))
+reopened_opening t h = same_table _ t refl refl (λ vc. connection_at-reopened t.capacity t vc ∙ added_as_is (connection_at t vc) (h.rows vc))
 
 apart : (q vc : Channel) → same_channel q vc ≡ false → q ≢ vc
 apart q vc e same = let no : true ≡ false = sym (same_channel-refl q) ∙ ap (same_channel q) same ∙ e in cc
@@ -150,4 +150,4 @@ is_as_added (Some old) c is =
     sym same ∙ ap opening (sym (tau_of-opening (tau_of old))) ∙ ap as_added same
 
 pub reopened-IsOpening : (capacity : ℕ) (t : Table) → IsOpening (reopened capacity t)
-reopened-IsOpening capacity t vc c there = is_as_added (connection_at t vc) c (sym (connection_at-reopened capacity t vc) ∙ there)
+reopened-IsOpening capacity t = record { rows = λ vc c there. is_as_added (connection_at t vc) c (sym (connection_at-reopened capacity t vc) ∙ there) }

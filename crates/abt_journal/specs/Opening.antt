@@ -1,5 +1,5 @@
 -- Tables of ports that have done nothing yet.
-use Rattle.std.specs.Prelude.{◌≡◌, ℕ, List, map, Option}
+use Rattle.std.specs.Prelude.{◌≡◌, ℕ, map, Option}
 use Rattle.std.specs.Option.{option_map, ForSome}
 use Rattle.std.specs.FinMap.{entries, from_entries}
 use Rattle.abt_cell.specs.Channel.{Channel}
@@ -14,8 +14,8 @@ abbrev pub as_added : Connection → Connection
 as_added c = opening (tau_of c)
 
 -- Each connection is kept as it was added.
-abbrev pub IsOpening : Table → Type 0
-IsOpening t = (vc : Channel) → ForSome (connection_at t vc) (λ c. c ≡ as_added c)
+pub record IsOpening (t : Table) : Type 0 where
+  pub rows : (vc : Channel) → ForSome (connection_at t vc) (λ c. c ≡ as_added c)
 
 -- the table with each connection as it was added, and with this capacity
 abbrev pub reopened : (capacity : ℕ) → Table → Table

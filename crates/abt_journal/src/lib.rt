@@ -13,5 +13,5 @@ pub use input::{PortInput, PortReply};
 pub use seat::Seat;
 pub use state::PortState;
 
-// #[cfg(test)]
-// mod tests;
+#[cfg(test)]
+mod tests;

@@ -92,7 +92,7 @@ impl Seat {
         ensures place { IfOk result (λ r. seen_at port self.old.receipts ≤ r.0) }
         ensures seen { IfOk result (λ r. seen_at port self.new.receipts ≡ r.0 + 1) }
         ensures wound { (seen found : ℕ) → IsErrOf result (ServeFault.Wound seen found)
-          ↔ ((seen ≡ seen_at port self.old.receipts) × (found ≡ length state.old.entries) × (found < seen)) }
+            ↔ ((seen ≡ seen_at port self.old.receipts) × (found ≡ length state.old.entries) × (found < seen)) }
         ensures same { OnErr result ((self.new ≡ self.old) × (state.new ≡ state.old)) }
     {
         let seen = self.seen(port);

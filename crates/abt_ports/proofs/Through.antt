@@ -75,7 +75,7 @@ told tau (Some c) added is =
     ap Some (added c refl ∙ ap opening same)
 
 pub tau_tells : (t : Table) (vc : Channel) (tau : Option ℕ) → IsOpening t → option_map tau_of (connection_at t vc) ≡ Some tau → connection_at t vc ≡ Some (opening tau)
-tau_tells t vc tau opens is = told tau (connection_at t vc) (opens vc) is
+tau_tells t vc tau opens is = told tau (connection_at t vc) (opens.rows vc) is
 
 pub tells_tau : (t : Table) (vc : Channel) (tau : Option ℕ) → connection_at t vc ≡ Some (opening tau) → option_map tau_of (connection_at t vc) ≡ Some tau
 tells_tau t vc tau is = ap (option_map tau_of) is ∙ ap Some (tau_of-opening tau)

@@ -14,3 +14,6 @@ pub use fault::GatherFault;
 pub use gate::{Gate, OpenGate};
 pub use gathering::gather;
 pub use journals::Journals;
+
+#[cfg(test)]
+mod tests;

@@ -1,4 +1,4 @@
-use Rattle.std.proofs.Common.{rules, sym, ap, ◌∙◌}
+use Rattle.std.proofs.Common.{sym, ap, ◌∙◌}
 use Rattle.std.specs.FinMap as map
 use Rattle.abt_journal.specs.Journaled.{Journaled}
 use Rattle.abt_journal.proofs.Reopening.{len-reopened}

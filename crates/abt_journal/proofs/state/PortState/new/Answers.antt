@@ -1,5 +1,4 @@
-use Rattle.std.proofs.Common.{rules, ◌≡◌, [], ap, sym, ◌∙◌}
-use Rattle.abt_node.specs.Table.{Table}
+use Rattle.std.proofs.Common.{◌≡◌, ap, sym, ◌∙◌}
 use Rattle.abt_journal.specs.Opening.{reopened}
 use Rattle.abt_journal.proofs.Growing.{replayed-nil}
 use Rattle.abt_journal.proofs.Reopening.{reopened_opening}

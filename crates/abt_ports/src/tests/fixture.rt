@@ -1,0 +1,110 @@
+//! Nets, ports and calls that the tests share. Where memory is refused, `None` is given, and the test asks again.
+ghost use Rattle.std.specs.Prelude.{◌≡◌, ◌≤◌, IfSome};
+ghost use Rattle.std.specs.Option.{ForSome};
+ghost use Rattle.abt_journal.specs.Opening.{IsOpening};
+
+use crate::{Gate, GatherFault, Journals, PortCell, gather};
+use abt_cell::{Request, Vc};
+use abt_gcra::TAU_MAX;
+use abt_journal::{PortInput, PortReply, PortState, Seat, ServeFault};
+use abt_net::{Conn, Net, Path};
+use abt_node::{CAPACITY_MAX, Port};
+use abt_rate::Rate;
+use std::alloc::Global;
+use std::process::Abort;
+use std::sync::Wait;
+use std::test::Fail;
+
+/// The capacity of a link of 1,000 cells per second, in units.
+pub const CAPACITY: u64 = 512000;
+
+/// The tolerance of the connections, in picoseconds.
+pub const TAU: u64 = 200;
+
+/// A channel of VPI 1.
+pub fn channel(vci: u16) -> Option<Vc> {
+    Vc::new(1, vci)
+}
+
+/// A request of a source that has no rate yet. By docs/RULES.md, "Rates", codes 5120 and 5258 are 400 and 600 cells per
+/// second.
+pub fn request(vci: u16, seq: u32, code: u16) -> Result<PortInput, Fail> {
+    let vc = channel(vci).ok_or("the VPI is too great")?;
+    let request = Request::new(vc, seq, Rate::ZERO, Rate::from_code(code)).ok_or("no such request")?;
+    Ok(PortInput::Request(request))
+}
+
+/// A port with these connections, all with the same policer.
+pub fn port(
+    alloc: Global,
+    id: u16,
+    capacity: u64,
+    vcis: &[u16],
+    tau: Option<u64>,
+) -> Option<PortState>
+    requires capacity { capacity ≤ CAPACITY_MAX }
+    requires tau { ForSome tau (λ t. t ≤ TAU_MAX) }
+{
+    let mut port = Port::new(alloc, id, capacity).ok()?;
+    for vci in vcis {
+        port = with_connection(port, channel(*vci)?, tau)?;
+    }
+    Some(PortState::new(alloc, port))
+}
+
+fn with_connection(mut port: Port, vc: Vc, tau: Option<u64>) -> Option<Port>
+    requires opening { IsOpening port }
+    requires tau { ForSome tau (λ t. t ≤ TAU_MAX) }
+    ensures { IfSome result IsOpening }
+{
+    port.add(vc, tau).ok()?;
+    Some(port)
+}
+
+/// A net of links of 1,000 cells per second, with connections along these paths.
+pub fn net(alloc: Global, ports: usize, conns: &[(u16, &[u16])]) -> Option<Net> {
+    let capacities = vec![in alloc; CAPACITY; ports].ok()?;
+    let mut listed = Vec::with_capacity(alloc, conns.len()).ok()?;
+    for (vci, ports) in conns {
+        let conn = Conn {
+            vc: channel(*vci)?,
+            path: Path::from(ports.to_vec(alloc).ok()?),
+            delay: 1000,
+            tau: TAU,
+        };
+        listed.push(conn).ok()?;
+    }
+    Net::build(alloc, capacities, listed).ok()
+}
+
+/// One call. Where memory is refused the seat is unchanged, and the same call is made again.
+pub fn serve<R: Abort + Wait, G: Gate>(
+    rt: &R,
+    cell: &PortCell,
+    seat: &mut Seat,
+    gate: &G,
+    input: &PortInput,
+) -> Result<(u64, PortReply), ServeFault> {
+    let receipts = seat.receipts().len();
+    match cell.serve(rt, seat, gate, *input) {
+        Err(ServeFault::Memory) => {}
+        answer => return answer,
+    }
+    assert_eq!(rt; seat.receipts().len(), receipts);
+    cell.serve(rt, seat, gate, *input)
+}
+
+/// What is gathered of these states and seats, and `None` where memory was refused.
+pub fn gathered<const S: usize, const T: usize>(
+    alloc: Global,
+    net: &Net,
+    states: [PortState; S],
+    seats: [Seat; T],
+) -> Option<Result<Journals, GatherFault>> {
+    let states = Vec::from_array(alloc, states).ok()?;
+    let seats = Vec::from_array(alloc, seats).ok()?;
+    match gather(alloc, net, states, seats) {
+        Err(GatherFault::Memory) => None,
+        answer => Some(answer),
+    }
+}
