@@ -1,3 +1,3 @@
 mod fixture;
-mod gathered;
+mod foreign;
 mod served;

@@ -34,20 +34,24 @@ pub fn request(vci: u16, seq: u32, code: u16) -> Result<PortInput, Fail> {
     Ok(PortInput::Request(request))
 }
 
-/// A port with these connections, all with the same policer.
+/// A port that is the ingress of some connections, with one tau, and that others pass through.
 pub fn port(
     alloc: Global,
     id: u16,
     capacity: u64,
-    vcis: &[u16],
-    tau: Option<u64>,
-) -> Option<PortState>
-    requires capacity { capacity ≤ CAPACITY_MAX }
-    requires tau { ForSome tau (λ t. t ≤ TAU_MAX) }
-{
+    ingress: &[u16],
+    tau: u64,
+    transit: &[u16],
+) -> Option<PortState> {
+    if capacity > CAPACITY_MAX || tau > TAU_MAX {
+        return None;
+    }
     let mut port = Port::new(alloc, id, capacity).ok()?;
-    for vci in vcis {
-        port = with_connection(port, channel(*vci)?, tau)?;
+    for vci in ingress {
+        port = with_connection(port, channel(*vci)?, Some(tau))?;
+    }
+    for vci in transit {
+        port = with_connection(port, channel(*vci)?, None)?;
     }
     Some(PortState::new(alloc, port))
 }
