@@ -46,7 +46,9 @@ pub fn port(
     if capacity > CAPACITY_MAX || tau > TAU_MAX {
         return None;
     }
-    let mut port = Port::new(alloc, id, capacity).ok()?;
+    let Ok(mut port) = Port::new(alloc, id, capacity) else {
+        return None;
+    };
     for vci in ingress {
         port = with_connection(port, channel(*vci)?, Some(tau))?;
     }
