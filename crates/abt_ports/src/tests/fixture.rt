@@ -16,26 +16,26 @@ use std::sync::Wait;
 use std::test::Fail;
 
 /// The capacity of a link of 1,000 cells per second, in units.
-pub const CAPACITY: u64 = 512000;
+pub(super) const CAPACITY: u64 = 512000;
 
 /// The tolerance of the connections, in picoseconds.
-pub const TAU: u64 = 200;
+pub(super) const TAU: u64 = 200;
 
 /// A channel of VPI 1.
-pub fn channel(vci: u16) -> Option<Vc> {
+pub(super) fn channel(vci: u16) -> Option<Vc> {
     Vc::new(1, vci)
 }
 
 /// A request of a source that has no rate yet. By docs/RULES.md, "Rates", codes 5120 and 5258 are 400 and 600 cells per
 /// second.
-pub fn request(vci: u16, seq: u32, code: u16) -> Result<PortInput, Fail> {
+pub(super) fn request(vci: u16, seq: u32, code: u16) -> Result<PortInput, Fail> {
     let vc = channel(vci).ok_or("the VPI is too great")?;
     let request = Request::new(vc, seq, Rate::ZERO, Rate::from_code(code)).ok_or("no such request")?;
     Ok(PortInput::Request(request))
 }
 
 /// A port that is the ingress of some connections, with one tau, and that others pass through.
-pub fn port(
+pub(super) fn port(
     alloc: Global,
     id: u16,
     capacity: u64,
@@ -68,7 +68,7 @@ fn with_connection(mut port: Port, vc: Vc, tau: Option<u64>) -> Option<Port>
 }
 
 /// A net of links of 1,000 cells per second, with connections along these paths.
-pub fn net(alloc: Global, ports: usize, conns: &[(u16, &[u16])]) -> Option<Net> {
+pub(super) fn net(alloc: Global, ports: usize, conns: &[(u16, &[u16])]) -> Option<Net> {
     let capacities = vec![in alloc; CAPACITY; ports].ok()?;
     let mut listed = Vec::with_capacity(alloc, conns.len()).ok()?;
     for (vci, ports) in conns {
@@ -84,7 +84,7 @@ pub fn net(alloc: Global, ports: usize, conns: &[(u16, &[u16])]) -> Option<Net> 
 }
 
 /// One call. Where memory is refused the seat is unchanged, and the same call is made again.
-pub fn serve<R: Abort + Wait, G: Gate>(
+pub(super) fn serve<R: Abort + Wait, G: Gate>(
     rt: &R,
     cell: &PortCell,
     seat: &mut Seat,
@@ -101,7 +101,7 @@ pub fn serve<R: Abort + Wait, G: Gate>(
 }
 
 /// What is gathered of these states and seats, and `None` where memory was refused.
-pub fn gathered<const S: usize, const T: usize>(
+pub(super) fn gathered<const S: usize, const T: usize>(
     alloc: Global,
     net: &Net,
     states: [PortState; S],

@@ -100,7 +100,11 @@ fn faults_say_what_is_wrong(rt: HostRuntime) -> Result<(), Fail> {
         (GatherFault::Memory, "out of memory"),
     ];
     for (fault, words) in rows {
-        assert_eq!(rt; format!(in rt.alloc(); "{fault}")?.as_str(), words);
+        let said = match format!(in rt.alloc(); "{fault}") {
+            Ok(said) => said,
+            Err(_) => format!(in rt.alloc(); "{fault}")?,
+        };
+        assert_eq!(rt; said.as_str(), words);
     }
     Ok(())
 }

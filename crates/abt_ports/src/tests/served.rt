@@ -177,6 +177,7 @@ fn each_entry_names_its_caller_in_the_order_of_the_calls(rt: HostRuntime) -> Res
     };
     let journals = answer?;
     let callers = [7, 0, 3, 7];
+    assert_eq!(rt; journals.ports.len(), 1);
     assert_eq!(rt; journals.ports[0].len(), 4);
     for (entry, caller) in journals.ports[0].iter().zip(callers) {
         assert_eq!(rt; entry.caller, caller);
