@@ -1,17 +1,16 @@
 -- States of a net's ports have histories of the net's ports.
-use Rattle.std.proofs.Common.{◌≡◌, ℕ, ◌<◌, ◌≤◌, ◌⊎◌, inl, inr, Bool, true, false, cond, List, [], ◌∷◌, map, length, get_or, All, Option, Some, None, nat_lt, refl, sym, ap, subst, ◌∙◌, arith}
+use Rattle.std.proofs.Common.{◌≡◌, ℕ, ◌<◌, ◌≤◌, ◌⊎◌, inl, inr, cond, List, [], ◌∷◌, length, get_or, All, Some, None, sym, ap, subst, ◌∙◌, arith}
 use Rattle.std.specs.Prelude.{slice_get}
 use Rattle.std.specs.Option.{option_map}
 use Rattle.std.proofs.lemmas.Bool.{lt-ltb, le-ltb}
 use Rattle.std.proofs.lemmas.List.{length-map, get_or-map}
 use Rattle.std.proofs.lemmas.Option.{slice_get-map, slice_get-get_or, slice_get_past, none-some, same_Some}
-use Rattle.abt_node.specs.Table.{Table}
 use Rattle.abt_net.specs.Topology.{Topology}
 use Rattle.abt_model.specs.PortTable.{port_table}
 use Rattle.abt_journal.specs.Journaled.{Journaled}
 use Rattle.abt_journal.specs.Replay.{IsHistory}
 use Rattle.abt_ports.specs.Gathered.{journals_of, journal_at}
-use Rattle.abt_ports.specs.Foreign.{opening_of, openings_of, IsPortOf, AreOfNet, AreHistories}
+use Rattle.abt_ports.specs.Foreign.{opening_of, openings_of, AreOfNet, AreHistories}
 
 -- the table of a port that the net has, and of one that it doesn't have
 opening_within : (net : Topology) (p : ℕ) → p < length net.capacities → opening_of net p ≡ Some (port_table net [] p)

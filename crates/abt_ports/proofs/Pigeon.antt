@@ -1,16 +1,16 @@
 -- Where there are as many receipts as entries, the receipts are the entries.
-use Rattle.std.proofs.Common.{◌≡◌, ◌≢◌, ℕ, zero, suc, ◌+◌, ◌-◌, ◌<◌, ◌≤◌, ◌==◌, ◌⊎◌, inl, inr, Bool, true, false, cond, nat_lt, List, [], ◌∷◌, ◌++◌, length, map, sum_by, All, Any, AllPairs, Some, None, get_or, refl, sym, ap, subst, ◌∙◌, arith}
-use Rattle.std.specs.Prelude.{slice_get, slice_index_or}
+use Rattle.std.proofs.Common.{◌≡◌, ◌≢◌, ℕ, zero, suc, ◌+◌, ◌-◌, ◌<◌, ◌≤◌, ◌==◌, ◌⊎◌, inl, inr, Bool, true, false, cond, nat_lt, List, [], ◌∷◌, length, map, All, Any, Some, None, get_or, refl, sym, ap, subst, ◌∙◌, arith}
+use Rattle.std.specs.Prelude.{slice_get}
 use Rattle.std.specs.List.{filter}
 use Rattle.std.proofs.lemmas.Bool.Decides.{nat_tests}
 use Rattle.std.proofs.lemmas.List.{nil_from_length, get_or_past}
 use Rattle.std.proofs.lemmas.List.Elements.{All-cons}
 use Rattle.std.proofs.lemmas.List.Sums.{sum_by-cons}
-use Rattle.std.proofs.lemmas.Option.{none-some, slice_get-get_or}
+use Rattle.std.proofs.lemmas.Option.{slice_get-get_or}
 use Rattle.abt_journal.specs.declared.entry.Entry.{Entry}
 use Rattle.abt_journal.specs.declared.entry.Receipt.{Receipt}
 use Rattle.abt_journal.specs.Receipts.{Seated, entries_at}
-use Rattle.abt_ports.specs.Gathered.{journal_at, entries_in, receipts_in, entries_of, IsEntryOf, AreDistinct, CountsFit, AreGathered, AreReceipts}
+use Rattle.abt_ports.specs.Gathered.{journal_at, entries_in, receipts_in, entries_of, AreDistinct, CountsFit, AreGathered, AreReceipts}
 use Rattle.abt_ports.specs.Missing.{AreInOrder, AllInOrder}
 use Rattle.abt_ports.proofs.Rising.{ArePicked, picked_at, places_rise}
 use Rattle.abt_ports.proofs.Walk.{entry_port}
@@ -202,8 +202,12 @@ kept_below-suc n (s ∷ seats) = omega (arith, kept_below-suc n seats)
 kept_below-all : (n : ℕ) (seats : List Seated) → All (λ (s : Seated). All (λ (r : Receipt). r.port < n) s.receipts) seats → kept_below n seats ≡ receipts_in seats
 kept_below-all n [] all = refl
 kept_below-all n (s ∷ seats) all =
-    omega (arith, kept_below-all n seats (λ k d below. all (suc k) d (omega arith)), below_ports-all n s.receipts (all 0 s (omega arith)),
-    sum_by-cons (λ (x : Seated). length x.receipts) s seats)
+    omega (
+      arith,
+      kept_below-all n seats (λ k d below. all (suc k) d (omega arith)),
+      below_ports-all n s.receipts (all 0 s (omega arith)),
+      sum_by-cons (λ (x : Seated). length x.receipts) s seats,
+    )
 
 -- how many entries stand in the journals below n
 abbrev entries_below : List (List Entry) → ℕ → ℕ

@@ -3,14 +3,14 @@ use Rattle.std.proofs.Common.{◌≡◌, ℕ, zero, suc, ◌+◌, ◌<◌, ◌�
 use Rattle.std.specs.Prelude.{slice_get}
 use Rattle.std.specs.List.{filter}
 use Rattle.std.proofs.lemmas.Bool.Decides.{nat_tests}
-use Rattle.std.proofs.lemmas.List.{length_push, append_assoc, take_at}
+use Rattle.std.proofs.lemmas.List.{append_assoc, take_at}
 use Rattle.std.proofs.lemmas.Option.{slice_get-get_or, slice_get_within}
 use Rattle.abt_journal.specs.declared.entry.Entry.{Entry}
 use Rattle.abt_journal.specs.declared.entry.Receipt.{Receipt}
 use Rattle.abt_journal.specs.Receipts.{Seated, seen_at, entries_at}
 use Rattle.abt_journal.proofs.Seen.{seen_at_more, seen_at-push}
 use Rattle.abt_ports.specs.Gathered.{journal_at, IsEntryOf, PlacesRise}
-use Rattle.abt_ports.specs.Missing.{IsInOrder, AreInOrder}
+use Rattle.abt_ports.specs.Missing.{AreInOrder}
 
 below_or_last : (j i : ℕ) → j < i + 1 → (j < i) ⊎ (j ≡ i)
 below_or_last j i h = grind arith

@@ -1,8 +1,8 @@
 -- A map that has as many keys as a list of rows, and each row, is the map of the rows.
-use Rattle.std.proofs.Common.{◌≡◌, ◌≢◌, ℕ, zero, suc, ◌+◌, ◌-◌, ◌<◌, Bool, true, false, cond, List, [], ◌∷◌, map, length, Option, Some, None, is_some, refl, sym, ap, subst, ◌∙◌, arith}
-use Rattle.std.specs.List.{AllByRecursion, list_any}
+use Rattle.std.proofs.Common.{◌≡◌, ◌≢◌, ℕ, suc, ◌+◌, ◌-◌, Bool, true, false, cond, List, [], ◌∷◌, length, Some, None, is_some, refl, sym, ap, ◌∙◌, arith}
+use Rattle.std.specs.List.{AllByRecursion}
 use Rattle.std.specs.Ordering.{eq_by_cmp}
-use Rattle.std.specs.FinMap.{FinMap, empty, get, insert, remove, len, entries, from_entries, find, contains_key, get-insert, get-remove, get-from_entries, len-insert, len-remove, len-empty, empty_of_len, same_map}
+use Rattle.std.specs.FinMap.{FinMap, get, insert, remove, len, from_entries, find, get-insert, get-remove, get-from_entries, len-insert, len-remove, len-empty, empty_of_len, same_map}
 use Rattle.abt_cell.specs.Channel.{Channel, channel_cmp, same_channel}
 use Rattle.abt_cell.proofs.ChannelLemmas.{channel_cmp_total, channel_cmp-IsAntisymmetric, same_channel_tied, same_channel-is, same_channel-refl}
 use Rattle.abt_node.specs.Table.{Connection}
@@ -84,6 +84,6 @@ rows_of_map (e ∷ es) apart =
         more_rows m e.0 e.1 es apart.0 rest.0,
       ),
       len-insert channel_cmp_total m e.0 e.1
-      ∙ ap (λ o. cond (is_some o) (len m) (len m + 1)) (get-from_entries channel_cmp_total es e.0 ∙ not_there e.0 es apart.0)
-      ∙ omega (arith, rest.1),
+          ∙ ap (λ o. cond (is_some o) (len m) (len m + 1)) (get-from_entries channel_cmp_total es e.0 ∙ not_there e.0 es apart.0)
+          ∙ omega (arith, rest.1),
     )

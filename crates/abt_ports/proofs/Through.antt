@@ -1,10 +1,10 @@
 -- The connections through a port, as it begins.
-use Rattle.std.proofs.Common.{◌≡◌, ◌≢◌, ℕ, zero, suc, ◌+◌, ◌<◌, ◌≤◌, ◌==◌, Bool, true, false, not, cond, List, [], ◌∷◌, length, drop, get_or, AllPairs, Option, Some, None, refl, sym, ap, subst, ◌∙◌, arith}
+use Rattle.std.proofs.Common.{◌≡◌, ◌≢◌, ℕ, suc, ◌+◌, ◌<◌, ◌≤◌, ◌==◌, Bool, true, false, not, cond, List, [], ◌∷◌, length, drop, get_or, AllPairs, Option, Some, None, refl, sym, ap, subst, ◌∙◌, arith}
 use lib.Dec.{eqb}
 use Rattle.std.specs.Option.{option_map, option_eq}
 use Rattle.std.proofs.lemmas.Bool.Decides.{nat_tests}
 use Rattle.std.specs.List.{AllByRecursion}
-use Rattle.std.specs.FinMap.{FinMap, get, len, from_entries}
+use Rattle.std.specs.FinMap.{FinMap, len, from_entries}
 use Rattle.std.proofs.lemmas.List.{drop_more, drop_all}
 use Rattle.abt_cell.specs.Channel.{Channel, channel_cmp}
 use Rattle.abt_net.specs.declared.conn.Conn.{Conn}

@@ -61,7 +61,7 @@ impl PortCell {
         ensures place { IfOk result (λ r. seen_at self.now.port seat.old.receipts ≤ r.0) }
         ensures seen { IfOk result (λ r. seen_at self.now.port seat.new.receipts ≡ r.0 + 1) }
         ensures wound { (seen found : ℕ) → IsErrOf result (ServeFault.Wound seen found)
-          → (seen ≡ seen_at self.now.port seat.old.receipts) × (found < seen) }
+            → (seen ≡ seen_at self.now.port seat.old.receipts) × (found < seen) }
         ensures same { OnErr result (seat.new ≡ seat.old) }
     {
         let caller = seat.caller();

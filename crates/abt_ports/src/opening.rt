@@ -32,9 +32,7 @@ fn is_port(net: &Net, port: u16, state: &PortState) -> bool
     ensures { IsTrue result ↔ (state.now.opening ≡ port_table net.now [] port) }
 {
     let capacity = net.capacities()[usize::from(port)];
-    state.id() == port
-        && state.opening_capacity() == capacity
-        && has_connections(net, port, state)
+    state.id() == port && state.opening_capacity() == capacity && has_connections(net, port, state)
 }
 
 // Whether the state began with the connections through this port of the net, and each with its policer.

@@ -38,7 +38,11 @@ fn callers_differ(seats: &[Seat]) -> bool
 
 // The port and the place of the first receipt, by seat and order, that isn't its caller's entry, or doesn't come after
 // the one before it at this port. `seen` has room for each port.
-pub(crate) fn first_missing(states: &[PortState], seats: &[Seat], seen: &mut [u64]) -> Option<(u16, u64)>
+pub(crate) fn first_missing(
+    states: &[PortState],
+    seats: &[Seat],
+    seen: &mut [u64],
+) -> Option<(u16, u64)>
     requires { length seen.old ≡ length states.now }
     ensures none { IfNone result (AllInOrder (journals_of states.now) seats.now) }
     ensures some { IfSome result (λ at. IsFirstMissing (journals_of states.now) seats.now at.0 at.1) }
@@ -74,9 +78,9 @@ fn sees(states: &[PortState], caller: u16, seen: &mut [u64], receipt: &Receipt) 
     requires len { length seen.old ≡ length states.now }
     requires within { receipt.now.entry.place + 1 < 2 ^ 64 }
     ensures value { IsTrue result ↔ (IsEntryOf (journals_of states.now) caller receipt.now
-      × (slice_index seen.old receipt.now.port ≤ receipt.now.entry.place)) }
+        × (slice_index seen.old receipt.now.port ≤ receipt.now.entry.place)) }
     ensures seen { IsTrue result → (receipt.now.port < length seen.old)
-      × (seen.new ≡ slice_set seen.old receipt.now.port (receipt.now.entry.place + 1)) }
+        × (seen.new ≡ slice_set seen.old receipt.now.port (receipt.now.entry.place + 1)) }
     ensures len { length seen.new ≡ length seen.old }
 {
     if !is_entry_of(states, caller, receipt) {

@@ -30,7 +30,9 @@ pub(super) fn channel(vci: u16) -> Option<Vc> {
 /// second.
 pub(super) fn request(vci: u16, seq: u32, code: u16) -> Result<PortInput, Fail> {
     let vc = channel(vci).ok_or("the VPI is too great")?;
-    let request = Request::new(vc, seq, Rate::ZERO, Rate::from_code(code)).ok_or("no such request")?;
+    let request = Request::new(vc, seq, Rate::ZERO, Rate::from_code(code)).ok_or(
+        "no such request",
+    )?;
     Ok(PortInput::Request(request))
 }
 

@@ -28,7 +28,9 @@ fn gather_made(alloc: Global, made: [Made; 2]) -> Option<Option<GatherFault>> {
 }
 
 #[test]
-fn a_port_is_the_nets_by_number_capacity_and_connections_with_their_tau(rt: HostRuntime) -> Result<(), Fail> {
+fn a_port_is_the_nets_by_number_capacity_and_connections_with_their_tau(
+    rt: HostRuntime,
+) -> Result<(), Fail> {
     let foreign = Some(GatherFault::Foreign { port: 0 });
     let rows: [(Made, Option<GatherFault>); 11] = [
         (FIRST, None),

@@ -97,7 +97,9 @@ fn gather_strays<R: Abort + Wait>(
 }
 
 #[test]
-fn entries_without_receipts_and_ports_without_a_net_are_refused(rt: HostRuntime) -> Result<(), Fail> {
+fn entries_without_receipts_and_ports_without_a_net_are_refused(
+    rt: HostRuntime,
+) -> Result<(), Fail> {
     let inputs = two_requests()?;
     let answers = match gather_strays(&rt, rt.alloc(), &inputs) {
         Some(answers) => answers,
@@ -123,20 +125,34 @@ fn gather_others<R: Abort + Wait>(
     let (here, there) = (cell(alloc)?, cell(alloc)?);
     let (mut first, mut second) = (Seat::new(alloc, 0), Seat::new(alloc, 1));
     let (passed, place) = (PortReply::Requested(Onward::Pass), 0);
-    assert_eq!(rt; serve(rt, &here, &mut first, &OpenGate, &inputs[0]), Ok((place, passed)));
-    assert_eq!(rt; serve(rt, &there, &mut second, &OpenGate, &inputs[1]), Ok((place, passed)));
+    assert_eq!(rt;
+        serve(rt, &here, &mut first, &OpenGate, &inputs[0]),
+        Ok((place, passed))
+    );
+    assert_eq!(rt;
+        serve(rt, &there, &mut second, &OpenGate, &inputs[1]),
+        Ok((place, passed))
+    );
     let missing = gathered(alloc, &net, [here.into_state()], [second])?.err();
 
     let twice = cell(alloc)?;
     let (mut one, mut other) = (Seat::new(alloc, 5), Seat::new(alloc, 5));
-    assert_eq!(rt; serve(rt, &twice, &mut one, &OpenGate, &inputs[0]), Ok((0, passed)));
-    assert_eq!(rt; serve(rt, &twice, &mut other, &OpenGate, &inputs[0]), Ok((1, passed)));
+    assert_eq!(rt;
+        serve(rt, &twice, &mut one, &OpenGate, &inputs[0]),
+        Ok((0, passed))
+    );
+    assert_eq!(rt;
+        serve(rt, &twice, &mut other, &OpenGate, &inputs[0]),
+        Ok((1, passed))
+    );
     let repeated = gathered(alloc, &net, [twice.into_state()], [one, other])?.err();
     Some([missing, repeated])
 }
 
 #[test]
-fn receipts_of_another_port_and_two_seats_of_one_caller_are_refused(rt: HostRuntime) -> Result<(), Fail> {
+fn receipts_of_another_port_and_two_seats_of_one_caller_are_refused(
+    rt: HostRuntime,
+) -> Result<(), Fail> {
     let inputs = two_requests()?;
     let answers = match gather_others(&rt, rt.alloc(), &inputs) {
         Some(answers) => answers,
@@ -160,7 +176,11 @@ fn gather_callers<R: Abort + Wait>(
 ) -> Option<Result<Journals, GatherFault>> {
     let net = net(alloc, 1, &[(100, &[0])])?;
     let cell = cell(alloc)?;
-    let (mut a, mut b, mut c) = (Seat::new(alloc, 7), Seat::new(alloc, 0), Seat::new(alloc, 3));
+    let (mut a, mut b, mut c) = (
+        Seat::new(alloc, 7),
+        Seat::new(alloc, 0),
+        Seat::new(alloc, 3),
+    );
     assert!(rt; serve(rt, &cell, &mut a, &OpenGate, &inputs[0]).is_ok());
     assert!(rt; serve(rt, &cell, &mut b, &OpenGate, &inputs[1]).is_ok());
     assert!(rt; serve(rt, &cell, &mut c, &OpenGate, &inputs[0]).is_ok());

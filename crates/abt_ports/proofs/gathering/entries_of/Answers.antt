@@ -8,11 +8,10 @@ use Rattle.abt_ports.proofs.gathering.entries_of.Goals as goal
 
 pub loop-state-preserved : goal.loop-state-preserved
 loop-state-preserved c =
-    let next : into_iter_items c.loop-state.state-iterator ≡ c.in-Some.state ∷ into_iter_items c.next.new.self = search rules in
-    (
+    let next : into_iter_items c.loop-state.state-iterator ≡ c.in-Some.state ∷ into_iter_items c.next.new.self = search rules in (
       grind (arith, common_steps),
       grind (arith, common_steps),
       grind (arith, common_steps),
       λ rest. c.loop-state.invariant.3 (subst (All (λ (s : Journaled). IsHistory s.opening s.entries)) (sym next)
-      (All-cons (λ (s : Journaled). IsHistory s.opening s.entries) c.in-Some.state (into_iter_items c.next.new.self) c.into_entries.ensures.history rest)),
+          (All-cons (λ (s : Journaled). IsHistory s.opening s.entries) c.in-Some.state (into_iter_items c.next.new.self) c.into_entries.ensures.history rest)),
     )

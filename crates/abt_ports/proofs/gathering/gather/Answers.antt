@@ -1,4 +1,4 @@
-use Rattle.std.proofs.Common.{rules, ◌≡◌, subst}
+use Rattle.std.proofs.Common.{rules, subst}
 use Rattle.abt_ports.specs.Gathered.{journals_of, CountsFit}
 use Rattle.abt_ports.specs.Missing.{AllInOrder}
 use Rattle.abt_ports.specs.Foreign.{AreOfNet}

@@ -1,4 +1,3 @@
-use Rattle.std.proofs.Common.{◌≡◌}
 use Rattle.abt_ports.proofs.Through.{IsCounted}
 use Rattle.abt_ports.proofs.opening.has_connections.Given as goal
 

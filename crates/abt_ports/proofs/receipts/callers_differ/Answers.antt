@@ -1,4 +1,4 @@
-use Rattle.std.proofs.Common.{rules, ◌≡◌, sym, ◌∙◌}
+use Rattle.std.proofs.Common.{rules, ◌≡◌}
 use Rattle.abt_ports.proofs.Counts.{same_caller}
 use Rattle.abt_ports.proofs.receipts.callers_differ.Goals as goal
 

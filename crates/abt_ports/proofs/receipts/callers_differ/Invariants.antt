@@ -1,4 +1,4 @@
-use Rattle.std.proofs.Common.{◌≡◌, ◌≢◌, ℕ, ◌<◌, slice_index_or}
+use Rattle.std.proofs.Common.{◌≢◌, ℕ, ◌<◌, slice_index_or}
 use Rattle.abt_journal.specs.Receipts.{Seated}
 use Rattle.abt_ports.proofs.receipts.callers_differ.Given as goal
 

@@ -1,7 +1,6 @@
-use Rattle.std.proofs.Common.{rules, false, is_some, ◌≡◌, ℕ, ◌<◌, ◌+◌, Some, length, refl, sym, subst, ◌∙◌, arith, inl, inr, ap}
+use Rattle.std.proofs.Common.{rules, false, is_some, ◌≡◌, Some, length, refl, sym, ◌∙◌, arith}
 use Rattle.std.specs.Prelude.{slice_get}
 use Rattle.std.proofs.lemmas.Option.{slice_get_read, slice_get_within}
-use Rattle.abt_journal.specs.Receipts.{Seated}
 use Rattle.abt_ports.specs.Gathered.{journals_of}
 use Rattle.abt_ports.specs.Missing.{AreInOrder}
 use Rattle.abt_ports.proofs.Walk.{if_none, all_more}

@@ -2,9 +2,8 @@ use Rattle.std.proofs.Common.{rules, ◌≡◌, ℕ, ◌<◌, slice_index, lengt
 use Rattle.std.proofs.lemmas.Grind.{common_steps}
 use Rattle.std.proofs.lemmas.Option.{slice_get_within}
 use Rattle.std.proofs.lemmas.List.{length-map}
-use Rattle.abt_journal.specs.Journaled.{Journaled}
 use Rattle.abt_ports.specs.Gathered.{journals_of}
-use Rattle.abt_ports.proofs.Walk.{IsTurn, Passes, IsWalked, walk_begins, walk_stops, walk_goes}
+use Rattle.abt_ports.proofs.Walk.{IsTurn, Passes, walk_begins, walk_stops, walk_goes}
 use Rattle.abt_ports.proofs.receipts.first_missing_in.Goals as goal
 
 pub loop-receipt-init : goal.loop-receipt-init

@@ -1,4 +1,3 @@
-use Rattle.std.proofs.Common.{◌≡◌, length}
 use Rattle.abt_ports.specs.Gathered.{journals_of}
 use Rattle.abt_ports.proofs.Walk.{IsWalked}
 use Rattle.abt_ports.proofs.receipts.first_missing_in.Given as goal

@@ -1,4 +1,3 @@
-use Rattle.std.proofs.Common.{rules}
 use Rattle.abt_ports.proofs.cell.PortCell.serve.Goals as goal
 
 pub returns-clause-wound : goal.returns-clause-wound
