@@ -70,7 +70,10 @@ fn seat_step(
         Err(ServeFault::Memory) => {}
         answer => return answer,
     }
-    assert_eq!(rt; (state.entries().len(), seat.receipts().len()), (entries, receipts));
+    assert_eq!(rt;
+        (state.entries().len(), seat.receipts().len()),
+        (entries, receipts)
+    );
     seat.step(0, state, *input)
 }
 
@@ -112,7 +115,10 @@ fn a_port_keeps_a_journal_of_all_that_it_replied(rt: HostRuntime) -> Result<(), 
         let answer = step(&rt, &mut state, *caller, input)?;
         assert_eq!(rt; answer, (place as u64, *reply));
     }
-    assert_eq!(rt; (state.id(), state.opening_capacity(), state.count()), (0, CAPACITY, 1));
+    assert_eq!(rt;
+        (state.id(), state.opening_capacity(), state.count()),
+        (0, CAPACITY, 1)
+    );
     assert_eq!(rt; state.tau(vc), Some(Some(200)));
     for (place, (caller, input, reply)) in rows.iter().enumerate() {
         let entry = Entry {
@@ -131,15 +137,26 @@ fn a_port_keeps_a_journal_of_all_that_it_replied(rt: HostRuntime) -> Result<(), 
 }
 
 #[test]
-fn a_seat_keeps_receipts_and_knows_a_journal_that_is_too_short(rt: HostRuntime) -> Result<(), Fail> {
+fn a_seat_keeps_receipts_and_knows_a_journal_that_is_too_short(
+    rt: HostRuntime,
+) -> Result<(), Fail> {
     let input = PortInput::Request(request(1, 0x5258)?);
     let passed = PortReply::Requested(Onward::Pass);
     let mut state = new_state(rt.alloc())?;
     let mut seat = Seat::new(rt.alloc(), 3);
-    assert_eq!(rt; (seat.caller(), seat.seen(0), seat.receipts().len()), (3, 0, 0));
-    assert_eq!(rt; seat_step(&rt, &mut seat, &mut state, &input), Ok((0, passed)));
+    assert_eq!(rt;
+        (seat.caller(), seat.seen(0), seat.receipts().len()),
+        (3, 0, 0)
+    );
+    assert_eq!(rt;
+        seat_step(&rt, &mut seat, &mut state, &input),
+        Ok((0, passed))
+    );
     assert_eq!(rt; step(&rt, &mut state, 4, &input)?, (1, passed));
-    assert_eq!(rt; seat_step(&rt, &mut seat, &mut state, &input), Ok((2, passed)));
+    assert_eq!(rt;
+        seat_step(&rt, &mut seat, &mut state, &input),
+        Ok((2, passed))
+    );
     assert_eq!(rt; (seat.seen(0), seat.seen(1)), (3, 0));
     let places = [0, 2];
     for (receipt, place) in seat.receipts().iter().zip(places) {
