@@ -1,0 +1,76 @@
+use Rattle.std.proofs.Common.{rules, ◌≡◌, ◌≢◌, ◌+◌, ◌∙◌, ◌∷◌, ◌++◌, List, sym, arith, [], refl, ap, subst}
+use Rattle.abt_cell.specs.Message.{Terms}
+use Rattle.abt_facts.specs.Source.{Down, last_of}
+use Rattle.abt_facts.specs.Cells.{emitted_of}
+use Rattle.abt_model.specs.declared.command.SourceCommand.TheVariants.{Ask}
+use Rattle.abt_model.specs.declared.outcome.Outcome.TheVariants.{Asked, AskRefused}
+use Rattle.abt_actor.specs.Commands.{command_answer, command_adds}
+use Rattle.abt_source.specs.SourceFacts.{StandsFor, view_of}
+use Rattle.abt_actor.specs.Actor.{ActorView, actor_of}
+use Rattle.abt_actor.specs.Sources.{source_in, state_in}
+use Rattle.abt_actor.proofs.Asking.{goes, stays, request_answered, request_after, refusal_answered, refusal_after}
+use Rattle.abt_actor.proofs.actor.SourceActor.ask.Goals as goal
+
+-- the actor before
+abbrev before : goal.After-of_request → ActorView
+before c = record {
+  source = source_in c.self.inside.running;
+  state = state_in c.self.inside.running;
+  kept = c.self.inside.store.number;
+  cells = c.self.inside.cells;
+  clock = c.self.inside.clock;
+}
+
+up : (c : goal.After-of_request) → (before c).state ≢ Down
+up c = search rules
+
+abbrev before' : goal.After-of_refusal → ActorView
+before' c = record {
+  source = source_in c.self.inside.running;
+  state = state_in c.self.inside.running;
+  kept = c.self.inside.store.number;
+  cells = c.self.inside.cells;
+  clock = c.self.inside.clock;
+}
+
+up' : (c : goal.After-of_refusal) → (before' c).state ≢ Down
+up' c = search rules
+
+pub returns-in-Ok : goal.returns-in-Ok
+returns-in-Ok c vc facts is =
+    let was : before c ≡ actor_of vc facts = c.self.view_is ∙ is in
+    let plan = ap (λ s. s.plan) c.plan.ensures in
+    let gone = goes c.self.inside.running c.plan.new.self c.args.rate c.in-Ok.source c.in-Ok.request c.ask-asked.new.store
+    (ap (λ r. (r, c.ask-asked.new.store)) (sym c.in-Ok.is) ∙ c.ask-asked.ensures.value) in
+    let stood : StandsFor facts (before c).state (before c).source = record {
+      state_is = ap (λ a. a.state) was;
+      view_is = ap (λ a. a.source) was ∙ ap (λ v. view_of v facts) (sym (ap (λ a. a.source.vc) was));
+    } in
+    let stands = c.in-Ok.ensures.facts facts (emitted_of facts) stood in
+    let number : c.in-Ok.request.seq ≡ last_of facts + 1 = ap (λ (r : Terms). r.seq) gone.asked ∙ ap (λ a. a.source.last + 1) was in
+    let added = c.of_request.ensures facts c.args.plan c.args.rate (ap (λ a. a.cells) was) number in
+    let after = request_after vc facts (before c) c.self.inside.running c.plan.new.self c.ask-asked.new.store c.args.rate (emitted_of facts)
+    c.in-Ok.source c.in-Ok.request was c.self.invariant.1 refl gone stands in
+    record {
+      answer = subst (λ p. Asked c.in-Ok.request ≡ command_answer vc facts (Ask c.args.rate p)) plan
+      (request_answered vc facts (before c) c.self.inside.running c.plan.new.self c.ask-asked.new.store c.args.rate c.in-Ok.source c.in-Ok.request was (up c) refl gone);
+      adds = added;
+      becomes = rw added (rw (ap (λ s. s.number) c.plan-2.ensures) after);
+    }
+
+pub returns-in-Err : goal.returns-in-Err
+returns-in-Err c vc facts is =
+    let was : before' c ≡ actor_of vc facts = c.self.view_is ∙ is in
+    let plan = ap (λ s. s.plan) c.plan.ensures in
+    let held = ap (λ s. s.number) c.plan.ensures in
+    let stayed = stays c.self.inside.running c.in-Err.running c.plan.new.self c.args.rate c.in-Err.fault c.ask-asked.new.store
+    (ap (λ r. (r, c.ask-asked.new.store)) (sym c.in-Err.is) ∙ c.ask-asked.ensures.value) in
+    let added = c.of_refusal.ensures facts c.args.rate (c.last-last.ensures ∙ ap (λ a. a.source.last) was) in
+    let after = subst (λ p. record (before' c) { kept = c.ask-asked.new.store.number } ≡ actor_of vc (command_adds facts (Ask c.args.rate p) (AskRefused c.in-Err.fault) ++ facts)) plan
+    (refusal_after vc facts (before' c) c.self.inside.running c.plan.new.self c.ask-asked.new.store c.args.rate c.in-Err.fault was c.self.invariant.1 refl held stayed.1) in
+    record {
+      answer = subst (λ p. AskRefused c.in-Err.fault ≡ command_answer vc facts (Ask c.args.rate p)) plan
+      (refusal_answered vc facts (before' c) c.self.inside.running c.plan.new.self c.ask-asked.new.store c.args.rate c.in-Err.fault was (up' c) refl stayed.1);
+      adds = added;
+      becomes = rw added (rw stayed.0 (rw (ap (λ s. s.number) c.plan-2.ensures) after));
+    }

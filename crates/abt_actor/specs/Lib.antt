@@ -1,0 +1,5 @@
+pub mod Commands
+pub mod Actor
+pub mod Sources
+pub mod Facts
+pub mod Carrying

@@ -1,0 +1,34 @@
+-- A source in any state, as the code keeps it, and what an ask makes of it.
+use Rattle.std.specs.Prelude.{◌==◌, ◌+◌, ℕ, Result, Ok, Err, if◌then◌else◌}
+use Rattle.abt_cell.specs.Message.{Terms}
+use Rattle.abt_keep.specs.MemoryStore.{StoreView, keep_under}
+use Rattle.abt_keep.specs.declared.fault.StoreFault.{StoreFault}
+use Rattle.abt_facts.specs.Source.{SourceState, Down, Idle, Asking}
+use Rattle.abt_source.specs.SourceView.{SourceView}
+use Rattle.abt_source.specs.Calls.{asking_source, next_request}
+use Rattle.abt_source.specs.declared.fault.AskFault.{AskFault}
+use Rattle.abt_source.specs.declared.fault.AskFault.TheVariants.{SeqExhausted, Keep}
+use Rattle.abt_actor.specs.declared.running.Running.{Running}
+use Rattle.abt_actor.specs.declared.running.Running.TheVariants.{Down as IsDown, Idle as IsIdle, Asking as IsAsking}
+
+-- a source in any state
+abbrev pub source_in : Running → SourceView
+source_in (IsDown source) = source
+source_in (IsIdle source) = source
+source_in (IsAsking source) = source
+
+abbrev pub state_in : Running → SourceState
+state_in (IsDown source) = Down
+state_in (IsIdle source) = Idle
+state_in (IsAsking source) = Asking source.last
+
+-- what an ask of a source that is up answers, and its store after it
+abbrev pub asked_by : Running → ℕ → Result (Unit {0}) StoreFault × StoreView → Result (SourceView × Terms) (Running × AskFault) × StoreView
+asked_by running rate (Ok _, store) =
+    (Ok (asking_source (source_in running) (next_request (source_in running) rate), next_request (source_in running) rate), store)
+asked_by running rate (Err _, store) = (Err (running, Keep), store)
+
+abbrev pub result_of_asking : Running → StoreView → ℕ → Result (SourceView × Terms) (Running × AskFault) × StoreView
+result_of_asking running store rate =
+    if (source_in running).last == 4294967295 then (Err (running, SeqExhausted), store)
+    else asked_by running rate (keep_under store.plan store ((source_in running).last + 1))

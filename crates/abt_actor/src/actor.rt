@@ -1,0 +1,350 @@
+//! The actor that keeps a source.
+ghost use Rattle.std.specs.Prelude.{◌≡◌, []};
+ghost use Rattle.abt_model.specs.declared.command.SourceCommand.{SourceCommand};
+ghost use Rattle.abt_actor.specs.Actor.{actor_of, is_asking_in, CarriesOut};
+ghost use Rattle.abt_actor.specs.Carrying.{Carries};
+ghost use Rattle.abt_actor.specs.Facts.{facts_in};
+
+use crate::added::Added;
+use crate::carried::Carried;
+use crate::running::Running;
+use abt_cell::{Answer, Vc};
+use abt_facts::Fact;
+use abt_keep::{MemoryStore, StorePlan};
+use abt_model::{Cause, Heard, Outcome, SourceCommand};
+use abt_rate::Rate;
+use abt_source::{Answered, Source, StartRefused};
+use std::marker::Model;
+use std::mem;
+
+/// A source with its store, whatever state it is in. The store, the count of its cells and its clock outlive a crash.
+#[derive(Debug, Drop)]
+pub struct SourceActor {
+    vc: Vc,
+    running: Running,
+    store: MemoryStore,
+    // How many cells were emitted.
+    cells: u64,
+    // The last moment of a start or an emission.
+    clock: u64,
+}
+
+impl Model for SourceActor {
+    ghost use Rattle.std.specs.Prelude.{◌≡◌};
+    ghost use Rattle.abt_keep.specs.declared.plan.StorePlan.TheVariants.{Works};
+    ghost use Rattle.abt_actor.specs.Actor.{ActorView, IsSound};
+    ghost use Rattle.abt_actor.specs.Sources.{source_in, state_in};
+
+    ghost Value = { ActorView };
+
+    ghost view = { λ a. record {
+      source = source_in a.running;
+      state = state_in a.running;
+      kept = a.store.number;
+      cells = a.cells;
+      clock = a.clock;
+    } };
+
+    ghost invariant = { λ a. (a.store.plan ≡ Works) × IsSound (record {
+      source = source_in a.running;
+      state = state_in a.running;
+      kept = a.store.number;
+      cells = a.cells;
+      clock = a.clock;
+    }) };
+}
+
+impl SourceActor {
+    /// The actor of a connection to which nothing has happened: its source is down, and its store empty.
+    pub fn new(vc: Vc) -> SourceActor
+        ensures { result ≡ actor_of vc [] }
+    {
+        SourceActor {
+            vc,
+            running: Running::Down(Source::new(vc)),
+            store: MemoryStore::new(0),
+            cells: 0,
+            clock: 0,
+        }
+    }
+
+    /// Carries out a command (docs/FORMATS.md, "Events and outcomes"). The plan of an ask is for its one write alone.
+    pub fn step(&mut self, command: &SourceCommand) -> Outcome
+        ensures { CarriesOut self.old command.now result self.new }
+    {
+        let (outcome, _) = self.carry_out(command);
+        outcome
+    }
+
+    /// The same, with the facts that the command adds to those of the connection.
+    pub fn carry_out(&mut self, command: &SourceCommand) -> (Outcome, Added)
+        ensures { Carries self.old command.now result.0 (facts_in result.1) self.new }
+    {
+        let actor = mem::replace(self, SourceActor::new(self.vc));
+        let Carried {
+            actor,
+            outcome,
+            added,
+        } = actor.obey(command);
+        *self = actor;
+        (outcome, added)
+    }
+
+    /// The rate at which the source shapes, which is zero while it is down.
+    pub fn rate(&self) -> Rate
+        ensures { result ≡ self.now.source.rate }
+    {
+        self.running.rate()
+    }
+
+    /// Whether the source waits for an answer.
+    pub fn is_asking(&self) -> bool
+        ensures { result ≡ is_asking_in self.now.state }
+    {
+        matches!(self.running, Running::Asking(_))
+    }
+
+    // An actor to which nothing more happened.
+    fn unmoved(self, outcome: Outcome) -> Carried
+        ensures { result ≡ record { actor = self; outcome = outcome; added = Added.Nothing } }
+    {
+        Carried {
+            actor: self,
+            outcome,
+            added: Added::Nothing,
+        }
+    }
+
+    fn start(self, now: u64) -> Carried
+        ensures { Carries self (SourceCommand.Start now) result.outcome (facts_in result.added) result.actor }
+    {
+        if !self.running.is_down() {
+            return self.unmoved(Outcome::NotEnabled(Cause::Running));
+        }
+        if now < self.clock {
+            return self.unmoved(Outcome::NotEnabled(Cause::ClockBack));
+        }
+        let SourceActor {
+            vc,
+            running,
+            mut store,
+            cells,
+            clock,
+        } = self;
+        let Running::Down(source) = running else {
+            unreachable!()
+        };
+        match source.start(&mut store, now) {
+            Ok(source) => Carried {
+                added: Added::One(Fact::Started {
+                    now,
+                    number: source.last(),
+                }),
+                actor: SourceActor {
+                    vc,
+                    running: Running::Idle(source),
+                    store,
+                    cells,
+                    clock: now,
+                },
+                outcome: Outcome::Started,
+            },
+            Err(StartRefused { source, fault }) => Carried {
+                actor: SourceActor {
+                    vc,
+                    running: Running::Down(source),
+                    store,
+                    cells,
+                    clock,
+                },
+                outcome: Outcome::StartRefused(fault),
+                added: Added::Nothing,
+            },
+        }
+    }
+
+    fn ask(self, rate: Rate, plan: StorePlan) -> Carried
+        ensures { Carries self (SourceCommand.Ask rate plan) result.outcome (facts_in result.added) result.actor }
+    {
+        if self.running.is_down() {
+            return self.unmoved(Outcome::NotEnabled(Cause::Down));
+        }
+        let SourceActor {
+            vc,
+            running,
+            mut store,
+            cells,
+            clock,
+        } = self;
+        let last = running.last();
+        store.plan(plan);
+        let asked = running.ask(&mut store, rate);
+        store.plan(StorePlan::Works);
+        match asked {
+            Ok((source, request)) => Carried {
+                actor: SourceActor {
+                    vc,
+                    running: Running::Asking(source),
+                    store,
+                    cells,
+                    clock,
+                },
+                outcome: Outcome::Asked(request),
+                added: Added::of_request(&request, cells),
+            },
+            Err((running, fault)) => Carried {
+                actor: SourceActor {
+                    vc,
+                    running,
+                    store,
+                    cells,
+                    clock,
+                },
+                outcome: Outcome::AskRefused(fault),
+                added: Added::of_refusal(fault, plan, last),
+            },
+        }
+    }
+
+    fn again(self) -> Carried
+        ensures { Carries self SourceCommand.Again result.outcome (facts_in result.added) result.actor }
+    {
+        let outcome = match &self.running {
+            Running::Down(_) => Outcome::NotEnabled(Cause::Down),
+            Running::Idle(_) => Outcome::NotEnabled(Cause::NotAsking),
+            Running::Asking(source) => Outcome::Repeated(source.again()),
+        };
+        self.unmoved(outcome)
+    }
+
+    fn crash(self) -> Carried
+        ensures { Carries self SourceCommand.Crash result.outcome (facts_in result.added) result.actor }
+    {
+        if self.running.is_down() {
+            return self.unmoved(Outcome::NotEnabled(Cause::Down));
+        }
+        let SourceActor {
+            vc,
+            running,
+            store,
+            cells,
+            clock,
+        } = self;
+        Carried {
+            actor: SourceActor {
+                vc,
+                running: Running::Down(running.crash()),
+                store,
+                cells,
+                clock,
+            },
+            outcome: Outcome::Crashed,
+            added: Added::One(Fact::Crashed),
+        }
+    }
+
+    fn emit(self, now: u64) -> Carried
+        ensures { Carries self (SourceCommand.Emit now) result.outcome (facts_in result.added) result.actor }
+    {
+        if self.running.is_down() {
+            return self.unmoved(Outcome::NotEnabled(Cause::Down));
+        }
+        if now < self.clock {
+            return self.unmoved(Outcome::NotEnabled(Cause::ClockBack));
+        }
+        let SourceActor {
+            vc,
+            mut running,
+            store,
+            cells,
+            clock,
+        } = self;
+        let rate = running.rate();
+        match running.emit(now) {
+            Ok(next) => Carried {
+                actor: SourceActor {
+                    vc,
+                    running,
+                    store,
+                    cells: cells + 1,
+                    clock: now,
+                },
+                outcome: Outcome::Emitted { cell: cells, next },
+                added: Added::One(Fact::Emitted {
+                    cell: cells,
+                    at: now,
+                    rate,
+                }),
+            },
+            Err(fault) => Carried {
+                actor: SourceActor {
+                    vc,
+                    running,
+                    store,
+                    cells,
+                    clock,
+                },
+                outcome: Outcome::EmitRefused(fault),
+                added: Added::Nothing,
+            },
+        }
+    }
+
+    fn told(self, answer: &Answer) -> Carried
+        ensures { Carries self (SourceCommand.Told answer.now) result.outcome (facts_in result.added) result.actor }
+    {
+        let SourceActor {
+            vc,
+            running,
+            store,
+            cells,
+            clock,
+        } = self;
+        let seq = answer.seq();
+        let (running, heard, added) = match running {
+            Running::Asking(source) => match source.answer(answer) {
+                Answered::Raised(source) => (
+                    Running::Idle(source),
+                    Heard::Raised,
+                    Added::One(Fact::Heard { seq, granted: true }),
+                ),
+                Answered::Refused(source) => (
+                    Running::Idle(source),
+                    Heard::Refused,
+                    Added::One(Fact::Heard {
+                        seq,
+                        granted: false,
+                    }),
+                ),
+                Answered::Ignored(source) => {
+                    (Running::Asking(source), Heard::Ignored, Added::Nothing)
+                }
+            },
+            running => (running, Heard::Ignored, Added::Nothing),
+        };
+        Carried {
+            actor: SourceActor {
+                vc,
+                running,
+                store,
+                cells,
+                clock,
+            },
+            outcome: Outcome::Told(heard),
+            added,
+        }
+    }
+
+    fn obey(self, command: &SourceCommand) -> Carried
+        ensures { Carries self command.now result.outcome (facts_in result.added) result.actor }
+    {
+        match *command {
+            SourceCommand::Start { now } => self.start(now),
+            SourceCommand::Ask { rate, plan } => self.ask(rate, plan),
+            SourceCommand::Again => self.again(),
+            SourceCommand::Crash => self.crash(),
+            SourceCommand::Emit { now } => self.emit(now),
+            SourceCommand::Told(answer) => self.told(&answer),
+        }
+    }
+}

@@ -1,0 +1,11 @@
+//! Actors: sources with their stores, in whichever state they are.
+#![tactic(auto)]
+
+mod actor;
+mod added;
+mod carried;
+mod running;
+
+pub use abt_model::{Cause, Heard, Outcome, SourceCommand};
+pub use actor::SourceActor;
+pub use added::Added;

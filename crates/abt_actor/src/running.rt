@@ -1,0 +1,113 @@
+//! A source in any state.
+ghost use Rattle.std.specs.Prelude.{◌≡◌, ◌≢◌, ◌∷◌, ◌==◌, ◌<◌, ◌+◌, ℕ, List, IsTrue, ◌↔◌, IfOk, OnErr, Ok, Err, Some};
+ghost use Rattle.abt_facts.specs.Source as state;
+ghost use Rattle.abt_facts.specs.declared.fact.Fact.{Fact};
+ghost use Rattle.abt_facts.specs.declared.fact.Fact.TheVariants.{Asked, Stored, Crashed, Emitted};
+ghost use Rattle.abt_rate.specs.Rate.{IsRate};
+ghost use Rattle.abt_source.specs.Calls.{crashed_source, result_of_emission};
+ghost use Rattle.abt_source.specs.SourceFacts.{StandsFor};
+ghost use Rattle.abt_actor.specs.Sources.{source_in, state_in, result_of_asking};
+
+use abt_cell::Request;
+use abt_keep::MemoryStore;
+use abt_rate::Rate;
+use abt_shaper::ShapeFault;
+use abt_source::{AskFault, AskRefused, Asking, Down, Idle, Source};
+
+/// A source in whichever state it is.
+#[derive(Debug, Drop)]
+pub(crate) enum Running {
+    Down(Source<Down>),
+    Idle(Source<Idle>),
+    Asking(Source<Asking>),
+}
+
+impl Running {
+    pub(crate) fn is_down(&self) -> bool
+        ensures { IsTrue result ↔ (state_in self.now ≡ state.Down) }
+    {
+        matches!(self, Running::Down(_))
+    }
+
+    // The rate at which it shapes, which is zero when it is down.
+    pub(crate) fn rate(&self) -> Rate
+        requires { state_in self.now ≡ state.Down → (source_in self.now).rate ≡ 0 }
+        ensures value { result ≡ (source_in self.now).rate }
+        ensures rate { IsRate result }
+    {
+        match self {
+            Running::Down(_) => Rate::ZERO,
+            Running::Idle(source) => source.rate(),
+            Running::Asking(source) => source.rate(),
+        }
+    }
+
+    // Its last sequence number, where it is up.
+    pub(crate) fn last(&self) -> u32
+        requires { state_in self.now ≢ state.Down }
+        ensures { result ≡ (source_in self.now).last }
+    {
+        match self {
+            Running::Down(_) => unreachable!(),
+            Running::Idle(source) => source.last(),
+            Running::Asking(source) => source.last(),
+        }
+    }
+
+    // Asks, where it is up.
+    pub(crate) fn ask(
+        self,
+        store: &mut MemoryStore,
+        rate: Rate,
+    ) -> Result<(Source<Asking>, Request), (Running, AskFault)>
+        requires { state_in self ≢ state.Down }
+        ensures value { (result, store.new) ≡ result_of_asking self store.old rate }
+        ensures facts { (facts : List Fact) (mark : ℕ) → StandsFor facts (state_in self) (source_in self) →
+            IfOk result (λ asked. let request = asked.1 in
+            StandsFor (Asked request.seq request.floor request.ask mark ∷ Stored request.seq ∷ facts)
+            (state.Asking request.seq) asked.0) }
+    {
+        match self {
+            Running::Down(_) => unreachable!(),
+            Running::Idle(source) => match source.ask(store, rate) {
+                Ok(asked) => Ok(asked),
+                Err(AskRefused { source, fault }) => Err((Running::Idle(source), fault)),
+            },
+            Running::Asking(source) => match source.ask(store, rate) {
+                Ok(asked) => Ok(asked),
+                Err(AskRefused { source, fault }) => Err((Running::Asking(source), fault)),
+            },
+        }
+    }
+
+    // Emits a cell, where it is up.
+    pub(crate) fn emit(&mut self, now: u64) -> Result<u64, ShapeFault>
+        requires { state_in self.old ≢ state.Down }
+        ensures value { result ≡ result_of_emission (source_in self.old) now }
+        ensures ok { IfOk result (λ next. source_in self.new ≡ record (source_in self.old) { next = next; emitted = Some now }) }
+        ensures same { state_in self.new ≡ state_in self.old }
+        ensures err { OnErr result (self.new ≡ self.old) }
+        ensures facts { (facts : List Fact) (cell : ℕ) → StandsFor facts (state_in self.old) (source_in self.old) →
+            IfOk result (λ _. StandsFor (Emitted cell now (source_in self.old).rate ∷ facts) (state_in self.new) (source_in self.new)) }
+    {
+        match self {
+            Running::Down(_) => unreachable!(),
+            Running::Idle(source) => source.emit(now),
+            Running::Asking(source) => source.emit(now),
+        }
+    }
+
+    // Crashes, where it is up.
+    pub(crate) fn crash(self) -> Source<Down>
+        requires { state_in self ≢ state.Down }
+        ensures value { result ≡ crashed_source (source_in self) }
+        ensures facts { (facts : List Fact) → StandsFor facts (state_in self) (source_in self) →
+            StandsFor (Crashed ∷ facts) state.Down result }
+    {
+        match self {
+            Running::Down(_) => unreachable!(),
+            Running::Idle(source) => source.crash(),
+            Running::Asking(source) => source.crash(),
+        }
+    }
+}
