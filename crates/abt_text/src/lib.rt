@@ -2,11 +2,15 @@
 #![tactic(auto)]
 
 mod code;
+mod numeral;
 mod reading;
+mod spaced;
 mod writing;
 
 pub use code::HexCode;
+pub use numeral::{u16_of, u32_of, u64_of};
 pub use reading::{TEXT_MAX, TextFault, octets_of};
+pub use spaced::words_of;
 pub use writing::{Unwritten, put};
 
 #[cfg(test)]

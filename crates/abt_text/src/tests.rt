@@ -122,3 +122,52 @@ fn codes_have_four_digits_in_lower_case(rt: HostRuntime) -> Result<(), Fail> {
     }
     Ok(())
 }
+
+#[test]
+fn a_text_is_cut_at_each_space(rt: HostRuntime) -> Result<(), Fail> {
+    let alloc = rt.alloc();
+    let rows: [(&str, &[&str]); 6] = [
+        ("start 0 9", &["start", "0", "9"]),
+        ("again", &["again"]),
+        ("", &[""]),
+        (" ", &["", ""]),
+        ("a  b", &["a", "", "b"]),
+        ("a\tb ", &["a\tb", ""]),
+    ];
+    for (text, words) in rows {
+        let cut = match words_of(alloc, text) {
+            Ok(cut) => cut,
+            Err(_) => words_of(alloc, text)?,
+        };
+        assert_eq!(rt; cut.as_slice(), words, "{text}");
+    }
+    Ok(())
+}
+
+#[test]
+fn numbers_are_1_to_19_digits_and_nothing_else(rt: HostRuntime) {
+    assert_eq!(rt; u64_of("0"), Some(0));
+    assert_eq!(rt; u64_of("0000000000000000007"), Some(7));
+    assert_eq!(rt;
+        u64_of("9999999999999999999"),
+        Some(9_999_999_999_999_999_999)
+    );
+    for text in [
+        "",
+        "00000000000000000000",
+        "18446744073709551615",
+        "+5",
+        "-5",
+        " 5",
+        "5 ",
+        "5a",
+        "0x5",
+        "\u{0665}",
+    ] {
+        assert_eq!(rt; u64_of(text), None, "{text}");
+    }
+    assert_eq!(rt; u32_of("4294967295"), Some(4_294_967_295));
+    assert_eq!(rt; u32_of("4294967296"), None);
+    assert_eq!(rt; u16_of("0065535"), Some(65535));
+    assert_eq!(rt; u16_of("65536"), None);
+}

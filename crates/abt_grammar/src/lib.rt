@@ -1,0 +1,12 @@
+//! What the texts of events and of commands say.
+#![tactic(auto)]
+
+mod command;
+mod event;
+mod value;
+
+pub use command::command_of;
+pub use event::event_of;
+
+#[cfg(test)]
+mod tests;

@@ -1,0 +1,28 @@
+//! What single words say.
+ghost use Rattle.std.specs.Prelude.{◌≡◌};
+ghost use Rattle.abt_grammar.specs.Values.{rate_of, plan_of};
+
+use abt_keep::StorePlan;
+use abt_rate::Rate;
+use hex::FromHex;
+
+// The rate of a code of four hexadecimal digits.
+pub(crate) fn rate_of(word: &str) -> Option<Rate>
+    ensures { result ≡ rate_of word.now }
+{
+    match <[u8; 2] as FromHex>::from_hex(word) {
+        Ok(octets) => Some(Rate::from_code(u16::from_be_bytes(octets))),
+        Err(_) => None,
+    }
+}
+
+// How the store fails, where a word says that it does.
+pub(crate) fn plan_of(word: &str) -> Option<StorePlan>
+    ensures { result ≡ plan_of word.now }
+{
+    match word {
+        "before" => Some(StorePlan::FailsBefore),
+        "after" => Some(StorePlan::FailsAfter),
+        _ => None,
+    }
+}

@@ -1,0 +1,12 @@
+//! The reports of runs.
+#![tactic(auto)]
+
+mod lines;
+mod names;
+mod outcome;
+mod report;
+
+pub use report::report_text;
+
+#[cfg(test)]
+mod tests;

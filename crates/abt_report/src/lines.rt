@@ -1,0 +1,73 @@
+//! The lines of reports.
+ghost use Rattle.std.specs.Prelude.{◌≡◌, IfOk, string_bytes};
+ghost use Rattle.abt_report.specs.Report.{count_line, outcome_line, rates_text, conn_line, port_line, safe_line};
+
+use crate::outcome::outcome_text;
+use abt_model::Outcome;
+use abt_rate::Rate;
+use abt_text::HexCode;
+use std::alloc::{AllocError, Global};
+
+// How many events there were.
+pub(crate) fn count_line(alloc: Global, count: usize) -> Result<String, AllocError>
+    ensures { IfOk result (λ text. string_bytes text ≡ count_line count) }
+{
+    format!(in alloc; "events {count}\n")
+}
+
+// What the event of a number answered.
+pub(crate) fn outcome_line(
+    alloc: Global,
+    number: u64,
+    outcome: &Outcome,
+) -> Result<String, AllocError>
+    ensures { IfOk result (λ text. string_bytes text ≡ outcome_line number outcome.now) }
+{
+    let answer = outcome_text(alloc, outcome)?;
+    format!(in alloc; "{number} {answer}\n")
+}
+
+// The rate of a connection, and what each of its hops holds for it.
+pub(crate) fn conn_line(
+    alloc: Global,
+    conn: u64,
+    rate: Rate,
+    held: &[Rate],
+) -> Result<String, AllocError>
+    ensures { IfOk result (λ text. string_bytes text ≡ conn_line conn rate held.now) }
+{
+    let code = HexCode(rate.code());
+    let held = rates_text(alloc, held)?;
+    format!(in alloc; "connection {conn} rate {code} held{held}\n")
+}
+
+fn rates_text(alloc: Global, rates: &[Rate]) -> Result<String, AllocError>
+    ensures { IfOk result (λ text. string_bytes text ≡ rates_text rates.now) }
+{
+    let mut text = String::new(alloc);
+    for rate in rates {
+        let code = HexCode(rate.code());
+        let code = format!(in alloc; " {code}")?;
+        text.push_str(code.as_str())?;
+    }
+    Ok(text)
+}
+
+// What a port holds reserved, and its capacity.
+pub(crate) fn port_line(
+    alloc: Global,
+    port: u64,
+    total: u64,
+    capacity: u64,
+) -> Result<String, AllocError>
+    ensures { IfOk result (λ text. string_bytes text ≡ port_line port total capacity) }
+{
+    format!(in alloc; "port {port} total {total} capacity {capacity}\n")
+}
+
+// Whether a run is safe.
+pub(crate) fn safe_line(is_safe: bool) -> &'static str
+    ensures { result.now ≡ safe_line is_safe }
+{
+    if is_safe { "safe\n" } else { "unsafe\n" }
+}

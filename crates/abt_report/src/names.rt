@@ -1,0 +1,78 @@
+//! The names that reports print.
+ghost use Rattle.std.specs.Prelude.{◌≡◌};
+ghost use Rattle.abt_report.specs.Names.{cause_name, drop_name, verdict_name, heard_name, start_fault_name, ask_fault_name};
+
+use abt_gcra::Verdict;
+use abt_model::{Cause, Heard};
+use abt_node::DropCause;
+use abt_source::{AskFault, StartFault};
+
+// Why an event could not happen.
+pub(crate) fn cause_name(cause: Cause) -> &'static str
+    ensures { result.now ≡ cause_name cause }
+{
+    match cause {
+        Cause::Down => "Down",
+        Cause::Running => "Running",
+        Cause::NotSent => "NotSent",
+        Cause::Fenced => "Fenced",
+        Cause::Delay => "Delay",
+        Cause::ClockBack => "ClockBack",
+        Cause::Unknown => "Unknown",
+        Cause::NotAsking => "NotAsking",
+    }
+}
+
+// Why a hop dropped a message.
+pub(crate) fn drop_name(cause: DropCause) -> &'static str
+    ensures { result.now ≡ drop_name cause }
+{
+    match cause {
+        DropCause::UnknownVc => "UnknownVc",
+        DropCause::Stale => "Stale",
+        DropCause::Conflict => "Conflict",
+        DropCause::FloorAbove => "FloorAbove",
+    }
+}
+
+// What the policer says of a cell.
+pub(crate) fn verdict_name(verdict: Verdict) -> &'static str
+    ensures { result.now ≡ verdict_name verdict }
+{
+    match verdict {
+        Verdict::Conforming => "Conforming",
+        Verdict::TooEarly => "TooEarly",
+        Verdict::NoRate => "NoRate",
+    }
+}
+
+// What a source made of an answer.
+pub(crate) fn heard_name(heard: Heard) -> &'static str
+    ensures { result.now ≡ heard_name heard }
+{
+    match heard {
+        Heard::Raised => "Raised",
+        Heard::Refused => "Refused",
+        Heard::Ignored => "Ignored",
+    }
+}
+
+// Why a source didn't start.
+pub(crate) fn start_fault_name(fault: StartFault) -> &'static str
+    ensures { result.now ≡ start_fault_name fault }
+{
+    match fault {
+        StartFault::Keep => "Keep",
+        StartFault::TimeRange => "TimeRange",
+    }
+}
+
+// Why a source didn't ask.
+pub(crate) fn ask_fault_name(fault: AskFault) -> &'static str
+    ensures { result.now ≡ ask_fault_name fault }
+{
+    match fault {
+        AskFault::SeqExhausted => "SeqExhausted",
+        AskFault::Keep => "Keep",
+    }
+}

@@ -1,0 +1,60 @@
+//! Scenarios from any reader.
+ghost use Rattle.std.specs.Prelude.{◌≤◌, ◌+◌, Ok, IfOk, IfErr, IfSome, length};
+ghost use Rattle.abt_text.specs.Streams.{ConsumesAtMost};
+ghost use Rattle.abt_scenario.specs.Scenarios.{Reads};
+ghost use Rattle.abt_scenario.specs.Engine.{Explains};
+
+use crate::fault::ScenarioFault;
+use crate::scenario::Scenario;
+use crate::text::read;
+use abt_text::{TEXT_MAX, TextFault, octets_of};
+use std::alloc::Global;
+use std::io::Read;
+use thiserror::Error;
+
+/// Why the scenario of a reader isn't read, run and reported.
+#[derive(Clone, Copy, Debug, PartialEq, Eq, Error)]
+pub enum EngineFault {
+    /// The reader failed.
+    #[error("the input can't be read")]
+    Read,
+    /// There are more than [`TEXT_MAX`] octets.
+    #[error("the text is too long")]
+    TooLong,
+    /// The octets are no UTF-8 text.
+    #[error("the text is not UTF-8")]
+    NotUtf8,
+    /// The text is no scenario.
+    #[error("{0}")]
+    Scenario(ScenarioFault),
+    /// The writer failed, or took no octet.
+    #[error("the output can't be written")]
+    Write,
+    /// No memory was found.
+    #[error("out of memory")]
+    Memory,
+}
+
+/// The scenario of the text that a reader has left. At most one octet more than [`TEXT_MAX`] is taken, which shows that the
+/// text is too long; a failure of the reader ends the reading at once.
+pub fn read_from<R: Read>(alloc: Global, reader: &mut R) -> Result<Scenario, EngineFault>
+    ensures ok { IfOk result (λ scenario. IfSome (R.remaining reader.old) (λ text. Reads text (Ok scenario))) }
+    ensures limit { IfOk result (λ _. IfSome (R.remaining reader.old) (λ text. length text ≤ TEXT_MAX)) }
+    ensures err { IfErr result (λ fault. IfSome (R.remaining reader.old) (Explains fault)) }
+    ensures stops { ConsumesAtMost (R.remaining reader.old) (R.remaining reader.new) (TEXT_MAX + 1) }
+{
+    let octets = match octets_of(alloc, reader) {
+        Ok(octets) => octets,
+        Err(TextFault::Read) => return Err(EngineFault::Read),
+        Err(TextFault::TooLong) => return Err(EngineFault::TooLong),
+        Err(TextFault::Memory) => return Err(EngineFault::Memory),
+    };
+    let Ok(text) = std::str::from_utf8(octets.as_slice()) else {
+        return Err(EngineFault::NotUtf8);
+    };
+    match read(alloc, text) {
+        Ok(scenario) => Ok(scenario),
+        Err(ScenarioFault::Memory) => Err(EngineFault::Memory),
+        Err(fault) => Err(EngineFault::Scenario(fault)),
+    }
+}

@@ -1,0 +1,15 @@
+//! Reports of scenarios.
+ghost use Rattle.std.specs.Prelude.{◌≡◌, IfOk, string_bytes};
+ghost use Rattle.abt_report.specs.Report.{report_of};
+
+use crate::scenario::Scenario;
+use abt_report::report_text;
+use abt_trace::Trace;
+use std::alloc::{AllocError, Global};
+
+/// The report of a run of a scenario (docs/FORMATS.md, "Report").
+pub fn report(alloc: Global, scenario: &Scenario, trace: &Trace) -> Result<String, AllocError>
+    ensures { IfOk result (λ text. string_bytes text ≡ report_of scenario.now.net.capacities trace.now) }
+{
+    report_text(alloc, &scenario.net, trace)
+}

@@ -1,0 +1,16 @@
+//! Scenarios.
+use abt_list::Sequence;
+use abt_model::Event;
+use abt_net::Net;
+use abt_script::Script;
+
+/// A net, what happens in it, and what its sources do.
+#[derive(Debug, Drop)]
+pub struct Scenario {
+    /// The ports and the connections.
+    pub net: Net,
+    /// What happens, in order.
+    pub events: Sequence<Event>,
+    /// What the source of each connection does, in the order of the connections.
+    pub scripts: Sequence<Script>,
+}

@@ -1,0 +1,35 @@
+//! Rows of scenarios' texts, and what each is read as. The expected scenarios and faults are written out by hand from
+//! docs/FORMATS.md, "Scenario".
+mod faults;
+mod rows;
+mod streams;
+
+use crate::{Scenario, ScenarioFault, read};
+use std::alloc::Global;
+use std::test::Fail;
+
+/// The net of one port of 1,000 cells per second and one connection over it, and what follows in its table.
+const ONE: &str =
+    "ports = [512000]\n[[connection]]\nvpi = 1\nvci = 100\npath = [0]\ndelay = 1000\ntau = 200\n";
+
+/// What a text is read as. Where memory is refused, the text is read again.
+fn reading(alloc: Global, text: &str) -> Result<Result<Scenario, ScenarioFault>, Fail> {
+    match read(alloc, text) {
+        Err(ScenarioFault::Memory) => {}
+        answer => return Ok(answer),
+    }
+    match read(alloc, text) {
+        Err(ScenarioFault::Memory) => Err(Fail::from("memory was refused twice")),
+        answer => Ok(answer),
+    }
+}
+
+/// The fault of a text.
+fn fault(alloc: Global, text: &str) -> Result<Option<ScenarioFault>, Fail> {
+    Ok(reading(alloc, text)?.err())
+}
+
+/// The scenario of a text.
+fn scenario(alloc: Global, text: &str) -> Result<Scenario, Fail> {
+    reading(alloc, text)?.map_err(|_| Fail::from("no scenario"))
+}

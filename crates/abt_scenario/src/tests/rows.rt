@@ -1,0 +1,77 @@
+use super::{ONE, scenario};
+use abt_keep::StorePlan;
+use abt_model::Event;
+use abt_rate::Rate;
+use abt_script::Command;
+use std::test::Fail;
+
+#[test]
+fn a_scenario_has_its_net_its_events_and_its_scripts(rt: HostRuntime) -> Result<(), Fail> {
+    let alloc = rt.alloc();
+    let text = format!(in alloc;
+        "title = \"unknown keys are passed over\"\n\
+         events = [\"start 0 0\", \"ask 0 5120\"]\n\
+         {ONE}\
+         script = [\"start 5\", \"listen 7\"]\n\
+         colour = \"blue\"\n\
+         [[connection]]\n\
+         vpi = 4095\n\
+         vci = 65535\n\
+         path = [0]\n\
+         delay = 0\n\
+         tau = 0\n"
+    )?;
+    let read = scenario(alloc, text.as_str())?;
+    assert_eq!(rt; read.net.capacities(), [512_000].as_slice());
+    let [first, second] = read.net.conns() else {
+        return Err(Fail::from("not two connections"));
+    };
+    assert_eq!(rt; first.vc.vpi(), 1);
+    assert_eq!(rt; first.vc.vci(), 100);
+    assert_eq!(rt; first.path.as_slice(), [0].as_slice());
+    assert_eq!(rt; first.delay, 1000);
+    assert_eq!(rt; first.tau, 200);
+    assert_eq!(rt; second.vc.vpi(), 4095);
+    assert_eq!(rt; second.vc.vci(), 65535);
+    let rate = Rate::at_most(204_800);
+    let plan = StorePlan::Works;
+    let events = [
+        Event::Start { conn: 0, now: 0 },
+        Event::Ask {
+            conn: 0,
+            rate,
+            plan,
+        },
+    ];
+    assert_eq!(rt; read.events.as_slice(), events.as_slice());
+    let commands = [Command::Start { now: 5 }, Command::Listen { turns: 7 }];
+    let [script, none] = read.scripts.as_slice() else {
+        return Err(Fail::from("not two scripts"));
+    };
+    assert_eq!(rt; script.as_slice(), commands.as_slice());
+    assert!(rt; none.is_empty());
+    Ok(())
+}
+
+#[test]
+fn numbers_are_those_of_toml(rt: HostRuntime) -> Result<(), Fail> {
+    let alloc = rt.alloc();
+    let read = scenario(alloc, "ports = [-0, +5, 0x10, 1_000, 0b11]")?;
+    assert_eq!(rt; read.net.capacities(), [0, 5, 16, 1000, 3].as_slice());
+    Ok(())
+}
+
+#[test]
+fn a_net_may_be_empty_and_tables_may_stand_in_a_line(rt: HostRuntime) -> Result<(), Fail> {
+    let alloc = rt.alloc();
+    for text in ["ports = []", "ports = []\nconnection = []\nevents = []"] {
+        let read = scenario(alloc, text)?;
+        assert_eq!(rt; read.net.capacities().len(), 0);
+        assert_eq!(rt; read.net.conns().len(), 0);
+        assert_eq!(rt; read.events.len(), 0);
+        assert_eq!(rt; read.scripts.len(), 0);
+    }
+    let inline = "ports = [1]\nconnection = [{ vpi = 0, vci = 0, path = [0], delay = 0, tau = 0 }]";
+    assert_eq!(rt; scenario(alloc, inline)?.net.conns().len(), 1);
+    Ok(())
+}

@@ -1,0 +1,120 @@
+//! Scenarios from text.
+ghost use Rattle.std.specs.Prelude.{◌≡◌, ◌⊎◌, ◌+◌, Ok, Err, map, IfOk, IfErr};
+ghost use Rattle.toml.specs.View.{table_view};
+ghost use Rattle.abt_scenario.specs.Reading.{Gives};
+ghost use Rattle.abt_scenario.specs.Walk.{draft_seen, scripts_seen};
+ghost use Rattle.abt_net.specs.Topology.{Topology, IsWithinRules};
+ghost use Rattle.abt_scenario.specs.Scenarios.{Reads, ReadsDraft, IsNetFault, events_from, scripts_from, commands_from};
+
+use crate::draft::{Connections, Draft, draft_in};
+use crate::fault::ScenarioFault;
+use crate::scenario::Scenario;
+use abt_grammar::{command_of, event_of};
+use abt_list::Sequence;
+use abt_model::Event;
+use abt_net::{Conn, Net, NetFault};
+use abt_script::Script;
+use std::alloc::Global;
+
+/// The scenario that a text says, or the first fault (docs/FORMATS.md, "Scenario").
+///
+/// Keys that a scenario doesn't have are passed over.
+pub fn read(alloc: Global, text: &str) -> Result<Scenario, ScenarioFault>
+    ensures ok { IfOk result (λ scenario. Reads text.now (Ok scenario)) }
+    ensures err { IfErr result (λ fault. (fault ≡ ScenarioFault.Memory) ⊎ Reads text.now (Err fault)) }
+{
+    match toml::table_from_str(alloc, text) {
+        Ok(table) => {
+            let draft = draft_in(alloc, &table)?;
+            scenario_of(alloc, draft)
+        }
+        Err(error) if error.is_memory() => Err(ScenarioFault::Memory),
+        Err(_) => Err(ScenarioFault::Toml),
+    }
+}
+
+// The scenario of a draft.
+fn scenario_of(alloc: Global, draft: Draft<'_>) -> Result<Scenario, ScenarioFault>
+    ensures ok { IfOk result (λ scenario. ReadsDraft (draft_seen draft.entry) (Ok scenario)) }
+    ensures err { IfErr result (λ fault. (fault ≡ ScenarioFault.Memory)
+        ⊎ ReadsDraft (draft_seen draft.entry) (Err fault)) }
+{
+    let Draft {
+        capacities,
+        connections,
+        events,
+    } = draft;
+    let Connections { conns, scripts } = connections;
+    let net = net_of(alloc, capacities, conns)?;
+    let events = events_in(alloc, events.as_slice())?;
+    let scripts = scripts_in(alloc, scripts.as_slice())?;
+    Ok(Scenario {
+        net,
+        events,
+        scripts,
+    })
+}
+
+// The net of these ports and connections.
+fn net_of(alloc: Global, capacities: Vec<u64>, conns: Vec<Conn>) -> Result<Net, ScenarioFault>
+    ensures ok { let drafted : Topology = record { capacities = capacities.items; conns = conns.items } in
+        IfOk result (λ net. IsWithinRules drafted × (net ≡ drafted)) }
+    ensures err { let drafted : Topology = record { capacities = capacities.items; conns = conns.items } in
+        IfErr result (λ fault. (fault ≡ ScenarioFault.Memory) ⊎ IsNetFault drafted fault) }
+{
+    match Net::build(alloc, capacities, conns) {
+        Ok(net) => Ok(net),
+        Err(fault) => match fault {
+            NetFault::Memory => Err(ScenarioFault::Memory),
+            _ => Err(ScenarioFault::Net(fault)),
+        },
+    }
+}
+
+// The events of some texts, or the first text that says none.
+fn events_in(alloc: Global, texts: &[&str]) -> Result<Sequence<Event>, ScenarioFault>
+    ensures { Gives (λ events. events) (events_from 1 (map (λ text. text.now) texts.now)) result }
+{
+    let mut events = Sequence::new(alloc);
+    for (index, text) in texts.iter().enumerate() {
+        match event_of(alloc, text)? {
+            Some(event) => events.push(event)?,
+            None => {
+                return Err(ScenarioFault::EventText {
+                    number: index as u64 + 1,
+                });
+            }
+        }
+    }
+    Ok(events)
+}
+
+// The scripts of the connections, or the first text that says no command.
+fn scripts_in(alloc: Global, scripts: &[Vec<&str>]) -> Result<Sequence<Script>, ScenarioFault>
+    ensures { Gives (λ scripts. scripts) (scripts_from 0 (scripts_seen scripts.now)) result }
+{
+    let mut read = Sequence::new(alloc);
+    for (index, texts) in scripts.iter().enumerate() {
+        read.push(commands_in(alloc, index as u64, texts.as_slice())?)?;
+    }
+    Ok(read)
+}
+
+// The commands of a connection's script, or the first text that says none.
+fn commands_in(alloc: Global, connection: u64, texts: &[&str]) -> Result<Script, ScenarioFault>
+    ensures { Gives (λ commands. commands) (commands_from connection 1 (map (λ text. text.now) texts.now)) result }
+{
+    let mut commands = Sequence::new(alloc);
+    for (place, text) in texts.iter().enumerate() {
+        match command_of(alloc, text)? {
+            Some(command) => commands.push(command)?,
+            None => {
+                return Err(ScenarioFault::ScriptText {
+                    connection,
+                    number: place as u64 + 1,
+                });
+            }
+        }
+    }
+    Ok(commands)
+}
