@@ -52,8 +52,8 @@ goes_by false Works running store rate source request after last is h = record {
   works = is;
   asked = ap (λ p. (asked_in p.0 (source, request)).1) h;
   waits =
-    let request_is = ap (λ p. (asked_in p.0 (source, request)).1) h in
-    ap (λ p. (asked_in p.0 (source, request)).0) h ∙ ap (asking_source (source_in running)) (sym request_is);
+      let request_is = ap (λ p. (asked_in p.0 (source, request)).1) h in
+      ap (λ p. (asked_in p.0 (source, request)).0) h ∙ ap (asking_source (source_in running)) (sym request_is);
   kept = ap (λ p. p.1.number) h;
 }
 goes_by false FailsBefore running store rate source request after last is h = absurd (let e = ap (λ p. p.0) h in cc)
@@ -68,11 +68,11 @@ goes running store rate source request after h =
 -- what holds when none goes out: numbers are used up, or the write failed, and was kept or not
 pub data Stays : (running : Running) (store : StoreView) (after : StoreView) (fault : AskFault) → Type 0 where
   Exhausted : {running : Running} {store after : StoreView} {fault : AskFault} →
-    (source_in running).last ≡ 4294967295 → fault ≡ SeqExhausted → after.number ≡ store.number → Stays running store after fault
+      (source_in running).last ≡ 4294967295 → fault ≡ SeqExhausted → after.number ≡ store.number → Stays running store after fault
   Unkept : {running : Running} {store after : StoreView} {fault : AskFault} →
-    (source_in running).last ≢ 4294967295 → fault ≡ Keep → store.plan ≡ FailsBefore → after.number ≡ store.number → Stays running store after fault
+      (source_in running).last ≢ 4294967295 → fault ≡ Keep → store.plan ≡ FailsBefore → after.number ≡ store.number → Stays running store after fault
   Kept : {running : Running} {store after : StoreView} {fault : AskFault} →
-    (source_in running).last ≢ 4294967295 → fault ≡ Keep → store.plan ≡ FailsAfter → after.number ≡ (source_in running).last + 1 → Stays running store after fault
+      (source_in running).last ≢ 4294967295 → fault ≡ Keep → store.plan ≡ FailsAfter → after.number ≡ (source_in running).last + 1 → Stays running store after fault
 
 stays_by :
     (b : Bool) (plan : StorePlan) (running same : Running) (store : StoreView) (rate : ℕ) (fault : AskFault) (after : StoreView) →

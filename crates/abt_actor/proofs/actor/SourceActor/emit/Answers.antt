@@ -26,9 +26,11 @@ up c = search rules
 pub invariant_of-result : goal.invariant_of-result
 invariant_of-result c =
     let source = c.in-Ok.ensures.ok in
-    let state = c.emit.ensures.same in
-    (c.self.invariant.0, sound_emission (before c) _ c.args.now c.in-Ok.next c.self.invariant.1
-    (subst IsRate c.rate-rate.ensures.value c.rate-rate.ensures.rate) c.if-now-self.false (up c) (sym c.emit.ensures.value ∙ c.in-Ok.is) cc)
+    let state = c.emit.ensures.same in (
+      c.self.invariant.0,
+      sound_emission (before c) _ c.args.now c.in-Ok.next c.self.invariant.1
+          (subst IsRate c.rate-rate.ensures.value c.rate-rate.ensures.rate) c.if-now-self.false (up c) (sym c.emit.ensures.value ∙ c.in-Ok.is) cc,
+    )
 
 pub returns-in-Ok : goal.returns-in-Ok
 returns-in-Ok c vc facts is =
@@ -42,5 +44,5 @@ returns-in-Ok c vc facts is =
       answer = emission_answered vc facts (before c) c.args.now c.in-Ok.next was (up c) c.if-now-self.false (sym c.emit.ensures.value ∙ c.in-Ok.is);
       adds = ap (λ r. FactEmitted c.self.inside.cells c.args.now r ∷ []) (c.rate-rate.ensures.value ∙ ap (λ a. a.source.rate) was);
       becomes = rw c.rate-rate.ensures.value (emission_after vc facts (before c) (source_in c.emit.new.self) (state_in c.emit.new.self) c.args.now c.in-Ok.next
-    was c.if-now-self.false (ap (λ s. s.vc) c.in-Ok.ensures.ok) stands);
+          was c.if-now-self.false (ap (λ s. s.vc) c.in-Ok.ensures.ok) stands);
     }
