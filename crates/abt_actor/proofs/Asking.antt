@@ -1,5 +1,5 @@
 -- An actor that asks goes on to the actor of the facts with that request.
-use Rattle.std.proofs.Common.{◌≡◌, ◌≢◌, ℕ, ◌+◌, ◌≤◌, Bool, true, false, List, [], ◌∷◌, Result, Ok, Err, refl, sym, subst, ap, ◌∙◌, arith, ◌⊎◌, inl, inr}
+use Rattle.std.proofs.Common.{◌≡◌, ◌≢◌, ℕ, ◌+◌, ◌≤◌, Bool, true, false, List, [], ◌∷◌, Result, Ok, Err, refl, sym, subst, ap, ◌∙◌, arith}
 use Rattle.std.specs.Prelude.{◌==◌, ◌++◌, max, if◌then◌else◌}
 use Rattle.std.proofs.lemmas.Bool.Decides.{nat_tests}
 use Rattle.abt_cell.specs.Channel.{Channel}
@@ -14,7 +14,7 @@ use Rattle.abt_source.specs.declared.fault.AskFault.{AskFault}
 use Rattle.abt_source.specs.declared.fault.AskFault.TheVariants.{SeqExhausted, Keep}
 use Rattle.abt_facts.specs.declared.fact.Fact.{Fact}
 use Rattle.abt_facts.specs.declared.fact.Fact.TheVariants.{Asked as FactAsked, Stored}
-use Rattle.abt_facts.specs.Source.{SourceState, Down, Asking, state_of, rate_of, last_of, clock_of, stored_of}
+use Rattle.abt_facts.specs.Source.{Down, Asking, state_of, last_of, clock_of, stored_of}
 use Rattle.abt_facts.specs.Cells.{emitted_of}
 use Rattle.abt_model.specs.declared.command.SourceCommand.TheVariants.{Ask}
 use Rattle.abt_model.specs.declared.outcome.Outcome.TheVariants.{Asked, AskRefused}

@@ -1,4 +1,4 @@
-use Rattle.std.proofs.Common.{rules, ◌≡◌, ◌≢◌, ◌+◌, ◌∙◌, ◌∷◌, ◌++◌, List, sym, arith, [], refl, ap, subst}
+use Rattle.std.proofs.Common.{rules, ◌≡◌, ◌≢◌, ◌+◌, ◌∙◌, ◌++◌, sym, refl, ap, subst}
 use Rattle.abt_cell.specs.Message.{Terms}
 use Rattle.abt_facts.specs.Source.{Down, last_of}
 use Rattle.abt_facts.specs.Cells.{emitted_of}
