@@ -1,5 +1,5 @@
 -- An actor that asks goes on to the actor of the facts with that request.
-use Rattle.std.proofs.Common.{◌≡◌, ◌≢◌, ℕ, ◌+◌, ◌≤◌, Bool, true, false, List, [], ◌∷◌, Result, Ok, Err, refl, sym, subst, ap, ◌∙◌, arith, ◌⊎◌, inl, inr}
+use Rattle.std.proofs.Common.{◌≡◌, ◌≢◌, ℕ, ◌+◌, ◌≤◌, Bool, true, false, List, [], ◌∷◌, Result, Ok, Err, refl, sym, subst, ap, ◌∙◌, arith}
 use Rattle.std.specs.Prelude.{◌==◌, ◌++◌, max, if◌then◌else◌}
 use Rattle.std.proofs.lemmas.Bool.Decides.{nat_tests}
 use Rattle.abt_cell.specs.Channel.{Channel}
@@ -14,7 +14,7 @@ use Rattle.abt_source.specs.declared.fault.AskFault.{AskFault}
 use Rattle.abt_source.specs.declared.fault.AskFault.TheVariants.{SeqExhausted, Keep}
 use Rattle.abt_facts.specs.declared.fact.Fact.{Fact}
 use Rattle.abt_facts.specs.declared.fact.Fact.TheVariants.{Asked as FactAsked, Stored}
-use Rattle.abt_facts.specs.Source.{SourceState, Down, Asking, state_of, rate_of, last_of, clock_of, stored_of}
+use Rattle.abt_facts.specs.Source.{Down, Asking, state_of, last_of, clock_of, stored_of}
 use Rattle.abt_facts.specs.Cells.{emitted_of}
 use Rattle.abt_model.specs.declared.command.SourceCommand.TheVariants.{Ask}
 use Rattle.abt_model.specs.declared.outcome.Outcome.TheVariants.{Asked, AskRefused}
@@ -52,8 +52,8 @@ goes_by false Works running store rate source request after last is h = record {
   works = is;
   asked = ap (λ p. (asked_in p.0 (source, request)).1) h;
   waits =
-    let request_is = ap (λ p. (asked_in p.0 (source, request)).1) h in
-    ap (λ p. (asked_in p.0 (source, request)).0) h ∙ ap (asking_source (source_in running)) (sym request_is);
+      let request_is = ap (λ p. (asked_in p.0 (source, request)).1) h in
+      ap (λ p. (asked_in p.0 (source, request)).0) h ∙ ap (asking_source (source_in running)) (sym request_is);
   kept = ap (λ p. p.1.number) h;
 }
 goes_by false FailsBefore running store rate source request after last is h = absurd (let e = ap (λ p. p.0) h in cc)
@@ -68,11 +68,11 @@ goes running store rate source request after h =
 -- what holds when none goes out: numbers are used up, or the write failed, and was kept or not
 pub data Stays : (running : Running) (store : StoreView) (after : StoreView) (fault : AskFault) → Type 0 where
   Exhausted : {running : Running} {store after : StoreView} {fault : AskFault} →
-    (source_in running).last ≡ 4294967295 → fault ≡ SeqExhausted → after.number ≡ store.number → Stays running store after fault
+      (source_in running).last ≡ 4294967295 → fault ≡ SeqExhausted → after.number ≡ store.number → Stays running store after fault
   Unkept : {running : Running} {store after : StoreView} {fault : AskFault} →
-    (source_in running).last ≢ 4294967295 → fault ≡ Keep → store.plan ≡ FailsBefore → after.number ≡ store.number → Stays running store after fault
+      (source_in running).last ≢ 4294967295 → fault ≡ Keep → store.plan ≡ FailsBefore → after.number ≡ store.number → Stays running store after fault
   Kept : {running : Running} {store after : StoreView} {fault : AskFault} →
-    (source_in running).last ≢ 4294967295 → fault ≡ Keep → store.plan ≡ FailsAfter → after.number ≡ (source_in running).last + 1 → Stays running store after fault
+      (source_in running).last ≢ 4294967295 → fault ≡ Keep → store.plan ≡ FailsAfter → after.number ≡ (source_in running).last + 1 → Stays running store after fault
 
 stays_by :
     (b : Bool) (plan : StorePlan) (running same : Running) (store : StoreView) (rate : ℕ) (fault : AskFault) (after : StoreView) →

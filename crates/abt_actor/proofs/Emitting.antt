@@ -1,5 +1,5 @@
 -- An actor that emits a cell goes on to the actor of the facts with that cell.
-use Rattle.std.proofs.Common.{◌≡◌, ◌≢◌, ℕ, ◌+◌, ◌*◌, ◌<◌, ◌≤◌, List, ◌∷◌, Option, None, Some, Result, Ok, refl, sym, subst, ap, ◌∙◌, arith}
+use Rattle.std.proofs.Common.{◌≡◌, ◌≢◌, ℕ, ◌+◌, ◌<◌, ◌≤◌, List, ◌∷◌, Option, None, Some, Ok, refl, sym, subst, ap, ◌∙◌, arith}
 use Rattle.std.specs.Prelude.{max}
 use Rattle.std.proofs.lemmas.Bool.Decides.{nat_tests}
 use Rattle.abt_rate.specs.Rate.{IsRate, spacing_of}
@@ -10,7 +10,7 @@ use Rattle.abt_source.specs.Calls.{emission_at, result_of_emission}
 use Rattle.abt_source.specs.SourceFacts.{StandsFor, view_of}
 use Rattle.abt_facts.specs.declared.fact.Fact.{Fact}
 use Rattle.abt_facts.specs.declared.fact.Fact.TheVariants.{Emitted as FactEmitted}
-use Rattle.abt_facts.specs.Source.{SourceState, Down, Idle, Asking, state_of, rate_of, clock_of, next_of, emission_of, stored_of, hold_off}
+use Rattle.abt_facts.specs.Source.{SourceState, Down, Idle, Asking, state_of, rate_of, clock_of, next_of, emission_of, stored_of}
 use Rattle.abt_facts.specs.Cells.{emitted_of}
 use Rattle.abt_model.specs.declared.command.SourceCommand.TheVariants.{Emit}
 use Rattle.abt_model.specs.declared.outcome.Outcome.{Outcome}

@@ -230,10 +230,11 @@ impl SourceActor {
             cells,
             clock,
         } = self;
+        let source = running.crash();
         Carried {
             actor: SourceActor {
                 vc,
-                running: Running::Down(running.crash()),
+                running: Running::Down(source),
                 store,
                 cells,
                 clock,
@@ -243,13 +244,13 @@ impl SourceActor {
         }
     }
 
-    fn emit(self, now: u64) -> Carried
-        ensures { Carries self (SourceCommand.Emit now) result.outcome (facts_in result.added) result.actor }
+    fn emit(self, at: u64) -> Carried
+        ensures { Carries self (SourceCommand.Emit at) result.outcome (facts_in result.added) result.actor }
     {
         if self.running.is_down() {
             return self.unmoved(Outcome::NotEnabled(Cause::Down));
         }
-        if now < self.clock {
+        if at < self.clock {
             return self.unmoved(Outcome::NotEnabled(Cause::ClockBack));
         }
         let SourceActor {
@@ -260,19 +261,19 @@ impl SourceActor {
             clock,
         } = self;
         let rate = running.rate();
-        match running.emit(now) {
+        match running.emit(at) {
             Ok(next) => Carried {
                 actor: SourceActor {
                     vc,
                     running,
                     store,
                     cells: cells + 1,
-                    clock: now,
+                    clock: at,
                 },
                 outcome: Outcome::Emitted { cell: cells, next },
                 added: Added::One(Fact::Emitted {
                     cell: cells,
-                    at: now,
+                    at,
                     rate,
                 }),
             },

@@ -9,3 +9,6 @@ mod running;
 pub use abt_model::{Cause, Heard, Outcome, SourceCommand};
 pub use actor::SourceActor;
 pub use added::Added;
+
+#[cfg(test)]
+mod tests;

@@ -1,4 +1,4 @@
-use Rattle.std.proofs.Common.{rules, ◌≡◌, ◌≢◌, ◌+◌, ◌∙◌, ◌∷◌, ◌++◌, List, sym, arith, [], refl, ap, subst}
+use Rattle.std.proofs.Common.{rules, ◌≡◌, ◌≢◌, ◌+◌, ◌∙◌, ◌++◌, sym, refl, ap, subst}
 use Rattle.abt_cell.specs.Message.{Terms}
 use Rattle.abt_facts.specs.Source.{Down, last_of}
 use Rattle.abt_facts.specs.Cells.{emitted_of}
@@ -53,7 +53,7 @@ returns-in-Ok c vc facts is =
     c.in-Ok.source c.in-Ok.request was c.self.invariant.1 refl gone stands in
     record {
       answer = subst (λ p. Asked c.in-Ok.request ≡ command_answer vc facts (Ask c.args.rate p)) plan
-      (request_answered vc facts (before c) c.self.inside.running c.plan.new.self c.ask-asked.new.store c.args.rate c.in-Ok.source c.in-Ok.request was (up c) refl gone);
+          (request_answered vc facts (before c) c.self.inside.running c.plan.new.self c.ask-asked.new.store c.args.rate c.in-Ok.source c.in-Ok.request was (up c) refl gone);
       adds = added;
       becomes = rw added (rw (ap (λ s. s.number) c.plan-2.ensures) after);
     }
@@ -70,7 +70,7 @@ returns-in-Err c vc facts is =
     (refusal_after vc facts (before' c) c.self.inside.running c.plan.new.self c.ask-asked.new.store c.args.rate c.in-Err.fault was c.self.invariant.1 refl held stayed.1) in
     record {
       answer = subst (λ p. AskRefused c.in-Err.fault ≡ command_answer vc facts (Ask c.args.rate p)) plan
-      (refusal_answered vc facts (before' c) c.self.inside.running c.plan.new.self c.ask-asked.new.store c.args.rate c.in-Err.fault was (up' c) refl stayed.1);
+          (refusal_answered vc facts (before' c) c.self.inside.running c.plan.new.self c.ask-asked.new.store c.args.rate c.in-Err.fault was (up' c) refl stayed.1);
       adds = added;
       becomes = rw added (rw stayed.0 (rw (ap (λ s. s.number) c.plan-2.ensures) after));
     }

@@ -1,13 +1,11 @@
-use Rattle.std.proofs.Common.{rules, ◌≡◌, ◌≢◌, ◌+◌, ◌∙◌, ◌∷◌, List, sym, arith, [], refl, ap, Some, subst}
-use Rattle.abt_cell.specs.Channel.{Channel}
+use Rattle.std.proofs.Common.{rules, ◌≡◌, ◌≢◌, ◌∙◌, ◌∷◌, sym, [], ap, subst}
 use Rattle.abt_rate.specs.Rate.{IsRate}
-use Rattle.abt_facts.specs.declared.fact.Fact.{Fact}
 use Rattle.abt_facts.specs.Source.{Down}
 use Rattle.abt_source.specs.SourceFacts.{StandsFor, view_of}
 use Rattle.abt_facts.specs.declared.fact.Fact.TheVariants.{Emitted as FactEmitted}
 use Rattle.abt_actor.specs.Actor.{ActorView, actor_of}
 use Rattle.abt_actor.specs.Sources.{source_in, state_in}
-use Rattle.abt_actor.proofs.Emitting.{leaves, emission_answered, sound_emission, emission_after}
+use Rattle.abt_actor.proofs.Emitting.{emission_answered, sound_emission, emission_after}
 use Rattle.abt_actor.proofs.actor.SourceActor.emit.Goals as goal
 
 -- the actor before
@@ -26,9 +24,11 @@ up c = search rules
 pub invariant_of-result : goal.invariant_of-result
 invariant_of-result c =
     let source = c.in-Ok.ensures.ok in
-    let state = c.emit.ensures.same in
-    (c.self.invariant.0, sound_emission (before c) _ c.args.now c.in-Ok.next c.self.invariant.1
-    (subst IsRate c.rate-rate.ensures.value c.rate-rate.ensures.rate) c.if-now-self.false (up c) (sym c.emit.ensures.value ∙ c.in-Ok.is) cc)
+    let state = c.emit.ensures.same in (
+      c.self.invariant.0,
+      sound_emission (before c) _ c.args.at c.in-Ok.next c.self.invariant.1
+          (subst IsRate c.rate-rate.ensures.value c.rate-rate.ensures.rate) c.if-at-self.false (up c) (sym c.emit.ensures.value ∙ c.in-Ok.is) cc,
+    )
 
 pub returns-in-Ok : goal.returns-in-Ok
 returns-in-Ok c vc facts is =
@@ -39,8 +39,8 @@ returns-in-Ok c vc facts is =
     } in
     let stands = c.in-Ok.ensures.facts facts c.self.inside.cells stood in
     record {
-      answer = emission_answered vc facts (before c) c.args.now c.in-Ok.next was (up c) c.if-now-self.false (sym c.emit.ensures.value ∙ c.in-Ok.is);
-      adds = ap (λ r. FactEmitted c.self.inside.cells c.args.now r ∷ []) (c.rate-rate.ensures.value ∙ ap (λ a. a.source.rate) was);
-      becomes = rw c.rate-rate.ensures.value (emission_after vc facts (before c) (source_in c.emit.new.self) (state_in c.emit.new.self) c.args.now c.in-Ok.next
-    was c.if-now-self.false (ap (λ s. s.vc) c.in-Ok.ensures.ok) stands);
+      answer = emission_answered vc facts (before c) c.args.at c.in-Ok.next was (up c) c.if-at-self.false (sym c.emit.ensures.value ∙ c.in-Ok.is);
+      adds = ap (λ r. FactEmitted c.self.inside.cells c.args.at r ∷ []) (c.rate-rate.ensures.value ∙ ap (λ a. a.source.rate) was);
+      becomes = rw c.rate-rate.ensures.value (emission_after vc facts (before c) (source_in c.emit.new.self) (state_in c.emit.new.self) c.args.at c.in-Ok.next
+          was c.if-at-self.false (ap (λ s. s.vc) c.in-Ok.ensures.ok) stands);
     }

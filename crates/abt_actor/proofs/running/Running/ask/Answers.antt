@@ -1,4 +1,4 @@
-use Rattle.std.proofs.Common.{◌≡◌, ◌∷◌, List, sym, subst}
+use Rattle.std.proofs.Common.{subst}
 use Rattle.abt_source.specs.SourceFacts.{StandsFor}
 use Rattle.abt_actor.specs.Sources.{source_in, state_in}
 use Rattle.abt_actor.proofs.running.Running.ask.Goals as goal
