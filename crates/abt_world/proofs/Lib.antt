@@ -1,0 +1,3 @@
+mod Sendings
+mod Serving
+mod Arriving

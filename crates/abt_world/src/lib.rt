@@ -1,0 +1,10 @@
+//! Whole nets, carried through lists of events.
+#![tactic(auto)]
+
+mod cells;
+mod hops;
+mod messages;
+
+pub use abt_actor::SourceActor;
+pub use abt_model::{Cause, Event, Heard, Outcome, SourceCommand};
+pub use abt_net::{Conn, Net, NetFault, Path};
