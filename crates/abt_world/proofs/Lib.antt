@@ -1,3 +1,5 @@
 mod Sendings
 mod Serving
 mod Arriving
+mod Happening
+mod Standings

@@ -2,9 +2,13 @@
 #![tactic(auto)]
 
 mod cells;
+mod course;
+mod happen;
 mod hops;
 mod messages;
+mod world;
 
 pub use abt_actor::SourceActor;
 pub use abt_model::{Cause, Event, Heard, Outcome, SourceCommand};
 pub use abt_net::{Conn, Net, NetFault, Path};
+pub use world::World;
