@@ -3,3 +3,5 @@ mod Serving
 mod Arriving
 mod Happening
 mod Standings
+mod Pushing
+mod Openings

@@ -1,2 +1,4 @@
 pub mod Standing
 pub mod Steps
+pub mod Opening
+pub mod Courses

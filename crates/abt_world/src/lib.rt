@@ -3,9 +3,11 @@
 
 mod cells;
 mod course;
+mod fresh;
 mod happen;
 mod hops;
 mod messages;
+mod opening;
 mod world;
 
 pub use abt_actor::SourceActor;

@@ -1,5 +1,5 @@
 //! Worlds.
-ghost use Rattle.std.specs.Prelude.{◌≡◌, ◌++◌, [], ◌∷◌, List, MatchResult};
+ghost use Rattle.std.specs.Prelude.{◌≡◌, ◌++◌, [], ◌∷◌, List, IfOk, MatchResult};
 ghost use Rattle.abt_net.specs.Topology.{Topology};
 ghost use Rattle.abt_model.specs.Outcomes.{outcome_of};
 ghost use Rattle.abt_model.specs.Run.{facts_after};
@@ -7,11 +7,12 @@ ghost use Rattle.abt_model.specs.declared.event.Event.{Event};
 ghost use Rattle.abt_world.specs.Standing.{StandsFor};
 
 use crate::course::Course;
+use crate::fresh::{fresh_courses, opening_ports};
 use crate::happen::{asks_rate, conn_number};
 use abt_model::{Cause, Event, Outcome};
 use abt_net::Net;
 use abt_node::Port;
-use std::alloc::AllocError;
+use std::alloc::{AllocError, Global};
 use std::marker::Model;
 
 /// A net at work: its ports, the actors of its sources, and what happened to each connection.
@@ -45,6 +46,19 @@ impl<'net> Model for World<'net> {
 }
 
 impl<'net> World<'net> {
+    /// The net before the first event: nothing is reserved, and each source is down.
+    pub fn new(alloc: Global, net: &'net Net) -> Result<World<'net>, AllocError>
+        ensures { IfOk result (StandsFor net.now []) }
+    {
+        let ports = opening_ports(alloc, net.capacities(), net.conns())?;
+        let courses = fresh_courses(alloc, net.conns())?;
+        Ok(World {
+            net,
+            ports,
+            courses,
+        })
+    }
+
     /// What an event answers. Only then has it happened.
     ///
     /// # Errors
