@@ -22,6 +22,7 @@ use Rattle.abt_model.specs.Answers.{arrive_answer}
 use Rattle.abt_model.specs.Outcomes.{outcome_of, after_event}
 use Rattle.abt_model.specs.PortTable.{port_table, kept_at, reservation_at}
 use Rattle.abt_model.proofs.Lawful.{route_of}
+use Rattle.abt_model.proofs.Steps.{is_hop_tells}
 use Rattle.abt_model.proofs.Worlds.{lawful_at}
 use Rattle.abt_model.proofs.Reservations.{held_by-held}
 use Rattle.abt_model.proofs.Served.{conn_within}
@@ -62,12 +63,13 @@ first_hop net past c conn facts is =
 
 -- what the port holds is what the facts say
 pub rate_there :
-    (net : Topology) (past : List ConnectionFact) (c : ℕ) (conn : Conn) (facts : List Fact) (port : ℕ) (ports : List Table) (table : Table) → IsConnAt net past c conn facts →
-    ArePorts net past ports → port_at conn.path 1 ≡ Some port → port < length ports → slice_get ports port ≡ Some table →
-    option_map held_at (connection_at table conn.vc) ≡ Some (held_of facts 1)
-rate_there net past c conn facts port ports table is are has low table_at =
-    let tells = port_tells conn.path 1 port has in
-    let at_hop = at_its_hop net past c conn facts 1 port is tells.0 tells.1 in
+    (net : Topology) (past : List ConnectionFact) (c : ℕ) (conn : Conn) (facts : List Fact) (hop port : ℕ) (ports : List Table) (table : Table) → IsConnAt net past c conn facts →
+    ArePorts net past ports → port_at conn.path hop ≡ Some port → port < length ports → slice_get ports port ≡ Some table →
+    option_map held_at (connection_at table conn.vc) ≡ Some (held_of facts hop)
+rate_there net past c conn facts hop port ports table is are has low table_at =
+    let tells = port_tells conn.path hop port has in
+    let at_hop = at_its_hop net past c conn facts hop port is tells.0 tells.1 in
+    let low_hop = (is_hop_tells (length conn.path) hop tells.0).0 in
     let some : Rattle.abt_model.specs.Reserved.hop_of conn.path port ≢ 0 = λ none. omega arith in
     let table_is : table ≡ port_table net past port = (let e = sym table_at ∙ port_has net past ports port are low in cc) in
     let row = tables_have_rows net past is.rules c port conn is.known some in
@@ -75,8 +77,8 @@ rate_there net past c conn facts port ports table is are has low table_at =
     ap (λ t. option_map held_at (connection_at t conn.vc)) table_is
     ∙ ap (option_map held_at) row
     ∙ ap (λ h. Some (held_at (kept_at conn (facts_of c past) h))) at_hop
-    ∙ ap Some (held_by-held (route_of conn) (facts_of c past) lawful 1)
-    ∙ ap (λ fs. Some (held_of fs 1)) (sym is.facts_are)
+    ∙ ap Some (held_by-held (route_of conn) (facts_of c past) lawful hop)
+    ∙ ap (λ fs. Some (held_of fs hop)) (sym is.facts_are)
 
 -- the verdict of the port, and its table then
 pub record IsJudged (net : Topology) (past : List ConnectionFact) (c : ℕ) (conn : Conn) (facts : List Fact) (cell at port : ℕ) (table : Table) : Type 0 where
@@ -112,7 +114,7 @@ arrival_served net past c conn facts cell at port ports table is are has low tab
     let j = judged net past c conn facts cell at port ports table is are has low table_at none in
     let tells = port_tells conn.path 1 port has in
     let same : verdict ≡ verdict_at conn.tau facts at (held_of facts 1) = (let e = verdict_is ∙ j.verdict in cc) in
-    let held : rate ≡ held_of (facts_of c past) 1 = (let e = rate_is ∙ rate_there net past c conn facts port ports table is are has low table_at ∙ ap (λ fs. Some (held_of fs 1)) is.facts_are in cc) in
+    let held : rate ≡ held_of (facts_of c past) 1 = (let e = rate_is ∙ rate_there net past c conn facts 1 port ports table is are has low table_at ∙ ap (λ fs. Some (held_of fs 1)) is.facts_are in cc) in
     (record { answer = ap Arrived same ∙ sym j.said; adds = ap (λ r. FactArrived cell at r verdict ∷ []) held },
     ports_after net past (after_event net past (Arrive c cell at)) ports port after are low (after_is ∙ j.becomes)
     (λ q other. tables_stay net past is.rules (all_lawful net past c conn facts is) (Arrive c cell at) q tt (away net (Arrive c cell at) conn 1 port q is.known refl tells.1 other)))

@@ -1,6 +1,6 @@
 -- A world to which one more event happened stands for one more.
 use Rattle.std.proofs.Common.{◌≡◌, ◌≢◌, ℕ, zero, suc, ◌+◌, ◌≤◌, ◌<◌, Bool, List, [], ◌∷◌, ◌++◌, inl, inr, refl, sym, subst, ap, ◌∙◌, arith, length, take, drop, map, Result, Ok, Err}
-use Rattle.std.specs.Prelude.{Some, None, Option, option_map, slice_get, slice_set, All, MatchResult, unwrap_or}
+use Rattle.std.specs.Prelude.{Some, None, Option, option_map, slice_get, slice_set, All, MatchResult, OnOk, unwrap_or}
 use Rattle.std.proofs.lemmas.Bool.{cases_eq}
 use Rattle.std.proofs.lemmas.Option.{slice_get_past, slice_get-map}
 use Rattle.std.proofs.lemmas.List.Elements.{All-append, All-cons, All-nil}
@@ -20,6 +20,8 @@ use Rattle.abt_model.specs.Past.{facts_of}
 use Rattle.abt_model.specs.Outcomes.{conn_of, outcome_of, outcome_at, after_event}
 use Rattle.abt_model.specs.PortTable.{port_table}
 use Rattle.abt_model.specs.Run.{facts_after}
+use Rattle.abt_model.specs.Safe.{IsSafe}
+use Rattle.abt_model.proofs.EveryPasts.{every_safe}
 use Rattle.abt_model.proofs.Runs.{facts_from_push}
 use Rattle.abt_model.proofs.Worlds.{after_event-unknown, facts_of-other}
 use Rattle.abt_world.specs.Standing.{CourseView, WorldView, course_of, IsOfPast, StandsFor}
@@ -111,3 +113,11 @@ step_taken net events world e conn outcome course ports stands asks known low le
       stands = subst (λ (p : List ConnectionFact). IsOfPast net p (record { net = world.net; ports = ports; courses = slice_set world.courses c course })) (sym (one_more net events e))
       (record { net_is = stands.stands.net_is; ports = leaves.tables; courses = each });
     })
+
+-- whatever happened is safe
+pub safe_after : (net : Topology) (events : List Event) (e : Event) → IsWithinRules net → All AsksRate events → AsksRate e → IsSafe net (facts_after net (events ++ e ∷ []))
+safe_after net events e rules rates asks = every_safe net (events ++ e ∷ []) rules (all_ask events e rates asks)
+
+pub on_ok_holds : {A E : Type 0} {P : Type 0} (r : Result A E) → P → OnOk r P
+on_ok_holds (Ok x) p = p
+on_ok_holds (Err y) p = tt

@@ -2,3 +2,4 @@ pub mod Standing
 pub mod Steps
 pub mod Opening
 pub mod Courses
+pub mod Readings

@@ -1,17 +1,21 @@
 //! Worlds.
-ghost use Rattle.std.specs.Prelude.{◌≡◌, ◌++◌, [], ◌∷◌, List, IfOk, MatchResult};
+ghost use Rattle.std.specs.Prelude.{◌≡◌, ◌++◌, [], ◌∷◌, List, IfOk, OnOk, MatchResult};
 ghost use Rattle.abt_net.specs.Topology.{Topology};
 ghost use Rattle.abt_model.specs.Outcomes.{outcome_of};
 ghost use Rattle.abt_model.specs.Run.{facts_after};
+ghost use Rattle.abt_model.specs.Safe.{IsSafe};
 ghost use Rattle.abt_model.specs.declared.event.Event.{Event};
+ghost use Rattle.abt_world.specs.Readings.{rate_in, held_in, total_in};
 ghost use Rattle.abt_world.specs.Standing.{StandsFor};
 
 use crate::course::Course;
 use crate::fresh::{fresh_courses, opening_ports};
+use crate::hops::port_at;
 use crate::happen::{asks_rate, conn_number};
 use abt_model::{Cause, Event, Outcome};
 use abt_net::Net;
 use abt_node::Port;
+use abt_rate::Rate;
 use std::alloc::{AllocError, Global};
 use std::marker::Model;
 
@@ -64,9 +68,12 @@ impl<'net> World<'net> {
     /// # Errors
     /// Where memory is refused nothing happens.
     pub fn step(&mut self, event: &Event) -> Result<Outcome, AllocError>
-        ensures { (net : Topology) (events : List Event) → StandsFor net events self.old → MatchResult result
+        ensures outcome { (net : Topology) (events : List Event) → StandsFor net events self.old → MatchResult result
             (λ outcome. (outcome ≡ outcome_of net (facts_after net events) event.now) × StandsFor net (events ++ event.now ∷ []) self.new)
             (λ _. StandsFor net events self.new) }
+        // The headline: whatever happened, it is safe.
+        ensures safe { (net : Topology) (events : List Event) → StandsFor net events self.old →
+            OnOk result (IsSafe net (facts_after net (events ++ event.now ∷ []))) }
     {
         asks_rate(event);
         let place = usize::from(conn_number(event));
@@ -75,5 +82,46 @@ impl<'net> World<'net> {
             return Ok(Outcome::NotEnabled(Cause::Unknown));
         }
         self.courses[place].take(&net.conns()[place], &mut self.ports, event)
+    }
+
+    /// The rate at which the source of a connection shapes.
+    pub fn rate(&self, conn: u16) -> Option<Rate>
+        ensures { (net : Topology) (events : List Event) → StandsFor net events self.now →
+            result ≡ rate_in net (facts_after net events) conn }
+    {
+        let place = usize::from(conn);
+        if place >= self.courses.len() {
+            return None;
+        }
+        Some(self.courses[place].actor.rate())
+    }
+
+    /// What a hop of its path, counted from 1, holds for a connection.
+    pub fn held(&self, conn: u16, hop: u16) -> Option<Rate>
+        ensures { (net : Topology) (events : List Event) → StandsFor net events self.now →
+            result ≡ held_in net (facts_after net events) conn hop }
+    {
+        let conns = self.net.conns();
+        let place = usize::from(conn);
+        if place >= conns.len() {
+            return None;
+        }
+        let port = usize::from(port_at(&conns[place], hop)?);
+        if port >= self.ports.len() {
+            return None;
+        }
+        self.ports[port].held(conns[place].vc)
+    }
+
+    /// The sum of what a port holds, in units of 1/512 cell/s.
+    pub fn total(&self, port: u16) -> Option<u64>
+        ensures { (net : Topology) (events : List Event) → StandsFor net events self.now →
+            result ≡ total_in net (facts_after net events) port }
+    {
+        let place = usize::from(port);
+        if place >= self.net.capacities().len() || place >= self.ports.len() {
+            return None;
+        }
+        Some(self.ports[place].total())
     }
 }

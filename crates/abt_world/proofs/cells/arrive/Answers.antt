@@ -25,7 +25,7 @@ pub returns-in_default-held : goal.returns-in_default-held
 returns-in_default-held c net past is are count =
     let has = sym c.in-Some-port_at.ensures ∙ ap Some (sym c.from-port.ensures) in
     let low = c.if-port-ports.false in
-    let there = rate_there net past c.args.place c.args.conn.now c.args.log.now.facts c.from-port.result c.args.ports.now _ is are has low
+    let there = rate_there net past c.args.place c.args.conn.now c.args.log.now.facts 1 c.from-port.result c.args.ports.now _ is are has low
     (slice_get-get_or c.args.ports.now c.from-port.result c.index-ports-port.result low) in
     absurd (let e = c.in_default-held.ensures ∙ there in cc)
 

@@ -13,11 +13,11 @@ use Rattle.abt_model.specs.Run.{facts_after}
 use Rattle.abt_world.specs.declared.course.Course.{Course}
 use Rattle.abt_world.specs.Standing.{CourseView, WorldView, course_of, StandsFor}
 use Rattle.abt_world.specs.Steps.{IsConnAt, ArePorts}
-use Rattle.abt_world.proofs.Standings.{match_more, step_unknown, step_taken, course_at, port_count, written_over, map_set, set_same, some_same}
+use Rattle.abt_world.proofs.Standings.{match_more, step_unknown, step_taken, course_at, port_count, written_over, map_set, set_same, some_same, safe_after, on_ok_holds}
 use Rattle.abt_world.proofs.world.World.step.Goals as goal
 
-pub returns-then-place-conns : goal.returns-then-place-conns
-returns-then-place-conns c net events stands =
+pub returns-then-place-conns-clause-outcome : goal.returns-then-place-conns-clause-outcome
+returns-then-place-conns-clause-outcome c net events stands =
     let conns = c.conns.ensures.value in
     let past_end = c.if-place-conns.true in
     let place = c.from-place.ensures ∙ c.conn_number.ensures in
@@ -36,8 +36,8 @@ before c = record { net = c.self.inside.net.now; ports = c.self.inside.ports.ite
 abbrev after : goal.After-self-2-1 → List Table → List CourseView → WorldView
 after c ports courses = record { net = c.self.inside.net.now; ports = ports; courses = courses }
 
-pub returns : goal.returns
-returns c net events stands =
+pub returns-clause-outcome : goal.returns-clause-outcome
+returns-clause-outcome c net events stands =
     let e = c.args.event.now in
     let past = facts_after net events in
     let conn = c.index-conns-place.result in
@@ -85,3 +85,13 @@ returns c net events stands =
     let seen_same : seen new ≡ seen old = ap (λ a. record { actor = a; facts = new.log.facts }) same.0 ∙ ap (λ f. record { actor = old.actor; facts = f }) same.1 in
     let left : map seen (slice_set courses c.from-place.result new) ≡ map seen courses = set ∙ ap (slice_set (map seen courses) c.from-place.result) seen_same ∙ set_same (map seen courses) c.from-place.result (seen old) was in
     subst (StandsFor net events) (ap (λ ps. after c ps (map seen courses)) (sym written) ∙ ap (after c _) (sym left)) stands'))
+
+pub returns-then-place-conns-clause-safe : goal.returns-then-place-conns-clause-safe
+returns-then-place-conns-clause-safe c net events stands =
+    let net_is = ap (λ (w : WorldView). w.net) c.self.view_is ∙ stands.stands.net_is in
+    safe_after net events c.args.event.now (subst IsWithinRules net_is c.conns.ensures.rules) stands.rates c.asks_rate.ensures
+
+pub returns-clause-safe : goal.returns-clause-safe
+returns-clause-safe c net events stands =
+    let net_is = ap (λ (w : WorldView). w.net) c.self.view_is ∙ stands.stands.net_is in
+    on_ok_holds c.take.result (safe_after net events c.args.event.now (subst IsWithinRules net_is c.conns.ensures.rules) stands.rates c.asks_rate.ensures)
