@@ -97,6 +97,13 @@ impl SourceActor {
         self.running.rate()
     }
 
+    /// How many cells the source emitted, over restarts too.
+    pub fn cells(&self) -> u64
+        ensures { result ≡ self.now.cells }
+    {
+        self.cells
+    }
+
     /// Whether the source waits for an answer.
     pub fn is_asking(&self) -> bool
         ensures { result ≡ is_asking_in self.now.state }

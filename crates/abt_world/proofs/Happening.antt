@@ -1,0 +1,161 @@
+-- What one event makes of the ports and of the actor of its connection.
+use Rattle.std.proofs.Common.{◌≡◌, ◌≢◌, ℕ, ◌+◌, ◌≤◌, Bool, true, false, List, [], ◌∷◌, ◌++◌, refl, sym, subst, ap, ◌∙◌, arith, inl, inr}
+use Rattle.std.specs.Prelude.{◌==◌, Option, option_map, slice_get, slice_index, if◌then◌else◌}
+use Rattle.std.proofs.lemmas.Bool.{cases_Bool, cond-true, cond-false}
+use Rattle.abt_cell.specs.Channel.{Channel}
+use Rattle.abt_net.specs.declared.conn.Conn.{Conn}
+use Rattle.abt_net.specs.Topology.{Topology}
+use Rattle.abt_node.specs.Table.{Table}
+use Rattle.abt_node.specs.declared.reply.Onward.{Onward}
+use Rattle.abt_node.specs.declared.reply.Onward.TheVariants.{Pass, Refuse, Drop}
+use Rattle.abt_node.specs.declared.reply.Back.{Back as Returned}
+use Rattle.abt_node.specs.declared.reply.Back.TheVariants.{Pass as PassBack, Drop as DropBack}
+use Rattle.abt_source.specs.SourceFacts.{waiting_in}
+use Rattle.abt_facts.specs.declared.fact.Fact.{Fact}
+use Rattle.abt_facts.specs.declared.fact.Fact.TheVariants.{Started as FactStarted, Crashed as FactCrashed, Stored, Asked as FactAsked, Heard as FactHeard, Emitted as FactEmitted, Delivered, Passed, Shut, Turned as FactTurned, Back, Arrived as FactArrived}
+use Rattle.abt_facts.specs.Source.{SourceState, Down, Idle, Asking, state_of}
+use Rattle.abt_model.specs.declared.command.SourceCommand.{SourceCommand}
+use Rattle.abt_model.specs.declared.command.SourceCommand.TheVariants as command
+use Rattle.abt_model.specs.declared.connection_fact.ConnectionFact.{ConnectionFact}
+use Rattle.abt_model.specs.declared.event.Event.{Event}
+use Rattle.abt_model.specs.declared.event.Event.TheVariants.{Start, Ask, Again, Crash, Emit, Arrive, Request, Turn, Answer, Told}
+use Rattle.abt_model.specs.declared.outcome.Outcome.{Outcome}
+use Rattle.abt_model.specs.declared.outcome.Outcome.TheVariants.{Arrived, Requested, Turned, Answered}
+use Rattle.abt_model.specs.Events.{AsksRate}
+use Rattle.abt_model.specs.Past.{facts_of}
+use Rattle.abt_model.specs.Reserved.{reserved_on}
+use Rattle.abt_model.specs.Answers.{answer_by}
+use Rattle.abt_model.specs.Outcomes.{conn_of, port_of, outcome_of, after_event, facts_added, delivery, request_adds, answer_adds}
+use Rattle.abt_model.specs.PortTable.{hop_visited, Visits}
+use Rattle.abt_model.proofs.Tables.{tables_stay}
+use Rattle.abt_actor.specs.Actor.{ActorView, actor_of}
+use Rattle.abt_actor.specs.Carrying.{Carries}
+use Rattle.abt_actor.specs.Commands.{event_of, command_answer, command_adds}
+use Rattle.abt_world.specs.Steps.{IsConnAt, ArePorts, Happens}
+use Rattle.abt_world.proofs.Sendings.{happens, all_lawful}
+
+-- what an event makes of the ports and of the actor of its connection
+abbrev pub Takes : Topology → List ConnectionFact → Conn → List Fact → Event → (ports after : List Table) → (actor new : ActorView) → Outcome → List Fact → Type 0
+Takes net past conn facts e ports after actor new outcome added =
+    AsksRate e → IsConnAt net past (conn_of e) conn facts → ArePorts net past ports → actor ≡ actor_of conn.vc facts →
+    Happens net past e outcome added × ArePorts net (after_event net past e) after × (new ≡ actor_of conn.vc (added ++ facts))
+
+-- an event that comes to no port
+pub tables_kept :
+    (net : Topology) (past : List ConnectionFact) (e : Event) (conn : Conn) (facts : List Fact) (ports : List Table) → AsksRate e →
+    IsConnAt net past (conn_of e) conn facts → ArePorts net past ports → hop_visited e ≡ 0 → ArePorts net (after_event net past e) ports
+tables_kept net past e conn facts ports asks at are nowhere q =
+    let nobody : Visits net e q → ⊥ = λ visits. (let low = visits.2 in omega arith) in
+    are q ∙ ap (λ t. option_map (λ (_ : ℕ). t) (slice_get net.capacities q)) (sym (tables_stay net past at.rules (all_lawful net past (conn_of e) conn facts at) e q asks nobody))
+
+-- facts of hops and cells, which say nothing of the source
+abbrev pub IsOfHops : Fact → Type 0
+IsOfHops (Delivered s) = Unit {0}
+IsOfHops (Passed s j) = Unit {0}
+IsOfHops (Shut s j) = Unit {0}
+IsOfHops (FactTurned s) = Unit {0}
+IsOfHops (Back s j) = Unit {0}
+IsOfHops (FactArrived n a r v) = Unit {0}
+IsOfHops other = ⊥
+
+abbrev pub AreOfHops : List Fact → Type 0
+AreOfHops [] = Unit {0}
+AreOfHops (f ∷ fs) = IsOfHops f × AreOfHops fs
+
+waiting_same : (vc : Channel) (f : Fact) (facts : List Fact) (state : SourceState) → IsOfHops f → waiting_in vc (f ∷ facts) state ≡ waiting_in vc facts state
+waiting_same vc f facts Down h = refl
+waiting_same vc f facts Idle h = refl
+waiting_same vc (Delivered s) facts (Asking seq) h = refl
+waiting_same vc (Passed s j) facts (Asking seq) h = refl
+waiting_same vc (Shut s j) facts (Asking seq) h = refl
+waiting_same vc (FactTurned s) facts (Asking seq) h = refl
+waiting_same vc (Back s j) facts (Asking seq) h = refl
+waiting_same vc (FactArrived n a r v) facts (Asking seq) h = refl
+waiting_same vc other facts (Asking seq) h = absurd h
+
+actor_same : (vc : Channel) (f : Fact) (facts : List Fact) → IsOfHops f → actor_of vc (f ∷ facts) ≡ actor_of vc facts
+actor_same vc (Delivered s) facts h = let e = waiting_same vc (Delivered s) facts (state_of facts) h in cc
+actor_same vc (Passed s j) facts h = let e = waiting_same vc (Passed s j) facts (state_of facts) h in cc
+actor_same vc (Shut s j) facts h = let e = waiting_same vc (Shut s j) facts (state_of facts) h in cc
+actor_same vc (FactTurned s) facts h = let e = waiting_same vc (FactTurned s) facts (state_of facts) h in cc
+actor_same vc (Back s j) facts h = let e = waiting_same vc (Back s j) facts (state_of facts) h in cc
+actor_same vc (FactArrived n a r v) facts h = let e = waiting_same vc (FactArrived n a r v) facts (state_of facts) h in cc
+actor_same vc other facts h = absurd h
+
+pub actor_kept : (vc : Channel) (added facts : List Fact) → AreOfHops added → actor_of vc (added ++ facts) ≡ actor_of vc facts
+actor_kept vc [] facts h = refl
+actor_kept vc (f ∷ added) facts h = actor_same vc f (added ++ facts) h.0 ∙ actor_kept vc added facts h.1
+
+delivery_kind : (hop seq : ℕ) → AreOfHops (delivery hop seq)
+delivery_kind hop seq = elim (cases_Bool (hop == 1)) [
+  | inl first ↦ subst AreOfHops (sym (cond-true _ _ _ first)) (tt, tt)
+  | inr later ↦ subst AreOfHops (sym (cond-false _ _ _ later)) tt
+]
+
+pub request_kind : (fs : List Fact) (c hop seq : ℕ) (o : Outcome) → AreOfHops (facts_added fs (Request c hop seq) o)
+request_kind fs c hop seq (Requested Pass) = (tt, delivery_kind hop seq)
+request_kind fs c hop seq (Requested (Refuse answer)) = (tt, delivery_kind hop seq)
+request_kind fs c hop seq (Requested (Drop cause)) = delivery_kind hop seq
+request_kind fs c hop seq other = tt
+
+pub answer_kind : (fs : List Fact) (c hop seq : ℕ) (granted : Bool) (o : Outcome) → AreOfHops (facts_added fs (Answer c hop seq granted) o)
+answer_kind fs c hop seq true (Answered PassBack) = (tt, tt)
+answer_kind fs c hop seq false (Answered PassBack) = (tt, tt)
+answer_kind fs c hop seq granted (Answered (DropBack cause)) = tt
+answer_kind fs c hop seq granted other = tt
+
+pub turn_kind : (fs : List Fact) (c seq : ℕ) (o : Outcome) → AreOfHops (facts_added fs (Turn c seq) o)
+turn_kind fs c seq Turned = (tt, tt)
+turn_kind fs c seq other = tt
+
+pub arrive_kind : (fs : List Fact) (c cell at : ℕ) (o : Outcome) → AreOfHops (facts_added fs (Arrive c cell at) o)
+arrive_kind fs c cell at (Arrived verdict) = (tt, tt)
+arrive_kind fs c cell at other = tt
+
+-- an event whose facts say nothing of the source leaves the actor
+pub actor_left :
+    (net : Topology) (past : List ConnectionFact) (e : Event) (conn : Conn) (facts : List Fact) (actor : ActorView) (outcome : Outcome) (added : List Fact) →
+    Happens net past e outcome added → AreOfHops (facts_added (facts_of (conn_of e) past) e outcome) → actor ≡ actor_of conn.vc facts →
+    actor ≡ actor_of conn.vc (added ++ facts)
+actor_left net past e conn facts actor outcome added h kinds is = is ∙ sym (actor_kept conn.vc added facts (subst AreOfHops (sym h.adds) kinds))
+
+-- commands to a source, but for the answers that it is told
+abbrev pub IsOwn : SourceCommand → Type 0
+IsOwn (command.Told answer) = ⊥
+IsOwn other = Unit {0}
+
+own_answer : (conn : Conn) (reserved capacity c : ℕ) (facts : List Fact) (own : SourceCommand) → IsOwn own → command_answer conn.vc facts own ≡ answer_by conn reserved capacity facts (event_of c own)
+own_answer conn reserved capacity c facts (command.Start now) is = refl
+own_answer conn reserved capacity c facts (command.Ask rate plan) is = refl
+own_answer conn reserved capacity c facts command.Again is = refl
+own_answer conn reserved capacity c facts command.Crash is = refl
+own_answer conn reserved capacity c facts (command.Emit now) is = refl
+own_answer conn reserved capacity c facts (command.Told answer) is = absurd is
+
+own_adds : (facts : List Fact) (c : ℕ) (own : SourceCommand) (outcome : Outcome) → IsOwn own → command_adds facts own outcome ≡ facts_added facts (event_of c own) outcome
+own_adds facts c (command.Start now) outcome is = refl
+own_adds facts c (command.Ask rate plan) outcome is = refl
+own_adds facts c command.Again outcome is = refl
+own_adds facts c command.Crash outcome is = refl
+own_adds facts c (command.Emit now) outcome is = refl
+own_adds facts c (command.Told answer) outcome is = absurd is
+
+own_conn : (c : ℕ) (own : SourceCommand) → IsOwn own → (conn_of (event_of c own) ≡ c) × (hop_visited (event_of c own) ≡ 0)
+own_conn c (command.Start now) is = (refl, refl)
+own_conn c (command.Ask rate plan) is = (refl, refl)
+own_conn c command.Again is = (refl, refl)
+own_conn c command.Crash is = (refl, refl)
+own_conn c (command.Emit now) is = (refl, refl)
+own_conn c (command.Told answer) is = absurd is
+
+pub command_takes :
+    (net : Topology) (past : List ConnectionFact) (conn : Conn) (facts : List Fact) (c : ℕ) (own : SourceCommand) (ports : List Table) (actor new : ActorView) (outcome : Outcome) (added : List Fact) →
+    IsOwn own → Carries actor own outcome added new → Takes net past conn facts (event_of c own) ports ports actor new outcome added
+command_takes net past conn facts c own ports actor new outcome added is_own carries asks at are is =
+    let e = event_of c own in
+    let carried = carries conn.vc facts is in
+    (happens net past e conn facts at outcome added
+    (carried.answer ∙ own_answer conn (reserved_on net past (port_of conn.path e)) (slice_index net.capacities (port_of conn.path e)) c facts own is_own)
+    (carried.adds ∙ own_adds facts c own outcome is_own),
+    tables_kept net past e conn facts ports asks at are (own_conn c own is_own).1,
+    carried.becomes)

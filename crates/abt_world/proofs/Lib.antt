@@ -1,0 +1,7 @@
+mod Sendings
+mod Serving
+mod Arriving
+mod Happening
+mod Standings
+mod Pushing
+mod Openings

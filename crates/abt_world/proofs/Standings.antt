@@ -1,0 +1,123 @@
+-- A world to which one more event happened stands for one more.
+use Rattle.std.proofs.Common.{◌≡◌, ◌≢◌, ℕ, zero, suc, ◌+◌, ◌≤◌, ◌<◌, Bool, List, [], ◌∷◌, ◌++◌, inl, inr, refl, sym, subst, ap, ◌∙◌, arith, length, take, drop, map, Result, Ok, Err}
+use Rattle.std.specs.Prelude.{Some, None, Option, option_map, slice_get, slice_set, All, MatchResult, OnOk, unwrap_or}
+use Rattle.std.proofs.lemmas.Bool.{cases_eq}
+use Rattle.std.proofs.lemmas.Option.{slice_get_past, slice_get-map}
+use Rattle.std.proofs.lemmas.List.Elements.{All-append, All-cons, All-nil}
+use Rattle.abt_net.specs.declared.conn.Conn.{Conn}
+use Rattle.abt_net.specs.Topology.{Topology, IsWithinRules}
+use Rattle.abt_node.specs.Table.{Table}
+use Rattle.abt_facts.specs.declared.fact.Fact.{Fact}
+use Rattle.abt_actor.specs.Actor.{ActorView, actor_of}
+use Rattle.abt_model.specs.declared.connection_fact.ConnectionFact.{ConnectionFact}
+use Rattle.abt_model.specs.declared.event.Event.{Event}
+use Rattle.abt_model.specs.declared.outcome.Cause.TheVariants.{Unknown}
+use Rattle.abt_model.specs.declared.outcome.Outcome.{Outcome}
+use Rattle.abt_model.specs.declared.outcome.Outcome.TheVariants.{NotEnabled}
+use Rattle.abt_model.specs.Conns.{conn_at}
+use Rattle.abt_model.specs.Events.{AsksRate}
+use Rattle.abt_model.specs.Past.{facts_of}
+use Rattle.abt_model.specs.Outcomes.{conn_of, outcome_of, outcome_at, after_event}
+use Rattle.abt_model.specs.PortTable.{port_table}
+use Rattle.abt_model.specs.Run.{facts_after}
+use Rattle.abt_model.specs.Safe.{IsSafe}
+use Rattle.abt_model.proofs.EveryPasts.{every_safe}
+use Rattle.abt_model.proofs.Runs.{facts_from_push}
+use Rattle.abt_model.proofs.Worlds.{after_event-unknown, facts_of-other}
+use Rattle.abt_world.specs.Standing.{CourseView, WorldView, course_of, IsOfPast, StandsFor}
+use Rattle.abt_world.specs.Steps.{IsConnAt, ArePorts, Leaves}
+use Rattle.abt_world.proofs.Serving.{set_here, set_other}
+
+pub match_more : {A E : Type 0} {P Q : A → Type 0} {R S : E → Type 0} (r : Result A E) → MatchResult r P R → ((x : A) → P x → Q x) → ((y : E) → R y → S y) → MatchResult r Q S
+match_more (Ok x) h f g = f x h
+match_more (Err y) h f g = g y h
+
+-- as many tables as ports
+same_length : (tables : List Table) (capacities : List ℕ) (table : ℕ → Table) → ((p : ℕ) → slice_get tables p ≡ option_map (λ (_ : ℕ). table p) (slice_get capacities p)) → length tables ≡ length capacities
+same_length [] [] table h = refl
+same_length [] (u ∷ capacities) table h = absurd (let e = h 0 in cc)
+same_length (t ∷ tables) [] table h = absurd (let e = h 0 in cc)
+same_length (t ∷ tables) (u ∷ capacities) table h = ap suc (same_length tables capacities (λ p. table (suc p)) (λ p. h (suc p)))
+
+pub port_count : (net : Topology) (past : List ConnectionFact) (ports : List Table) → ArePorts net past ports → length ports ≡ length net.capacities
+port_count net past ports are = same_length ports net.capacities (λ p. port_table net past p) are
+
+refilled : {A : Type 0} (new old : List A) → length new ≡ length old → take (length old) (new ++ drop (length new) old) ≡ new
+refilled [] [] same = refl
+refilled [] (x ∷ old) same = absurd (omega arith)
+refilled (y ∷ new) [] same = absurd (omega arith)
+refilled {A = A} (y ∷ new) (x ∷ old) same = ap (λ (l : List A). y ∷ l) (refilled new old (omega arith))
+
+-- what is written over all of a list
+pub written_over : {A : Type 0} (n : ℕ) (new old : List A) → n ≡ length old → length new ≡ length old → take n (new ++ drop (length new) old) ≡ new
+written_over n new old count same = ap (λ m. take m (new ++ drop (length new) old)) count ∙ refilled new old same
+
+pub map_set : {A B : Type 0} (f : A → B) (xs : List A) (i : ℕ) (y : A) → map f (slice_set xs i y) ≡ slice_set (map f xs) i (f y)
+map_set f [] i y = refl
+map_set f (x ∷ xs) zero y = refl
+map_set {B = B} f (x ∷ xs) (suc i) y = ap (λ (l : List B). f x ∷ l) (map_set f xs i y)
+
+pub set_same : {A : Type 0} (xs : List A) (i : ℕ) (y : A) → slice_get xs i ≡ Some y → slice_set xs i y ≡ xs
+set_same [] i y at = refl
+set_same {A = A} (x ∷ xs) zero y at = (let is : y ≡ x = cc in ap (λ (z : A). z ∷ xs) is)
+set_same {A = A} (x ∷ xs) (suc i) y at = ap (λ (l : List A). x ∷ l) (set_same xs i y at)
+
+one_more : (net : Topology) (events : List Event) (e : Event) → facts_after net (events ++ e ∷ []) ≡ after_event net (facts_after net events) e
+one_more net events e = facts_from_push net [] events e
+
+all_ask : (events : List Event) (e : Event) → All AsksRate events → AsksRate e → All AsksRate (events ++ e ∷ [])
+all_ask events e rates asks = All-append AsksRate events (e ∷ []) rates (All-cons AsksRate e [] asks (All-nil AsksRate))
+
+-- an event of no connection
+pub step_unknown :
+    (net : Topology) (events : List Event) (world : WorldView) (e : Event) → StandsFor net events world → AsksRate e → length net.conns ≤ conn_of e →
+    (NotEnabled Unknown ≡ outcome_of net (facts_after net events) e) × StandsFor net (events ++ e ∷ []) world
+step_unknown net events world e stands asks past_end =
+    let past = facts_after net events in
+    let unknown : conn_at net (conn_of e) ≡ None = slice_get_past net.conns (conn_of e) past_end in
+    let said : outcome_of net past e ≡ NotEnabled Unknown = ap (λ (o : Option Conn). outcome_at net past o e) unknown in
+    let same : facts_after net (events ++ e ∷ []) ≡ past = one_more net events e ∙ after_event-unknown net past e unknown in
+    (sym said, record { rates = all_ask events e stands.rates asks; stands = subst (λ (p : List ConnectionFact). IsOfPast net p world) (sym same) stands.stands })
+
+-- the connection that the event comes to
+pub course_at : (net : Topology) (past : List ConnectionFact) (world : WorldView) (c : ℕ) (conn : Conn) → IsOfPast net past world → conn_at net c ≡ Some conn →
+    slice_get world.courses c ≡ Some (course_of conn.vc (facts_of c past))
+course_at net past world c conn is known = is.courses c ∙ ap (option_map (λ (k : Conn). course_of k.vc (facts_of c past))) known
+
+same_course : (course : CourseView) (actor : ActorView) (facts : List Fact) → course.actor ≡ actor → course.facts ≡ facts → course ≡ record { actor = actor; facts = facts }
+same_course course actor facts a f =
+    ap {A = ActorView} {B = CourseView} (λ x. record { actor = x; facts = course.facts }) a ∙ ap {A = List Fact} {B = CourseView} (λ x. record { actor = actor; facts = x }) f
+
+pub some_same : {A : Type 0} (x y : A) → Some x ≡ Some y → x ≡ y
+some_same x y e = ap (λ o. unwrap_or o x) e
+
+-- an event that its connection took
+pub step_taken :
+    (net : Topology) (events : List Event) (world : WorldView) (e : Event) (conn : Conn) (outcome : Outcome) (course : CourseView) (ports : List Table) →
+    StandsFor net events world → AsksRate e → conn_at net (conn_of e) ≡ Some conn → conn_of e < length world.courses →
+    Leaves net (facts_after net events) e conn outcome course.actor course.facts ports →
+    (outcome ≡ outcome_of net (facts_after net events) e) × StandsFor net (events ++ e ∷ []) (record { net = world.net; ports = ports; courses = slice_set world.courses (conn_of e) course })
+step_taken net events world e conn outcome course ports stands asks known low leaves =
+    let past = facts_after net events in
+    let c = conn_of e in
+    let course_is : course ≡ course_of conn.vc (facts_of c (after_event net past e)) = same_course course (actor_of conn.vc (facts_of c (after_event net past e))) (facts_of c (after_event net past e)) leaves.actor_is leaves.facts_are in
+    let each : (d : ℕ) → slice_get (slice_set world.courses c course) d ≡ option_map (λ (k : Conn). course_of k.vc (facts_of d (after_event net past e))) (conn_at net d) =
+    λ d. elim (cases_eq c d) [
+      | inl here ↦ subst (λ n. slice_get (slice_set world.courses c course) n ≡ option_map (λ (k : Conn). course_of k.vc (facts_of n (after_event net past e))) (conn_at net n)) here
+          (set_here world.courses c course low ∙ ap Some course_is ∙ sym (ap (option_map (λ (k : Conn). course_of k.vc (facts_of c (after_event net past e)))) known))
+      | inr other ↦ set_other world.courses c d course other ∙ stands.stands.courses d
+          ∙ ap (λ (fs : List Fact). option_map (λ (k : Conn). course_of k.vc fs) (conn_at net d)) (sym (facts_of-other net past e d other))
+    ] in
+    (leaves.answer, record {
+      rates = all_ask events e stands.rates asks;
+      stands = subst (λ (p : List ConnectionFact). IsOfPast net p (record { net = world.net; ports = ports; courses = slice_set world.courses c course })) (sym (one_more net events e))
+      (record { net_is = stands.stands.net_is; ports = leaves.tables; courses = each });
+    })
+
+-- whatever happened is safe
+pub safe_after : (net : Topology) (events : List Event) (e : Event) → IsWithinRules net → All AsksRate events → AsksRate e → IsSafe net (facts_after net (events ++ e ∷ []))
+safe_after net events e rules rates asks = every_safe net (events ++ e ∷ []) rules (all_ask events e rates asks)
+
+pub on_ok_holds : {A E : Type 0} {P : Type 0} (r : Result A E) → P → OnOk r P
+on_ok_holds (Ok x) p = p
+on_ok_holds (Err y) p = tt

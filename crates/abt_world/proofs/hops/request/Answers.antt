@@ -1,0 +1,38 @@
+use Rattle.std.proofs.Common.{◌≡◌, refl, sym, ◌∙◌, ap, arith}
+use Rattle.std.specs.Prelude.{Some, slice_get}
+use Rattle.std.proofs.lemmas.Bool.{false≢true}
+use Rattle.std.proofs.lemmas.Option.{slice_get-get_or}
+use Rattle.abt_actor.specs.Facts.{facts_in}
+use Rattle.abt_model.specs.Outcomes.{request_adds}
+use Rattle.abt_model.proofs.Lawful.{route_of}
+use Rattle.abt_model.proofs.Steps.{is_hop_tells}
+use Rattle.abt_world.proofs.Sendings.{conn_lawful, request_asked, is_request}
+use Rattle.abt_world.proofs.Serving.{request_served, port_within, port_tells}
+use Rattle.abt_world.proofs.hops.request.Goals as goal
+
+pub returns-in_default-request_of : goal.returns-in_default-request_of
+returns-in_default-request_of c net past at are =
+    let facts = c.args.log.now.facts in
+    let l = route_of c.args.conn.now in
+    let lawful = conn_lawful net past c.args.place c.args.conn.now facts at in
+    let hop = is_hop_tells _ c.args.hop (port_tells c.args.conn.now.path c.args.hop c.in-Some.port (sym c.in-Some.ensures)).0 in
+    let r = is_request l facts lawful c.args.seq (request_asked l facts lawful c.args.seq c.args.hop (sym (c.if-not-is_request_at.ensures hop.0))) in
+    absurd (false≢true (c.in_default-request_of.ensures.some r.asked r.positive r.order))
+
+pub returns-then-port-ports : goal.returns-then-port-ports
+returns-then-port-ports c net past at are =
+    let low = port_within net past c.args.place c.args.conn.now c.args.log.now.facts c.args.hop c.in-Some.port c.args.ports.now at are (sym c.in-Some.ensures) in
+    let place = c.from-port.ensures in
+    let past_end = c.if-port-ports.true in
+    absurd (omega arith)
+
+pub returns : goal.returns
+returns c net past at are =
+    let facts = c.args.log.now.facts in
+    let place = c.from-port.ensures in
+    let low = c.if-port-ports.false in
+    let has = sym c.in-Some.ensures ∙ ap Some (sym place) in
+    let hop = is_hop_tells _ c.args.hop (port_tells c.args.conn.now.path c.args.hop c.from-port.result has).0 in
+    request_served net past c.args.place c.args.conn.now facts c.args.hop c.args.seq c.from-port.result c.args.ports.now at are has
+    (sym (c.if-not-is_request_at.ensures hop.0)) low _ c.request-onward.new.self c.in-Some-request_of.request c.request-onward.result (facts_in c.request_adds.result)
+    (slice_get-get_or c.args.ports.now c.from-port.result c.index-ports-port.result low) c.in-Some-request_of.ensures.value c.request-onward.ensures.value c.request-onward.ensures.table c.request_adds.ensures

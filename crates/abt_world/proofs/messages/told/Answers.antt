@@ -1,0 +1,38 @@
+use Rattle.std.proofs.Common.{◌≡◌, ◌∷◌, [], List, refl, sym, ap, subst, ◌∙◌, true}
+use Rattle.std.specs.Prelude.{if◌then◌else◌, not}
+use Rattle.std.proofs.lemmas.Bool.{false≢true}
+use Rattle.abt_actor.specs.Facts.{facts_in}
+use Rattle.abt_actor.specs.Commands.{heard_by, command_adds}
+use Rattle.abt_cell.specs.Message.{Reply}
+use Rattle.abt_facts.specs.Source.{state_of}
+use Rattle.abt_model.specs.Answers.{told_answer}
+use Rattle.abt_model.specs.Decision.{request_of, answer_to}
+use Rattle.abt_model.specs.Outcomes.{facts_added}
+use Rattle.abt_model.specs.declared.command.SourceCommand.TheVariants.{Told as CommandTold}
+use Rattle.abt_model.specs.declared.event.Event.TheVariants.{Told}
+use Rattle.abt_model.specs.declared.outcome.Cause.TheVariants.{NotSent}
+use Rattle.abt_model.specs.declared.outcome.Outcome.TheVariants.{Told as HasTold, NotEnabled}
+use Rattle.abt_model.proofs.Lawful.{route_of}
+use Rattle.abt_world.proofs.Sendings.{happens, conn_lawful, home_asked, is_request, heard_same}
+use Rattle.abt_world.proofs.messages.told.Goals as goal
+
+pub returns-in_default : goal.returns-in_default
+returns-in_default c net past at is =
+    let facts = c.args.log.now.facts in
+    let l = route_of c.args.conn.now in
+    let lawful = conn_lawful net past c.args.place c.args.conn.now facts at in
+    let r = is_request l facts lawful c.args.seq (home_asked l facts lawful c.args.seq c.args.granted (sym c.if-not-is_home.ensures)) in
+    absurd (false≢true (c.in_default.ensures.some r.asked r.positive r.order))
+
+pub returns : goal.returns
+returns c net past at is =
+    let facts = c.args.log.now.facts in
+    let vc = c.args.conn.now.vc in
+    let home = c.if-not-is_home.ensures in
+    let carried = c.carry_out.ensures vc facts is in
+    let answer : c.of.result ≡ answer_to (request_of vc facts c.args.seq) c.args.granted = c.of.ensures ∙ ap (λ r. answer_to r c.args.granted) c.in-Some.ensures.value in
+    let heard = ap (λ (a : Reply). HasTold (heard_by vc facts (state_of facts) a)) answer ∙ ap HasTold (heard_same vc facts (state_of facts) c.args.seq c.args.granted) in
+    (happens net past (Told c.args.place c.args.seq c.args.granted) c.args.conn.now facts at c.carry_out.result.0 (facts_in c.carry_out.result.1)
+    (carried.answer ∙ heard ∙ ap (λ b. if not b then NotEnabled NotSent else HasTold (told_answer (state_of facts) c.args.seq c.args.granted)) home)
+    (carried.adds ∙ ap (λ (a : Reply). command_adds facts (CommandTold a) c.carry_out.result.0) answer),
+    carried.becomes)

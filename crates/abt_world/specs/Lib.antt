@@ -1,0 +1,5 @@
+pub mod Standing
+pub mod Steps
+pub mod Opening
+pub mod Courses
+pub mod Readings

@@ -1,0 +1,41 @@
+-- What a world stands for.
+use Rattle.std.specs.Prelude.{◌≡◌, ℕ, List, All, Option, slice_get, option_map}
+use Rattle.abt_cell.specs.Channel.{Channel}
+use Rattle.abt_net.specs.declared.conn.Conn.{Conn}
+use Rattle.abt_net.specs.Topology.{Topology, IsWithinRules}
+use Rattle.abt_facts.specs.declared.fact.Fact.{Fact}
+use Rattle.abt_node.specs.Table.{Table}
+use Rattle.abt_actor.specs.Actor.{ActorView, actor_of}
+use Rattle.abt_model.specs.declared.connection_fact.ConnectionFact.{ConnectionFact}
+use Rattle.abt_model.specs.declared.event.Event.{Event}
+use Rattle.abt_model.specs.Conns.{conn_at}
+use Rattle.abt_model.specs.Events.{AsksRate}
+use Rattle.abt_model.specs.Past.{facts_of}
+use Rattle.abt_model.specs.Run.{facts_after}
+use Rattle.abt_model.specs.PortTable.{port_table}
+
+-- a connection: the actor of its source, and the facts that were noted of it
+pub record CourseView : Type 0 where
+  pub actor : ActorView
+  pub facts : List Fact
+
+-- a world: its net, the tables of its ports, and its connections
+pub record WorldView : Type 0 where
+  pub net : Topology
+  pub ports : List Table
+  pub courses : List CourseView
+
+-- the connection that its facts give
+abbrev pub course_of : Channel → List Fact → CourseView
+course_of vc facts = record { actor = actor_of vc facts; facts = facts }
+
+-- Each port has the table, and each connection the actor and the facts, that a past gives.
+pub record IsOfPast (net : Topology) (past : List ConnectionFact) (world : WorldView) : Type 0 where
+  pub net_is : world.net ≡ net
+  pub ports : (p : ℕ) → slice_get world.ports p ≡ option_map (λ (_ : ℕ). port_table net past p) (slice_get net.capacities p)
+  pub courses : (c : ℕ) → slice_get world.courses c ≡ option_map (λ (conn : Conn). course_of conn.vc (facts_of c past)) (conn_at net c)
+
+-- A world stands for a list of events over a net: it is that of the past that they leave.
+pub record StandsFor (net : Topology) (events : List Event) (world : WorldView) : Type 0 where
+  pub rates : All AsksRate events
+  pub stands : IsOfPast net (facts_after net events) world

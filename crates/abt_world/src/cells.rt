@@ -1,0 +1,93 @@
+//! What the arrival of a cell answers and adds, and what it makes of the port.
+ghost use Rattle.std.specs.Prelude.{◌≡◌, ◌+◌, ◌&&◌, nat_lt, nat_le, List};
+ghost use Rattle.abt_actor.specs.Facts.{facts_in};
+ghost use Rattle.abt_facts.specs.Cells.{emitted_of, fence_of};
+ghost use Rattle.abt_model.specs.declared.connection_fact.ConnectionFact.{ConnectionFact};
+ghost use Rattle.abt_model.specs.declared.event.Event.TheVariants.{Arrive};
+ghost use Rattle.abt_model.specs.Outcomes.{after_event};
+ghost use Rattle.abt_net.specs.Topology.{Topology};
+ghost use Rattle.abt_world.specs.Steps as steps;
+ghost use Rattle.abt_world.specs.Steps.{IsConnAt, ArePorts, Happens};
+
+use crate::hops::port_at;
+use crate::messages::not_enabled;
+use abt_actor::Added;
+use abt_facts::Fact;
+use abt_log::Log;
+use abt_model::{Cause, Outcome};
+use abt_net::Conn;
+use abt_node::Port;
+
+// Whether a cell is below the fence.
+fn is_fenced(log: &Log, cell: u64) -> bool
+    ensures { result ≡ nat_lt cell (fence_of log.now.facts) }
+{
+    log.is_behind_last(cell) || cell < log.delivered_mark()
+}
+
+// Whether the access line delivers at a moment what was emitted at another.
+fn is_in_time(conn: &Conn, emission: u64, at: u64) -> bool
+    ensures { result ≡ (nat_le (emission + conn.now.delay) at && nat_le at (emission + conn.now.delay + conn.now.tau)) }
+{
+    match at.checked_sub(emission) {
+        Some(taken) => taken >= conn.delay && taken - conn.delay <= conn.tau,
+        None => false,
+    }
+}
+
+// Why a cell can't arrive, if it can't.
+fn arrival_cause(conn: &Conn, log: &Log, emitted: u64, cell: u64, at: u64) -> Option<Cause>
+    ensures { emitted ≡ emitted_of log.now.facts → result ≡ steps.arrival_cause conn.now log.now.facts cell at }
+{
+    if cell >= emitted {
+        Some(Cause::NotSent)
+    } else if is_fenced(log, cell) {
+        Some(Cause::Fenced)
+    } else if !is_in_time(conn, log.emission(cell), at) {
+        Some(Cause::Delay)
+    } else if at < log.last_arrival() {
+        Some(Cause::ClockBack)
+    } else {
+        None
+    }
+}
+
+// A cell comes to the first hop.
+pub(crate) fn arrive(
+    place: u16,
+    conn: &Conn,
+    log: &Log,
+    emitted: u64,
+    ports: &mut [Port],
+    cell: u64,
+    at: u64,
+) -> (Outcome, Added)
+    ensures { (net : Topology) (past : List ConnectionFact) → IsConnAt net past place conn.now log.now.facts →
+        ArePorts net past ports.old → emitted ≡ emitted_of log.now.facts →
+        Happens net past (Arrive place cell at) result.0 (facts_in result.1)
+        × ArePorts net (after_event net past (Arrive place cell at)) ports.new }
+{
+    if let Some(cause) = arrival_cause(conn, log, emitted, cell, at) {
+        return not_enabled(cause);
+    }
+    let Some(port) = port_at(conn, 1) else {
+        return not_enabled(Cause::Unknown);
+    };
+    let port = usize::from(port);
+    if port >= ports.len() {
+        return not_enabled(Cause::Unknown);
+    }
+    let Some(rate) = ports[port].held(conn.vc) else {
+        return not_enabled(Cause::Unknown);
+    };
+    let Ok(verdict) = ports[port].arrive(conn.vc, at) else {
+        return not_enabled(Cause::Unknown);
+    };
+    let fact = Fact::Arrived {
+        cell,
+        at,
+        rate,
+        verdict,
+    };
+    (Outcome::Arrived(verdict), Added::One(fact))
+}

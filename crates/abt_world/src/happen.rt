@@ -1,0 +1,90 @@
+//! What one event does to its connection.
+ghost use Rattle.std.specs.Prelude.{◌≡◌, ◌++◌, List};
+ghost use Rattle.abt_actor.specs.Actor.{actor_of};
+ghost use Rattle.abt_actor.specs.Facts.{facts_in};
+ghost use Rattle.abt_model.specs.declared.connection_fact.ConnectionFact.{ConnectionFact};
+ghost use Rattle.abt_model.specs.Events.{AsksRate};
+ghost use Rattle.abt_model.specs.Outcomes.{conn_of, after_event};
+ghost use Rattle.abt_net.specs.Topology.{Topology};
+ghost use Rattle.abt_world.specs.Steps.{IsConnAt, ArePorts, Happens};
+
+use crate::cells::arrive;
+use crate::hops::{answer, request};
+use crate::messages::{told, turn};
+use abt_actor::{Added, SourceActor};
+use abt_log::Log;
+use abt_model::{Event, Outcome, SourceCommand};
+use abt_net::Conn;
+use abt_node::Port;
+
+// The connection of an event.
+pub(crate) fn conn_number(event: &Event) -> u16
+    ensures { result ≡ conn_of event.now }
+{
+    match *event {
+        Event::Start { conn, .. }
+        | Event::Ask { conn, .. }
+        | Event::Again { conn }
+        | Event::Crash { conn }
+        | Event::Emit { conn, .. }
+        | Event::Arrive { conn, .. }
+        | Event::Request { conn, .. }
+        | Event::Turn { conn, .. }
+        | Event::Answer { conn, .. }
+        | Event::Told { conn, .. } => conn,
+    }
+}
+
+// What an event asks for is a rate.
+pub(crate) fn asks_rate(event: &Event)
+    ensures { AsksRate event.now }
+{
+    if let Event::Ask { rate, .. } = *event {
+        rate.units();
+    }
+}
+
+// An event of a connection happens: its actor or a port takes it, or nothing does.
+pub(crate) fn happen(
+    conn: &Conn,
+    log: &Log,
+    actor: &mut SourceActor,
+    ports: &mut [Port],
+    event: &Event,
+) -> (Outcome, Added)
+    ensures { (net : Topology) (past : List ConnectionFact) → AsksRate event.now →
+        IsConnAt net past (conn_of event.now) conn.now log.now.facts → ArePorts net past ports.old →
+        actor.old ≡ actor_of conn.now.vc log.now.facts →
+        Happens net past event.now result.0 (facts_in result.1) × ArePorts net (after_event net past event.now) ports.new
+        × (actor.new ≡ actor_of conn.now.vc (facts_in result.1 ++ log.now.facts)) }
+{
+    match *event {
+        Event::Start { now, .. } => actor.carry_out(&SourceCommand::Start { now }),
+        Event::Ask { rate, plan, .. } => actor.carry_out(&SourceCommand::Ask { rate, plan }),
+        Event::Again { .. } => actor.carry_out(&SourceCommand::Again),
+        Event::Crash { .. } => actor.carry_out(&SourceCommand::Crash),
+        Event::Emit { now, .. } => actor.carry_out(&SourceCommand::Emit { now }),
+        Event::Arrive {
+            conn: place,
+            cell,
+            at,
+        } => arrive(place, conn, log, actor.cells(), ports, cell, at),
+        Event::Request {
+            conn: place,
+            hop,
+            seq,
+        } => request(place, conn, log, ports, hop, seq),
+        Event::Turn { conn: place, seq } => turn(place, conn, log, seq),
+        Event::Answer {
+            conn: place,
+            hop,
+            seq,
+            granted,
+        } => answer(place, conn, log, ports, hop, seq, granted),
+        Event::Told {
+            conn: place,
+            seq,
+            granted,
+        } => told(place, conn, log, actor, seq, granted),
+    }
+}

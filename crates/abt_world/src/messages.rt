@@ -1,0 +1,88 @@
+//! What one connection's events answer and add that come to no port.
+ghost use Rattle.std.specs.Prelude.{◌≡◌, ◌≤◌, ◌++◌, List, length, IsSome, IfSome, true};
+ghost use Rattle.abt_facts.specs.Requests.{was_asked, floor_of, ask_of};
+ghost use Rattle.abt_facts.specs.Sent.{answer_is_home};
+ghost use Rattle.abt_actor.specs.Actor.{actor_of};
+ghost use Rattle.abt_actor.specs.Facts.{facts_in};
+ghost use Rattle.abt_model.specs.declared.connection_fact.ConnectionFact.{ConnectionFact};
+ghost use Rattle.abt_model.specs.declared.event.Event.TheVariants.{Turn, Told};
+ghost use Rattle.abt_model.specs.Decision as decision;
+ghost use Rattle.abt_net.specs.Topology.{Topology};
+ghost use Rattle.abt_world.specs.Steps.{IsConnAt, Happens};
+
+use abt_actor::{Added, SourceActor};
+use abt_cell::{Answer, Request};
+use abt_facts::Fact;
+use abt_log::Log;
+use abt_model::{Cause, Outcome, SourceCommand};
+use abt_net::Conn;
+
+// The request of a number, if it was asked.
+pub(crate) fn request_of(conn: &Conn, log: &Log, seq: u32) -> Option<Request>
+    ensures value { IfSome result (λ request. request ≡ decision.request_of conn.now.vc log.now.facts seq) }
+    ensures some { (was_asked log.now.facts seq ≡ true) → 1 ≤ seq →
+        floor_of log.now.facts seq ≤ ask_of log.now.facts seq → IsSome result }
+{
+    let (floor, ask) = log.asked(seq)?;
+    Request::new(conn.vc, seq, floor, ask)
+}
+
+// An event that can't happen.
+pub(crate) fn not_enabled(cause: Cause) -> (Outcome, Added)
+    ensures { result ≡ (Outcome.NotEnabled cause, Added.Nothing) }
+{
+    (Outcome::NotEnabled(cause), Added::Nothing)
+}
+
+// How many hops a path has, of which a net's has 16 at most.
+pub(crate) fn hops_of(conn: &Conn) -> u16
+    ensures { length conn.now.path ≤ 16 → result ≡ length conn.now.path }
+{
+    u16::try_from(conn.path.len()).unwrap_or(u16::MAX)
+}
+
+// What the last hop passed is turned into a yes.
+pub(crate) fn turn(place: u16, conn: &Conn, log: &Log, seq: u32) -> (Outcome, Added)
+    ensures { (net : Topology) (past : List ConnectionFact) → IsConnAt net past place conn.now log.now.facts →
+        Happens net past (Turn place seq) result.0 (facts_in result.1) }
+{
+    if log.was_passed(seq, hops_of(conn)) {
+        (Outcome::Turned, Added::One(Fact::Turned { seq }))
+    } else {
+        not_enabled(Cause::NotSent)
+    }
+}
+
+// Whether an answer lies at its source.
+fn is_home(log: &Log, seq: u32, granted: bool) -> bool
+    ensures { result ≡ answer_is_home log.now.facts seq granted }
+{
+    if granted {
+        log.was_back(seq, 1)
+    } else {
+        log.was_shut(seq, 1)
+    }
+}
+
+// The source takes an answer that the first hop sent.
+pub(crate) fn told(
+    place: u16,
+    conn: &Conn,
+    log: &Log,
+    actor: &mut SourceActor,
+    seq: u32,
+    granted: bool,
+) -> (Outcome, Added)
+    ensures { (net : Topology) (past : List ConnectionFact) → IsConnAt net past place conn.now log.now.facts →
+        actor.old ≡ actor_of conn.now.vc log.now.facts →
+        Happens net past (Told place seq granted) result.0 (facts_in result.1)
+        × (actor.new ≡ actor_of conn.now.vc (facts_in result.1 ++ log.now.facts)) }
+{
+    if !is_home(log, seq, granted) {
+        return not_enabled(Cause::NotSent);
+    }
+    let Some(request) = request_of(conn, log, seq) else {
+        return not_enabled(Cause::NotSent);
+    };
+    actor.carry_out(&SourceCommand::Told(Answer::of(&request, granted)))
+}

@@ -1,0 +1,61 @@
+//! Ports before the first event.
+ghost use Rattle.std.specs.Prelude.{◌≡◌, ◌≤◌, ◌^◌, All, IfOk, OnOk, length};
+ghost use Rattle.abt_model.specs.Reserved as reserved;
+ghost use Rattle.abt_world.specs.Opening as opening;
+
+use abt_net::Conn;
+use abt_node::Port;
+use std::alloc::{AllocError, Global};
+
+// The hop of a path, from 1, at which a port lies, and 0 where it lies at none.
+fn hop_of(path: &[u16], port: u16) -> usize
+    ensures value { result ≡ reserved.hop_of path.now port }
+    ensures within { result ≤ length path.now }
+{
+    let Some((first, rest)) = path.split_first() else {
+        return 0;
+    };
+    if *first == port {
+        return 1;
+    }
+    match hop_of(rest, port) {
+        0 => 0,
+        hop => hop + 1,
+    }
+}
+
+// Adds a connection to a port that its path goes through. Channels of a net differ, and there are 1,024 at most, so a
+// port refuses none of them but for memory.
+fn join(port: &mut Port, conn: &Conn) -> Result<(), AllocError>
+    requires { conn.now.tau ≤ 10 ^ 12 }
+    ensures { OnOk result (port.new ≡ opening.joined port.old conn.now) }
+{
+    let hop = hop_of(conn.path.as_slice(), port.id());
+    if hop == 0 {
+        return Ok(());
+    }
+    let tau = if hop == 1 { Some(conn.tau) } else { None };
+    match port.add(conn.vc, tau) {
+        Ok(()) => Ok(()),
+        Err(_) => Err(AllocError),
+    }
+}
+
+// A port with the connections through it.
+pub(crate) fn opening_port(
+    alloc: Global,
+    id: u16,
+    capacity: u64,
+    conns: &[Conn],
+) -> Result<Port, AllocError>
+    requires capacity { capacity ≤ 2 ^ 60 }
+    requires taus { All (λ conn. conn.tau ≤ 10 ^ 12) conns.now }
+    ensures { IfOk result (λ port. port ≡ opening.opening_table id capacity conns.now) }
+{
+    let Some((first, others)) = conns.split_first() else {
+        return Port::new(alloc, id, capacity);
+    };
+    let mut port = opening_port(alloc, id, capacity, others)?;
+    join(&mut port, first)?;
+    Ok(port)
+}

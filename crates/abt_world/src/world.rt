@@ -1,0 +1,127 @@
+//! Worlds.
+ghost use Rattle.std.specs.Prelude.{◌≡◌, ◌++◌, [], ◌∷◌, List, IfOk, OnOk, MatchResult};
+ghost use Rattle.abt_net.specs.Topology.{Topology};
+ghost use Rattle.abt_model.specs.Outcomes.{outcome_of};
+ghost use Rattle.abt_model.specs.Run.{facts_after};
+ghost use Rattle.abt_model.specs.Safe.{IsSafe};
+ghost use Rattle.abt_model.specs.declared.event.Event.{Event};
+ghost use Rattle.abt_world.specs.Readings.{rate_in, held_in, total_in};
+ghost use Rattle.abt_world.specs.Standing.{StandsFor};
+
+use crate::course::Course;
+use crate::fresh::{fresh_courses, opening_ports};
+use crate::hops::port_at;
+use crate::happen::{asks_rate, conn_number};
+use abt_model::{Cause, Event, Outcome};
+use abt_net::Net;
+use abt_node::Port;
+use abt_rate::Rate;
+use std::alloc::{AllocError, Global};
+use std::marker::Model;
+
+/// A net at work: its ports, the actors of its sources, and what happened to each connection.
+#[derive(Debug, Drop)]
+pub struct World<'net> {
+    net: &'net Net,
+    ports: Vec<Port>,
+    // One for each connection.
+    courses: Vec<Course>,
+}
+
+impl<'net> Model for World<'net> {
+    ghost use Rattle.std.specs.Coded.{codes};
+    ghost use Rattle.std.specs.FinMap as map;
+    ghost use Rattle.std.specs.Prelude.{◌≡◌, length, map as list_map};
+    ghost use Rattle.abt_cell.specs.Channel.{channel_cmp, channel_code};
+    ghost use Rattle.abt_node.specs.Table.{connection_code};
+    ghost use Rattle.abt_world.specs.Standing.{WorldView};
+
+    ghost Value = { WorldView };
+
+    ghost coded = { Prim.hlevel (codes, map.code {R = channel_cmp} channel_code connection_code) };
+
+    ghost view = { λ w. record {
+      net = w.net.now;
+      ports = w.ports.items;
+      courses = list_map (λ course. record { actor = course.actor; facts = course.log.facts }) w.courses.items;
+    } };
+
+    ghost invariant = { λ w. length w.courses.items ≡ length w.net.now.conns };
+}
+
+impl<'net> World<'net> {
+    /// The net before the first event: nothing is reserved, and each source is down.
+    pub fn new(alloc: Global, net: &'net Net) -> Result<World<'net>, AllocError>
+        ensures { IfOk result (StandsFor net.now []) }
+    {
+        let ports = opening_ports(alloc, net.capacities(), net.conns())?;
+        let courses = fresh_courses(alloc, net.conns())?;
+        Ok(World {
+            net,
+            ports,
+            courses,
+        })
+    }
+
+    /// What an event answers. Only then has it happened.
+    ///
+    /// # Errors
+    /// Where memory is refused nothing happens.
+    pub fn step(&mut self, event: &Event) -> Result<Outcome, AllocError>
+        ensures outcome { (net : Topology) (events : List Event) → StandsFor net events self.old → MatchResult result
+            (λ outcome. (outcome ≡ outcome_of net (facts_after net events) event.now) × StandsFor net (events ++ event.now ∷ []) self.new)
+            (λ _. StandsFor net events self.new) }
+        // The headline: whatever happened, it is safe.
+        ensures safe { (net : Topology) (events : List Event) → StandsFor net events self.old →
+            OnOk result (IsSafe net (facts_after net (events ++ event.now ∷ []))) }
+    {
+        asks_rate(event);
+        let place = usize::from(conn_number(event));
+        let net = self.net;
+        if place >= net.conns().len() {
+            return Ok(Outcome::NotEnabled(Cause::Unknown));
+        }
+        self.courses[place].take(&net.conns()[place], &mut self.ports, event)
+    }
+
+    /// The rate at which the source of a connection shapes.
+    pub fn rate(&self, conn: u16) -> Option<Rate>
+        ensures { (net : Topology) (events : List Event) → StandsFor net events self.now →
+            result ≡ rate_in net (facts_after net events) conn }
+    {
+        let place = usize::from(conn);
+        if place >= self.courses.len() {
+            return None;
+        }
+        Some(self.courses[place].actor.rate())
+    }
+
+    /// What a hop of its path, counted from 1, holds for a connection.
+    pub fn held(&self, conn: u16, hop: u16) -> Option<Rate>
+        ensures { (net : Topology) (events : List Event) → StandsFor net events self.now →
+            result ≡ held_in net (facts_after net events) conn hop }
+    {
+        let conns = self.net.conns();
+        let place = usize::from(conn);
+        if place >= conns.len() {
+            return None;
+        }
+        let port = usize::from(port_at(&conns[place], hop)?);
+        if port >= self.ports.len() {
+            return None;
+        }
+        self.ports[port].held(conns[place].vc)
+    }
+
+    /// The sum of what a port holds, in units of 1/512 cell/s.
+    pub fn total(&self, port: u16) -> Option<u64>
+        ensures { (net : Topology) (events : List Event) → StandsFor net events self.now →
+            result ≡ total_in net (facts_after net events) port }
+    {
+        let place = usize::from(port);
+        if place >= self.net.capacities().len() || place >= self.ports.len() {
+            return None;
+        }
+        Some(self.ports[place].total())
+    }
+}
