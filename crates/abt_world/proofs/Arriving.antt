@@ -1,13 +1,11 @@
 -- A cell that can arrive is judged by the first hop's port.
-use Rattle.std.proofs.Common.{◌≡◌, ◌≢◌, ℕ, ◌+◌, ◌-◌, ◌≤◌, ◌<◌, Bool, true, false, List, [], ◌∷◌, inl, inr, refl, sym, subst, ap, ◌∙◌, arith, length}
-use Rattle.std.specs.Prelude.{◌==◌, ◌&&◌, nat_le, nat_lt, Some, None, Option, Result, Ok, option_map, slice_get, slice_set, slice_index, if◌then◌else◌, not}
+use Rattle.std.proofs.Common.{◌≡◌, ◌≢◌, ℕ, ◌<◌, Bool, true, false, List, [], ◌∷◌, refl, sym, ap, ◌∙◌, arith, length}
+use Rattle.std.specs.Prelude.{◌&&◌, nat_le, nat_lt, Some, None, Ok, option_map, slice_get, slice_set, slice_index, if◌then◌else◌, not}
 use Rattle.std.proofs.lemmas.Bool.Decides.{nat_tests}
-use Rattle.abt_cell.specs.Channel.{Channel}
 use Rattle.abt_gcra.specs.declared.verdict.Verdict.{Verdict}
 use Rattle.abt_net.specs.declared.conn.Conn.{Conn}
 use Rattle.abt_net.specs.Topology.{Topology}
-use Rattle.abt_node.specs.declared.fault.ArriveFault.{ArriveFault}
-use Rattle.abt_node.specs.Table.{Table, Connection, held_at, connection_at, arrival_at, table_after_arrival}
+use Rattle.abt_node.specs.Table.{Table, held_at, connection_at, arrival_at, table_after_arrival}
 use Rattle.abt_facts.specs.declared.fact.Fact.{Fact}
 use Rattle.abt_facts.specs.declared.fact.Fact.TheVariants.{Arrived as FactArrived}
 use Rattle.abt_facts.specs.Hop.{held_of}
@@ -18,9 +16,8 @@ use Rattle.abt_model.specs.declared.outcome.Cause.TheVariants.{NotSent, Fenced, 
 use Rattle.abt_model.specs.declared.outcome.Outcome.{Outcome}
 use Rattle.abt_model.specs.declared.outcome.Outcome.TheVariants.{Arrived, NotEnabled}
 use Rattle.abt_model.specs.Past.{facts_of}
-use Rattle.abt_model.specs.Answers.{arrive_answer}
 use Rattle.abt_model.specs.Outcomes.{outcome_of, after_event}
-use Rattle.abt_model.specs.PortTable.{port_table, kept_at, reservation_at}
+use Rattle.abt_model.specs.PortTable.{port_table, kept_at}
 use Rattle.abt_model.proofs.Lawful.{route_of}
 use Rattle.abt_model.proofs.Steps.{is_hop_tells}
 use Rattle.abt_model.proofs.Worlds.{lawful_at}

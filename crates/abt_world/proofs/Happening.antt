@@ -1,31 +1,29 @@
 -- What one event makes of the ports and of the actor of its connection.
-use Rattle.std.proofs.Common.{◌≡◌, ◌≢◌, ℕ, ◌+◌, ◌≤◌, Bool, true, false, List, [], ◌∷◌, ◌++◌, refl, sym, subst, ap, ◌∙◌, arith, inl, inr}
-use Rattle.std.specs.Prelude.{◌==◌, Option, option_map, slice_get, slice_index, if◌then◌else◌}
+use Rattle.std.proofs.Common.{◌≡◌, ℕ, Bool, true, false, List, [], ◌∷◌, ◌++◌, refl, sym, subst, ap, ◌∙◌, arith, inl, inr}
+use Rattle.std.specs.Prelude.{◌==◌, option_map, slice_get, slice_index}
 use Rattle.std.proofs.lemmas.Bool.{cases_Bool, cond-true, cond-false}
 use Rattle.abt_cell.specs.Channel.{Channel}
 use Rattle.abt_net.specs.declared.conn.Conn.{Conn}
 use Rattle.abt_net.specs.Topology.{Topology}
 use Rattle.abt_node.specs.Table.{Table}
-use Rattle.abt_node.specs.declared.reply.Onward.{Onward}
 use Rattle.abt_node.specs.declared.reply.Onward.TheVariants.{Pass, Refuse, Drop}
-use Rattle.abt_node.specs.declared.reply.Back.{Back as Returned}
 use Rattle.abt_node.specs.declared.reply.Back.TheVariants.{Pass as PassBack, Drop as DropBack}
 use Rattle.abt_source.specs.SourceFacts.{waiting_in}
 use Rattle.abt_facts.specs.declared.fact.Fact.{Fact}
-use Rattle.abt_facts.specs.declared.fact.Fact.TheVariants.{Started as FactStarted, Crashed as FactCrashed, Stored, Asked as FactAsked, Heard as FactHeard, Emitted as FactEmitted, Delivered, Passed, Shut, Turned as FactTurned, Back, Arrived as FactArrived}
+use Rattle.abt_facts.specs.declared.fact.Fact.TheVariants.{Delivered, Passed, Shut, Turned as FactTurned, Back, Arrived as FactArrived}
 use Rattle.abt_facts.specs.Source.{SourceState, Down, Idle, Asking, state_of}
 use Rattle.abt_model.specs.declared.command.SourceCommand.{SourceCommand}
 use Rattle.abt_model.specs.declared.command.SourceCommand.TheVariants as command
 use Rattle.abt_model.specs.declared.connection_fact.ConnectionFact.{ConnectionFact}
 use Rattle.abt_model.specs.declared.event.Event.{Event}
-use Rattle.abt_model.specs.declared.event.Event.TheVariants.{Start, Ask, Again, Crash, Emit, Arrive, Request, Turn, Answer, Told}
+use Rattle.abt_model.specs.declared.event.Event.TheVariants.{Arrive, Request, Turn, Answer}
 use Rattle.abt_model.specs.declared.outcome.Outcome.{Outcome}
 use Rattle.abt_model.specs.declared.outcome.Outcome.TheVariants.{Arrived, Requested, Turned, Answered}
 use Rattle.abt_model.specs.Events.{AsksRate}
 use Rattle.abt_model.specs.Past.{facts_of}
 use Rattle.abt_model.specs.Reserved.{reserved_on}
 use Rattle.abt_model.specs.Answers.{answer_by}
-use Rattle.abt_model.specs.Outcomes.{conn_of, port_of, outcome_of, after_event, facts_added, delivery, request_adds, answer_adds}
+use Rattle.abt_model.specs.Outcomes.{conn_of, port_of, after_event, facts_added, delivery}
 use Rattle.abt_model.specs.PortTable.{hop_visited, Visits}
 use Rattle.abt_model.proofs.Tables.{tables_stay}
 use Rattle.abt_actor.specs.Actor.{ActorView, actor_of}

@@ -1,12 +1,11 @@
 -- A port that was given its connections one by one has the table of the empty past.
-use Rattle.std.proofs.Common.{◌≡◌, ℕ, zero, suc, ◌+◌, Bool, true, false, List, [], ◌∷◌, inl, inr, refl, sym, subst, ap, ◌∙◌}
-use Rattle.std.specs.Prelude.{◌==◌, Some, None, Option, option_map, slice_get, slice_index, unwrap_or, if◌then◌else◌}
+use Rattle.std.proofs.Common.{◌≡◌, ℕ, ◌+◌, List, [], ◌∷◌, inl, inr, refl, sym, ap, ◌∙◌}
+use Rattle.std.specs.Prelude.{◌==◌, Some, None, option_map, slice_get, unwrap_or, if◌then◌else◌}
 use Rattle.std.specs.FinMap.{from_entries}
 use Rattle.std.proofs.lemmas.Bool.{cases_Bool, cond-true, cond-false}
-use Rattle.abt_cell.specs.Channel.{channel_cmp}
 use Rattle.abt_net.specs.declared.conn.Conn.{Conn}
 use Rattle.abt_net.specs.Topology.{Topology}
-use Rattle.abt_node.specs.Table.{Table, Connection, opening, with_connection}
+use Rattle.abt_node.specs.Table.{Table, opening, with_connection}
 use Rattle.abt_model.specs.Reserved.{hop_of}
 use Rattle.abt_model.specs.PortTable.{policing_by, kept_at, kept_from, port_table}
 use Rattle.abt_model.proofs.Worlds.{cases_option}

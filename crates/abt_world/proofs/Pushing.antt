@@ -1,6 +1,6 @@
 -- A list that grows beside another.
-use Rattle.std.proofs.Common.{◌≡◌, ℕ, zero, suc, ◌+◌, ◌<◌, List, [], ◌∷◌, ◌++◌, refl, sym, subst, ap, ◌∙◌, arith, length, take}
-use Rattle.std.specs.Prelude.{Some, None, option_map, slice_get, slice_index_or}
+use Rattle.std.proofs.Common.{◌≡◌, ℕ, zero, suc, ◌+◌, ◌<◌, List, [], ◌∷◌, ◌++◌, refl, sym, ap, ◌∙◌, arith, length, take}
+use Rattle.std.specs.Prelude.{Some, option_map, slice_get, slice_index_or}
 
 pushed :
     {A : Type 0} (made : List A) (given : List ℕ) (f : ℕ → ℕ → A) (i d : ℕ) (x : A) → ((p : ℕ) → slice_get made p ≡ option_map (f p) (slice_get (take i given) p)) →

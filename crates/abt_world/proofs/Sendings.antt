@@ -1,21 +1,20 @@
 -- Events of a connection that is known, and messages that were sent.
-use Rattle.std.proofs.Common.{◌≡◌, ◌≢◌, ℕ, ◌+◌, ◌-◌, ◌≤◌, ◌<◌, Bool, true, false, List, ◌∷◌, inl, inr, refl, sym, subst, ap, ◌∙◌, arith, length}
-use Rattle.std.specs.Prelude.{◌==◌, ◌&&◌, Some, None, slice_index, if◌then◌else◌, not, nat_lt}
-use Rattle.std.proofs.lemmas.Bool.{cond-true, cond-false, cases_Bool, eq-eqb, ne_eqb, eqb-true, and_parts, false≢true}
+use Rattle.std.proofs.Common.{◌≡◌, ℕ, ◌+◌, ◌-◌, ◌≤◌, Bool, true, false, List, inl, inr, refl, sym, subst, ap, ◌∙◌, arith, length}
+use Rattle.std.specs.Prelude.{◌==◌, ◌&&◌, slice_index, if◌then◌else◌}
+use Rattle.std.proofs.lemmas.Bool.{cond-true, cond-false, cases_Bool, eq-eqb, eqb-true, and_parts}
 use Rattle.abt_cell.specs.Channel.{Channel}
 use Rattle.abt_cell.proofs.ChannelLemmas.{same_channel-refl}
 use Rattle.abt_source.specs.Calls.{same_terms}
 use Rattle.abt_net.specs.declared.conn.Conn.{Conn}
-use Rattle.abt_net.specs.Topology.{Topology, IsWithinRules}
+use Rattle.abt_net.specs.Topology.{Topology}
 use Rattle.abt_facts.specs.declared.fact.Fact.{Fact}
 use Rattle.abt_facts.specs.Requests.{was_asked, floor_of, ask_of}
 use Rattle.abt_facts.specs.Source.{SourceState, Down, Idle, Asking}
-use Rattle.abt_facts.specs.Sent.{request_is_at, answer_is_at, answer_is_home, was_passed, was_shut, was_turned, was_back}
+use Rattle.abt_facts.specs.Sent.{request_is_at, answer_is_at, answer_is_home}
 use Rattle.abt_model.specs.declared.connection_fact.ConnectionFact.{ConnectionFact}
 use Rattle.abt_model.specs.declared.event.Event.{Event}
 use Rattle.abt_model.specs.declared.outcome.Outcome.{Outcome}
 use Rattle.abt_model.specs.declared.outcome.Heard.TheVariants.{Ignored}
-use Rattle.abt_model.specs.Conns.{conn_at}
 use Rattle.abt_model.specs.Decision.{request_of, answer_to}
 use Rattle.abt_model.specs.Answers.{answer_by, told_answer, hearing}
 use Rattle.abt_model.specs.Outcomes.{conn_of, port_of, outcome_of, facts_added}

@@ -1,10 +1,10 @@
 -- A port that serves what an event brings keeps all tables those of the facts.
 use Rattle.std.proofs.Common.{◌≡◌, ◌≢◌, ℕ, zero, suc, ◌+◌, ◌-◌, ◌≤◌, ◌<◌, Bool, true, false, List, [], ◌∷◌, inl, inr, refl, sym, subst, ap, ◌∙◌, arith, length}
-use Rattle.std.specs.Prelude.{◌==◌, ◌&&◌, Some, None, Option, option_map, slice_get, slice_set, slice_index, slice_index_or, if◌then◌else◌, not, AllPairs}
-use Rattle.std.proofs.lemmas.Bool.{cond-true, cond-false, cases_Bool, cases_eq, eq-eqb, ne_eqb, eqb-true, false≢true}
+use Rattle.std.specs.Prelude.{Some, None, option_map, slice_get, slice_set, slice_index, if◌then◌else◌, not, AllPairs}
+use Rattle.std.proofs.lemmas.Bool.{cond-true, cond-false, cases_Bool, cases_eq, eq-eqb, ne_eqb}
 use Rattle.std.proofs.lemmas.Option.{slice_get_within, slice_get-get_or}
 use Rattle.abt_net.specs.declared.conn.Conn.{Conn}
-use Rattle.abt_net.specs.Topology.{Topology, IsWithinRules}
+use Rattle.abt_net.specs.Topology.{Topology}
 use Rattle.abt_node.specs.Table.{Table}
 use Rattle.abt_facts.specs.declared.fact.Fact.{Fact}
 use Rattle.abt_model.specs.declared.connection_fact.ConnectionFact.{ConnectionFact}
@@ -19,10 +19,8 @@ use Rattle.abt_node.specs.declared.reply.Back.{Back}
 use Rattle.abt_facts.specs.Sent.{request_is_at, answer_is_at}
 use Rattle.abt_model.specs.declared.event.Event.TheVariants.{Request, Answer}
 use Rattle.abt_model.specs.declared.outcome.Cause.TheVariants.{NotSent, Unknown}
-use Rattle.abt_model.specs.declared.outcome.Outcome.{Outcome}
 use Rattle.abt_model.specs.declared.outcome.Outcome.TheVariants.{Requested, Answered, NotEnabled}
 use Rattle.abt_model.specs.Conns.{conn_at}
-use Rattle.abt_model.specs.Events.{AsksRate}
 use Rattle.abt_model.specs.Past.{facts_of, with_facts}
 use Rattle.abt_model.specs.Reserved.{reserved_on}
 use Rattle.abt_model.specs.Decision.{request_of, answer_to, request_decision, answer_decision}

@@ -1,8 +1,8 @@
 -- A world to which one more event happened stands for one more.
-use Rattle.std.proofs.Common.{◌≡◌, ◌≢◌, ℕ, zero, suc, ◌+◌, ◌≤◌, ◌<◌, Bool, List, [], ◌∷◌, ◌++◌, inl, inr, refl, sym, subst, ap, ◌∙◌, arith, length, take, drop, map, Result, Ok, Err}
+use Rattle.std.proofs.Common.{◌≡◌, ℕ, zero, suc, ◌≤◌, ◌<◌, List, [], ◌∷◌, ◌++◌, inl, inr, refl, sym, subst, ap, ◌∙◌, arith, length, take, drop, map, Result, Ok, Err}
 use Rattle.std.specs.Prelude.{Some, None, Option, option_map, slice_get, slice_set, All, MatchResult, OnOk, unwrap_or}
 use Rattle.std.proofs.lemmas.Bool.{cases_eq}
-use Rattle.std.proofs.lemmas.Option.{slice_get_past, slice_get-map}
+use Rattle.std.proofs.lemmas.Option.{slice_get_past}
 use Rattle.std.proofs.lemmas.List.Elements.{All-append, All-cons, All-nil}
 use Rattle.abt_net.specs.declared.conn.Conn.{Conn}
 use Rattle.abt_net.specs.Topology.{Topology, IsWithinRules}
@@ -25,7 +25,7 @@ use Rattle.abt_model.proofs.EveryPasts.{every_safe}
 use Rattle.abt_model.proofs.Runs.{facts_from_push}
 use Rattle.abt_model.proofs.Worlds.{after_event-unknown, facts_of-other}
 use Rattle.abt_world.specs.Standing.{CourseView, WorldView, course_of, IsOfPast, StandsFor}
-use Rattle.abt_world.specs.Steps.{IsConnAt, ArePorts, Leaves}
+use Rattle.abt_world.specs.Steps.{ArePorts, Leaves}
 use Rattle.abt_world.proofs.Serving.{set_here, set_other}
 
 pub match_more : {A E : Type 0} {P Q : A → Type 0} {R S : E → Type 0} (r : Result A E) → MatchResult r P R → ((x : A) → P x → Q x) → ((y : E) → R y → S y) → MatchResult r Q S

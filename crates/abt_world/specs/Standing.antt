@@ -1,8 +1,8 @@
 -- What a world stands for.
-use Rattle.std.specs.Prelude.{◌≡◌, ℕ, List, All, Option, slice_get, option_map}
+use Rattle.std.specs.Prelude.{◌≡◌, ℕ, List, All, slice_get, option_map}
 use Rattle.abt_cell.specs.Channel.{Channel}
 use Rattle.abt_net.specs.declared.conn.Conn.{Conn}
-use Rattle.abt_net.specs.Topology.{Topology, IsWithinRules}
+use Rattle.abt_net.specs.Topology.{Topology}
 use Rattle.abt_facts.specs.declared.fact.Fact.{Fact}
 use Rattle.abt_node.specs.Table.{Table}
 use Rattle.abt_actor.specs.Actor.{ActorView, actor_of}

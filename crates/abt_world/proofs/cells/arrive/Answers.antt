@@ -1,5 +1,5 @@
-use Rattle.std.proofs.Common.{◌≡◌, ◌<◌, ℕ, List, refl, sym, ◌∙◌, ap, arith, length}
-use Rattle.std.specs.Prelude.{Some, None, Ok, slice_get, slice_index_or}
+use Rattle.std.proofs.Common.{◌≡◌, ◌<◌, ℕ, List, sym, ◌∙◌, ap, arith, length}
+use Rattle.std.specs.Prelude.{Some, slice_index_or}
 use Rattle.std.proofs.lemmas.Option.{slice_get-get_or}
 use Rattle.abt_node.specs.Table.{arrival_at, table_after_arrival}
 use Rattle.abt_world.proofs.Serving.{port_within}

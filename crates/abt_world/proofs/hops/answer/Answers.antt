@@ -1,15 +1,11 @@
-use Rattle.std.proofs.Common.{◌≡◌, ◌≤◌, ◌<◌, refl, sym, ◌∙◌, ap, arith, subst, [], true, false, length}
-use Rattle.std.specs.Prelude.{Some, slice_get, if◌then◌else◌, not}
+use Rattle.std.proofs.Common.{sym, ◌∙◌, ap, arith}
+use Rattle.std.specs.Prelude.{Some}
 use Rattle.std.proofs.lemmas.Bool.{false≢true}
 use Rattle.std.proofs.lemmas.Option.{slice_get-get_or}
 use Rattle.abt_cell.specs.Message.{Terms}
 use Rattle.abt_actor.specs.Facts.{facts_in}
 use Rattle.abt_facts.specs.Sent.{answer_is_at}
-use Rattle.abt_model.specs.Answers.{is_hop}
-use Rattle.abt_model.specs.Decision.{request_of, answer_to, answer_decision}
-use Rattle.abt_model.specs.declared.event.Event.TheVariants.{Answer}
-use Rattle.abt_model.specs.declared.outcome.Cause.TheVariants.{NotSent, Unknown}
-use Rattle.abt_model.specs.declared.outcome.Outcome.TheVariants.{Answered, NotEnabled}
+use Rattle.abt_model.specs.Decision.{answer_to}
 use Rattle.abt_model.proofs.Lawful.{route_of}
 use Rattle.abt_model.proofs.Steps.{is_hop_tells}
 use Rattle.abt_world.proofs.Sendings.{conn_lawful, few_hops, answer_asked, is_request}

@@ -1,4 +1,4 @@
-use Rattle.std.proofs.Common.{◌≡◌, ◌∷◌, [], List, refl, sym, ap, subst, ◌∙◌, true}
+use Rattle.std.proofs.Common.{◌≡◌, sym, ap, ◌∙◌}
 use Rattle.std.specs.Prelude.{if◌then◌else◌, not}
 use Rattle.std.proofs.lemmas.Bool.{false≢true}
 use Rattle.abt_actor.specs.Facts.{facts_in}
@@ -7,7 +7,6 @@ use Rattle.abt_cell.specs.Message.{Reply}
 use Rattle.abt_facts.specs.Source.{state_of}
 use Rattle.abt_model.specs.Answers.{told_answer}
 use Rattle.abt_model.specs.Decision.{request_of, answer_to}
-use Rattle.abt_model.specs.Outcomes.{facts_added}
 use Rattle.abt_model.specs.declared.command.SourceCommand.TheVariants.{Told as CommandTold}
 use Rattle.abt_model.specs.declared.event.Event.TheVariants.{Told}
 use Rattle.abt_model.specs.declared.outcome.Cause.TheVariants.{NotSent}

@@ -1,11 +1,9 @@
-use Rattle.std.proofs.Common.{◌≡◌, ◌∷◌, [], List, refl, sym, ap, ◌∙◌, true, length}
+use Rattle.std.proofs.Common.{◌∷◌, [], refl, ap, ◌∙◌}
 use Rattle.std.specs.Prelude.{if◌then◌else◌, not}
-use Rattle.abt_actor.specs.Facts.{facts_in}
 use Rattle.abt_facts.specs.Sent.{was_passed}
 use Rattle.abt_facts.specs.declared.fact.Fact.TheVariants.{Turned as FactTurned}
 use Rattle.abt_model.specs.declared.event.Event.TheVariants.{Turn}
 use Rattle.abt_model.specs.declared.outcome.Cause.TheVariants.{NotSent}
-use Rattle.abt_model.specs.declared.outcome.Outcome.{Outcome}
 use Rattle.abt_model.specs.declared.outcome.Outcome.TheVariants.{Turned, NotEnabled}
 use Rattle.abt_world.proofs.Sendings.{happens, few_hops}
 use Rattle.abt_world.proofs.messages.turn.Goals as goal

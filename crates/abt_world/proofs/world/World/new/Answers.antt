@@ -1,11 +1,9 @@
-use Rattle.std.proofs.Common.{◌≡◌, ℕ, List, [], map, refl, sym, ap, ◌∙◌}
+use Rattle.std.proofs.Common.{ℕ, List, [], map, refl, ap, ◌∙◌}
 use Rattle.std.specs.Prelude.{option_map, slice_get}
 use Rattle.std.proofs.lemmas.Option.{slice_get-map}
 use Rattle.std.proofs.lemmas.List.Elements.{All-nil}
 use Rattle.abt_net.specs.declared.conn.Conn.{Conn}
-use Rattle.abt_net.specs.Topology.{Topology}
 use Rattle.abt_model.specs.Events.{AsksRate}
-use Rattle.abt_world.specs.Courses.{seen}
 use Rattle.abt_world.specs.Opening.{opening_table}
 use Rattle.abt_world.specs.Standing.{CourseView, course_of}
 use Rattle.abt_world.proofs.Openings.{opening_is}

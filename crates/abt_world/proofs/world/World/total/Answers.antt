@@ -1,8 +1,8 @@
 use Rattle.std.proofs.Common.{◌≡◌, ◌<◌, ℕ, inl, inr, sym, subst, ap, ◌∙◌, length, arith}
-use Rattle.std.specs.Prelude.{Some, None, option_map, slice_get}
+use Rattle.std.specs.Prelude.{Some, option_map, slice_get}
 use Rattle.std.proofs.lemmas.Option.{slice_get-get_or}
-use Rattle.abt_net.specs.Topology.{Topology, IsWithinRules}
-use Rattle.abt_node.specs.Table.{Table, sum_of}
+use Rattle.abt_net.specs.Topology.{IsWithinRules}
+use Rattle.abt_node.specs.Table.{sum_of}
 use Rattle.abt_model.specs.Reserved.{reserved_on}
 use Rattle.abt_model.specs.Run.{facts_after}
 use Rattle.abt_model.specs.PortTable.{port_table}
