@@ -36,7 +36,9 @@ pub(crate) fn mark(facts: &[Fact], seq: u32) -> u64
     let mut found = 0;
     for fact in facts {
         if let Fact::Asked {
-            seq: asked, mark, ..
+            seq: asked,
+            mark,
+            ..
         } = *fact
         {
             if asked == seq {
@@ -54,7 +56,9 @@ pub(crate) fn emission(facts: &[Fact], cell: u64) -> u64
     let mut found = 0;
     for fact in facts {
         if let Fact::Emitted {
-            cell: emitted, at, ..
+            cell: emitted,
+            at,
+            ..
         } = *fact
         {
             if emitted == cell {

@@ -36,9 +36,9 @@ with_octet-has c (word ∷ words) = record { first = c ∷ word; others = words;
 words_of-has : (text : List ℕ) → HasWord (words_of text)
 words_of-has [] = record { first = []; others = []; are = refl }
 words_of-has (c ∷ cs) = elim (cases_Bool (c == 32)) [
-    inl is ↦ rw is (record { first = []; others = words_of cs; are = refl })
-    | inr other ↦ rw other (with_octet-has c (words_of cs))
-  ]
+  | inl is ↦ rw is (record { first = []; others = words_of cs; are = refl })
+  | inr other ↦ rw other (with_octet-has c (words_of cs))
+]
 
 spaced-octet : (c : ℕ) (words : List (List ℕ)) → spaced (with_octet c words) ≡ c ∷ spaced words
 spaced-octet c [] = refl
@@ -52,6 +52,6 @@ spaced-behind words has = rw (has.are) refl
 pub spaced_words : (text : List ℕ) → spaced (words_of text) ≡ text
 spaced_words [] = refl
 spaced_words (c ∷ cs) = elim (cases_Bool (c == 32)) [
-    inl is ↦ rw is (spaced-behind (words_of cs) (words_of-has cs) ∙ rw (spaced_words cs, eqb-true c 32 is) refl)
-    | inr other ↦ rw other (spaced-octet c (words_of cs) ∙ ap (λ rest. c ∷ rest) (spaced_words cs))
-  ]
+  | inl is ↦ rw is (spaced-behind (words_of cs) (words_of-has cs) ∙ rw (spaced_words cs, eqb-true c 32 is) refl)
+  | inr other ↦ rw other (spaced-octet c (words_of cs) ∙ ap (λ rest. c ∷ rest) (spaced_words cs))
+]

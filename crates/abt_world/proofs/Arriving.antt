@@ -111,7 +111,8 @@ arrival_served net past c conn facts cell at port ports table is are has low tab
     let j = judged net past c conn facts cell at port ports table is are has low table_at none in
     let tells = port_tells conn.path 1 port has in
     let same : verdict ≡ verdict_at conn.tau facts at (held_of facts 1) = (let e = verdict_is ∙ j.verdict in cc) in
-    let held : rate ≡ held_of (facts_of c past) 1 = (let e = rate_is ∙ rate_there net past c conn facts 1 port ports table is are has low table_at ∙ ap (λ fs. Some (held_of fs 1)) is.facts_are in cc) in
-    (record { answer = ap Arrived same ∙ sym j.said; adds = ap (λ r. FactArrived cell at r verdict ∷ []) held },
-    ports_after net past (after_event net past (Arrive c cell at)) ports port after are low (after_is ∙ j.becomes)
-    (λ q other. tables_stay net past is.rules (all_lawful net past c conn facts is) (Arrive c cell at) q tt (away net (Arrive c cell at) conn 1 port q is.known refl tells.1 other)))
+    let held : rate ≡ held_of (facts_of c past) 1 = (let e = rate_is ∙ rate_there net past c conn facts 1 port ports table is are has low table_at ∙ ap (λ fs. Some (held_of fs 1)) is.facts_are in cc) in (
+      record { answer = ap Arrived same ∙ sym j.said; adds = ap (λ r. FactArrived cell at r verdict ∷ []) held },
+      ports_after net past (after_event net past (Arrive c cell at)) ports port after are low (after_is ∙ j.becomes)
+          (λ q other. tables_stay net past is.rules (all_lawful net past c conn facts is) (Arrive c cell at) q tt (away net (Arrive c cell at) conn 1 port q is.known refl tells.1 other)),
+    )

@@ -151,9 +151,10 @@ pub command_takes :
     IsOwn own → Carries actor own outcome added new → Takes net past conn facts (event_of c own) ports ports actor new outcome added
 command_takes net past conn facts c own ports actor new outcome added is_own carries asks at are is =
     let e = event_of c own in
-    let carried = carries conn.vc facts is in
-    (happens net past e conn facts at outcome added
-    (carried.answer ∙ own_answer conn (reserved_on net past (port_of conn.path e)) (slice_index net.capacities (port_of conn.path e)) c facts own is_own)
-    (carried.adds ∙ own_adds facts c own outcome is_own),
-    tables_kept net past e conn facts ports asks at are (own_conn c own is_own).1,
-    carried.becomes)
+    let carried = carries conn.vc facts is in (
+      happens net past e conn facts at outcome added
+          (carried.answer ∙ own_answer conn (reserved_on net past (port_of conn.path e)) (slice_index net.capacities (port_of conn.path e)) c facts own is_own)
+          (carried.adds ∙ own_adds facts c own outcome is_own),
+      tables_kept net past e conn facts ports asks at are (own_conn c own is_own).1,
+      carried.becomes,
+    )

@@ -144,10 +144,11 @@ request_served net past c conn facts hop seq port ports at are has there low tab
     let table_is : table ≡ port_table net past port = (let e = sym table_at ∙ port_has net past ports port are low in cc) in
     let is_request : request ≡ request_of conn.vc (facts_of c past) seq = request_is ∙ ap (λ fs. request_of conn.vc fs seq) at.facts_are in
     let is : onward ≡ decided = onward_is ∙ ap (λ t. reply_to t request) table_is ∙ ap (reply_to (port_table net past port)) is_request ∙ law.0 in
-    let becomes : after ≡ port_table net (after_event net past e) port = after_is ∙ ap (λ t. table_after t request) table_is ∙ ap (table_after (port_table net past port)) is_request ∙ law.1 in
-    (record { answer = ap Requested is ∙ sym said; adds = added_is },
-    ports_after net past (after_event net past e) ports port after are low becomes
-    (λ q other. tables_stay net past at.rules lawful e q tt (away net e conn hop port q at.known refl tells.1 other)))
+    let becomes : after ≡ port_table net (after_event net past e) port = after_is ∙ ap (λ t. table_after t request) table_is ∙ ap (table_after (port_table net past port)) is_request ∙ law.1 in (
+      record { answer = ap Requested is ∙ sym said; adds = added_is },
+      ports_after net past (after_event net past e) ports port after are low becomes
+          (λ q other. tables_stay net past at.rules lawful e q tt (away net e conn hop port q at.known refl tells.1 other)),
+    )
 
 -- an answer that a port serves
 pub answer_served :
@@ -170,10 +171,11 @@ answer_served net past c conn facts hop seq port granted ports at are has there 
     let table_is : table ≡ port_table net past port = (let e = sym table_at ∙ port_has net past ports port are low in cc) in
     let is_reply : reply ≡ answer_to (request_of conn.vc (facts_of c past) seq) granted = reply_is ∙ ap (λ fs. answer_to (request_of conn.vc fs seq) granted) at.facts_are in
     let is : back ≡ decided = back_is ∙ ap (λ t. port_answer t reply) table_is ∙ ap (port_answer (port_table net past port)) is_reply ∙ law.0 in
-    let becomes : after ≡ port_table net (after_event net past e) port = after_is ∙ ap (λ t. table_after_answer t reply) table_is ∙ ap (table_after_answer (port_table net past port)) is_reply ∙ law.1 in
-    (record { answer = ap Answered is ∙ sym said; adds = added_is },
-    ports_after net past (after_event net past e) ports port after are low becomes
-    (λ q other. tables_stay net past at.rules lawful e q tt (away net e conn hop port q at.known refl tells.1 other)))
+    let becomes : after ≡ port_table net (after_event net past e) port = after_is ∙ ap (λ t. table_after_answer t reply) table_is ∙ ap (table_after_answer (port_table net past port)) is_reply ∙ law.1 in (
+      record { answer = ap Answered is ∙ sym said; adds = added_is },
+      ports_after net past (after_event net past e) ports port after are low becomes
+          (λ q other. tables_stay net past at.rules lawful e q tt (away net e conn hop port q at.known refl tells.1 other)),
+    )
 
 -- an event that can't happen leaves the tables
 pub nothing_served :

@@ -20,11 +20,11 @@ use Rattle.abt_model.specs.Past.{facts_of}
 use Rattle.abt_model.specs.Outcomes.{conn_of, outcome_of, outcome_at, after_event}
 use Rattle.abt_model.specs.PortTable.{port_table}
 use Rattle.abt_model.specs.Run.{facts_after}
-use Rattle.abt_model.specs.Safe.{IsSafe}
-use Rattle.abt_model.proofs.EveryPasts.{every_safe}
+use Rattle.abt_model.proofs.EveryPasts.{every_safe, every_never_disputes, every_one_answer, every_rates_wait, every_yes_stands, every_arrival_conforms, every_next_is_due}
 use Rattle.abt_model.proofs.Runs.{facts_from_push}
 use Rattle.abt_model.proofs.Worlds.{after_event-unknown, facts_of-other}
 use Rattle.abt_world.specs.Standing.{CourseView, WorldView, course_of, IsOfPast, StandsFor}
+use Rattle.abt_world.specs.Headline.{HeadlineHolds}
 use Rattle.abt_world.specs.Steps.{ArePorts, Leaves}
 use Rattle.abt_world.proofs.Serving.{set_here, set_other}
 
@@ -107,16 +107,29 @@ step_taken net events world e conn outcome course ports stands asks known low le
           (set_here world.courses c course low ∙ ap Some course_is ∙ sym (ap (option_map (λ (k : Conn). course_of k.vc (facts_of c (after_event net past e)))) known))
       | inr other ↦ set_other world.courses c d course other ∙ stands.stands.courses d
           ∙ ap (λ (fs : List Fact). option_map (λ (k : Conn). course_of k.vc fs) (conn_at net d)) (sym (facts_of-other net past e d other))
-    ] in
-    (leaves.answer, record {
-      rates = all_ask events e stands.rates asks;
-      stands = subst (λ (p : List ConnectionFact). IsOfPast net p (record { net = world.net; ports = ports; courses = slice_set world.courses c course })) (sym (one_more net events e))
-      (record { net_is = stands.stands.net_is; ports = leaves.tables; courses = each });
-    })
+    ] in (
+      leaves.answer,
+      record {
+        rates = all_ask events e stands.rates asks;
+        stands = subst (λ (p : List ConnectionFact). IsOfPast net p (record { net = world.net; ports = ports; courses = slice_set world.courses c course })) (sym (one_more net events e))
+            (record { net_is = stands.stands.net_is; ports = leaves.tables; courses = each });
+      },
+    )
 
--- whatever happened is safe
-pub safe_after : (net : Topology) (events : List Event) (e : Event) → IsWithinRules net → All AsksRate events → AsksRate e → IsSafe net (facts_after net (events ++ e ∷ []))
-safe_after net events e rules rates asks = every_safe net (events ++ e ∷ []) rules (all_ask events e rates asks)
+-- the headline holds whatever happened
+pub headline_after : (net : Topology) (events : List Event) (e : Event) → IsWithinRules net → All AsksRate events → AsksRate e → HeadlineHolds net (facts_after net (events ++ e ∷ []))
+headline_after net events e rules rates asks =
+    let all = events ++ e ∷ [] in
+    let ask = all_ask events e rates asks in
+    record {
+      safe = every_safe net all rules ask;
+      drops = every_never_disputes net all rules ask;
+      answers = every_one_answer net all rules ask;
+      floors = every_rates_wait net all rules ask;
+      raised = every_yes_stands net all rules ask;
+      verdicts = every_arrival_conforms net all rules ask;
+      due = every_next_is_due net all rules ask;
+    }
 
 pub on_ok_holds : {A E : Type 0} {P : Type 0} (r : Result A E) → P → OnOk r P
 on_ok_holds (Ok x) p = p

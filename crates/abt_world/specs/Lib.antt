@@ -3,3 +3,4 @@ pub mod Steps
 pub mod Opening
 pub mod Courses
 pub mod Readings
+pub mod Headline

@@ -122,10 +122,7 @@ pub(crate) fn request(
         return not_enabled(Cause::Unknown);
     }
     let onward = ports[port].request(&request);
-    (
-        Outcome::Requested(onward),
-        request_adds(hop, seq, &onward),
-    )
+    (Outcome::Requested(onward), request_adds(hop, seq, &onward))
 }
 
 // An answer comes to a hop.

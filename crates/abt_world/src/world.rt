@@ -3,15 +3,15 @@ ghost use Rattle.std.specs.Prelude.{◌≡◌, ◌++◌, [], ◌∷◌, List, If
 ghost use Rattle.abt_net.specs.Topology.{Topology};
 ghost use Rattle.abt_model.specs.Outcomes.{outcome_of};
 ghost use Rattle.abt_model.specs.Run.{facts_after};
-ghost use Rattle.abt_model.specs.Safe.{IsSafe};
 ghost use Rattle.abt_model.specs.declared.event.Event.{Event};
+ghost use Rattle.abt_world.specs.Headline.{HeadlineHolds};
 ghost use Rattle.abt_world.specs.Readings.{rate_in, held_in, total_in};
 ghost use Rattle.abt_world.specs.Standing.{StandsFor};
 
 use crate::course::Course;
 use crate::fresh::{fresh_courses, opening_ports};
-use crate::hops::port_at;
 use crate::happen::{asks_rate, conn_number};
+use crate::hops::port_at;
 use abt_model::{Cause, Event, Outcome};
 use abt_net::Net;
 use abt_node::Port;
@@ -63,17 +63,17 @@ impl<'net> World<'net> {
         })
     }
 
-    /// What an event answers. Only then has it happened.
+    /// Lets an event happen, and gives what it answers (docs/FORMATS.md, "Events and outcomes"). An event that isn't
+    /// enabled changes nothing.
     ///
     /// # Errors
-    /// Where memory is refused nothing happens.
+    /// Where memory is refused nothing has happened.
     pub fn step(&mut self, event: &Event) -> Result<Outcome, AllocError>
         ensures outcome { (net : Topology) (events : List Event) → StandsFor net events self.old → MatchResult result
             (λ outcome. (outcome ≡ outcome_of net (facts_after net events) event.now) × StandsFor net (events ++ event.now ∷ []) self.new)
             (λ _. StandsFor net events self.new) }
-        // The headline: whatever happened, it is safe.
-        ensures safe { (net : Topology) (events : List Event) → StandsFor net events self.old →
-            OnOk result (IsSafe net (facts_after net (events ++ event.now ∷ []))) }
+        ensures headline { (net : Topology) (events : List Event) → StandsFor net events self.old →
+            OnOk result (HeadlineHolds net (facts_after net (events ++ event.now ∷ []))) }
     {
         asks_rate(event);
         let place = usize::from(conn_number(event));

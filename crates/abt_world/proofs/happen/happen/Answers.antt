@@ -27,33 +27,45 @@ pub returns-in-Arrive : goal.returns-in-Arrive
 returns-in-Arrive c net past = subst (λ (e : Event). Takes net past c.args.conn.now c.args.log.now.facts e c.args.ports.now c.arrive.new.ports c.args.actor.now c.args.actor.now c.arrive.result.0 (facts_in c.arrive.result.1))
     (sym c.in-Arrive.is) (λ asks at are is. (
     let e = Arrive c.in-Arrive.place c.in-Arrive.cell c.in-Arrive.at in
-    let served = c.arrive.ensures net past at are (c.cells.ensures ∙ ap (λ a. a.cells) is) in
-    (served.0, served.1, actor_left net past e c.args.conn.now c.args.log.now.facts c.args.actor.now c.arrive.result.0 (facts_in c.arrive.result.1) served.0
-    (arrive_kind (facts_of c.in-Arrive.place past) c.in-Arrive.place c.in-Arrive.cell c.in-Arrive.at c.arrive.result.0) is)))
+    let served = c.arrive.ensures net past at are (c.cells.ensures ∙ ap (λ a. a.cells) is) in (
+      served.0,
+      served.1,
+      actor_left net past e c.args.conn.now c.args.log.now.facts c.args.actor.now c.arrive.result.0 (facts_in c.arrive.result.1) served.0
+          (arrive_kind (facts_of c.in-Arrive.place past) c.in-Arrive.place c.in-Arrive.cell c.in-Arrive.at c.arrive.result.0) is,
+    )))
 
 pub returns-in-Request : goal.returns-in-Request
 returns-in-Request c net past = subst (λ (e : Event). Takes net past c.args.conn.now c.args.log.now.facts e c.args.ports.now c.request.new.ports c.args.actor.now c.args.actor.now c.request.result.0 (facts_in c.request.result.1))
     (sym c.in-Request.is) (λ asks at are is. (
     let e = Request c.in-Request.place c.in-Request.hop c.in-Request.seq in
-    let served = c.request.ensures net past at are in
-    (served.0, served.1, actor_left net past e c.args.conn.now c.args.log.now.facts c.args.actor.now c.request.result.0 (facts_in c.request.result.1) served.0
-    (request_kind (facts_of c.in-Request.place past) c.in-Request.place c.in-Request.hop c.in-Request.seq c.request.result.0) is)))
+    let served = c.request.ensures net past at are in (
+      served.0,
+      served.1,
+      actor_left net past e c.args.conn.now c.args.log.now.facts c.args.actor.now c.request.result.0 (facts_in c.request.result.1) served.0
+          (request_kind (facts_of c.in-Request.place past) c.in-Request.place c.in-Request.hop c.in-Request.seq c.request.result.0) is,
+    )))
 
 pub returns-in-Turn : goal.returns-in-Turn
 returns-in-Turn c net past = subst (λ (e : Event). Takes net past c.args.conn.now c.args.log.now.facts e c.args.ports.now c.args.ports.now c.args.actor.now c.args.actor.now c.turn.result.0 (facts_in c.turn.result.1))
     (sym c.in-Turn.is) (λ asks at are is. (
     let e = Turn c.in-Turn.place c.in-Turn.seq in
-    let served = c.turn.ensures net past at in
-    (served, tables_kept net past e c.args.conn.now c.args.log.now.facts c.args.ports.now asks at are refl, actor_left net past e c.args.conn.now c.args.log.now.facts c.args.actor.now c.turn.result.0 (facts_in c.turn.result.1) served
-    (turn_kind (facts_of c.in-Turn.place past) c.in-Turn.place c.in-Turn.seq c.turn.result.0) is)))
+    let served = c.turn.ensures net past at in (
+      served,
+      tables_kept net past e c.args.conn.now c.args.log.now.facts c.args.ports.now asks at are refl,
+      actor_left net past e c.args.conn.now c.args.log.now.facts c.args.actor.now c.turn.result.0 (facts_in c.turn.result.1) served
+          (turn_kind (facts_of c.in-Turn.place past) c.in-Turn.place c.in-Turn.seq c.turn.result.0) is,
+    )))
 
 pub returns-in-Answer : goal.returns-in-Answer
 returns-in-Answer c net past = subst (λ (e : Event). Takes net past c.args.conn.now c.args.log.now.facts e c.args.ports.now c.answer.new.ports c.args.actor.now c.args.actor.now c.answer.result.0 (facts_in c.answer.result.1))
     (sym c.in-Answer.is) (λ asks at are is. (
     let e = Answer c.in-Answer.place c.in-Answer.hop c.in-Answer.seq c.in-Answer.granted in
-    let served = c.answer.ensures net past at are in
-    (served.0, served.1, actor_left net past e c.args.conn.now c.args.log.now.facts c.args.actor.now c.answer.result.0 (facts_in c.answer.result.1) served.0
-    (answer_kind (facts_of c.in-Answer.place past) c.in-Answer.place c.in-Answer.hop c.in-Answer.seq c.in-Answer.granted c.answer.result.0) is)))
+    let served = c.answer.ensures net past at are in (
+      served.0,
+      served.1,
+      actor_left net past e c.args.conn.now c.args.log.now.facts c.args.actor.now c.answer.result.0 (facts_in c.answer.result.1) served.0
+          (answer_kind (facts_of c.in-Answer.place past) c.in-Answer.place c.in-Answer.hop c.in-Answer.seq c.in-Answer.granted c.answer.result.0) is,
+    )))
 
 pub returns-in-Told : goal.returns-in-Told
 returns-in-Told c net past = subst (λ (e : Event). Takes net past c.args.conn.now c.args.log.now.facts e c.args.ports.now c.args.ports.now c.args.actor.now c.told.new.actor c.told.result.0 (facts_in c.told.result.1))

@@ -30,8 +30,9 @@ returns c net past at is =
     let home = c.if-not-is_home.ensures in
     let carried = c.carry_out.ensures vc facts is in
     let answer : c.of.result ≡ answer_to (request_of vc facts c.args.seq) c.args.granted = c.of.ensures ∙ ap (λ r. answer_to r c.args.granted) c.in-Some.ensures.value in
-    let heard = ap (λ (a : Reply). HasTold (heard_by vc facts (state_of facts) a)) answer ∙ ap HasTold (heard_same vc facts (state_of facts) c.args.seq c.args.granted) in
-    (happens net past (Told c.args.place c.args.seq c.args.granted) c.args.conn.now facts at c.carry_out.result.0 (facts_in c.carry_out.result.1)
-    (carried.answer ∙ heard ∙ ap (λ b. if not b then NotEnabled NotSent else HasTold (told_answer (state_of facts) c.args.seq c.args.granted)) home)
-    (carried.adds ∙ ap (λ (a : Reply). command_adds facts (CommandTold a) c.carry_out.result.0) answer),
-    carried.becomes)
+    let heard = ap (λ (a : Reply). HasTold (heard_by vc facts (state_of facts) a)) answer ∙ ap HasTold (heard_same vc facts (state_of facts) c.args.seq c.args.granted) in (
+      happens net past (Told c.args.place c.args.seq c.args.granted) c.args.conn.now facts at c.carry_out.result.0 (facts_in c.carry_out.result.1)
+          (carried.answer ∙ heard ∙ ap (λ b. if not b then NotEnabled NotSent else HasTold (told_answer (state_of facts) c.args.seq c.args.granted)) home)
+          (carried.adds ∙ ap (λ (a : Reply). command_adds facts (CommandTold a) c.carry_out.result.0) answer),
+      carried.becomes,
+    )

@@ -18,9 +18,9 @@ returns c =
       stands = record {
         net_is = refl;
         ports = λ p. c.in_ok-ports.ensures p
-        ∙ ap (λ (conns : List Conn). option_map (λ (u : ℕ). opening_table p u conns) (slice_get c.capacities.result.now p)) c.conns.ensures.value
-        ∙ ap (λ (capacities : List ℕ). option_map (λ (u : ℕ). opening_table p u net.conns) (slice_get capacities p)) c.capacities.ensures.value
-        ∙ opening_is net p;
+            ∙ ap (λ (conns : List Conn). option_map (λ (u : ℕ). opening_table p u conns) (slice_get c.capacities.result.now p)) c.conns.ensures.value
+            ∙ ap (λ (capacities : List ℕ). option_map (λ (u : ℕ). opening_table p u net.conns) (slice_get capacities p)) c.capacities.ensures.value
+            ∙ opening_is net p;
         courses = λ k. ap (λ (l : List CourseView). slice_get l k) (c.in_ok-courses.ensures ∙ ap (map fresh) c.conns-2.ensures.value) ∙ slice_get-map fresh net.conns k;
       };
     }

@@ -13,7 +13,7 @@ use Rattle.abt_model.specs.Run.{facts_after}
 use Rattle.abt_world.specs.declared.course.Course.{Course}
 use Rattle.abt_world.specs.Standing.{CourseView, WorldView, course_of, StandsFor}
 use Rattle.abt_world.specs.Steps.{IsConnAt, ArePorts}
-use Rattle.abt_world.proofs.Standings.{match_more, step_unknown, step_taken, course_at, port_count, written_over, map_set, set_same, some_same, safe_after, on_ok_holds}
+use Rattle.abt_world.proofs.Standings.{match_more, step_unknown, step_taken, course_at, port_count, written_over, map_set, set_same, some_same, headline_after, on_ok_holds}
 use Rattle.abt_world.proofs.world.World.step.Goals as goal
 
 pub returns-then-place-conns-clause-outcome : goal.returns-then-place-conns-clause-outcome
@@ -86,12 +86,12 @@ returns-clause-outcome c net events stands =
     let left : map seen (slice_set courses c.from-place.result new) ≡ map seen courses = set ∙ ap (slice_set (map seen courses) c.from-place.result) seen_same ∙ set_same (map seen courses) c.from-place.result (seen old) was in
     subst (StandsFor net events) (ap (λ ps. after c ps (map seen courses)) (sym written) ∙ ap (after c _) (sym left)) stands'))
 
-pub returns-then-place-conns-clause-safe : goal.returns-then-place-conns-clause-safe
-returns-then-place-conns-clause-safe c net events stands =
+pub returns-then-place-conns-clause-headline : goal.returns-then-place-conns-clause-headline
+returns-then-place-conns-clause-headline c net events stands =
     let net_is = ap (λ (w : WorldView). w.net) c.self.view_is ∙ stands.stands.net_is in
-    safe_after net events c.args.event.now (subst IsWithinRules net_is c.conns.ensures.rules) stands.rates c.asks_rate.ensures
+    headline_after net events c.args.event.now (subst IsWithinRules net_is c.conns.ensures.rules) stands.rates c.asks_rate.ensures
 
-pub returns-clause-safe : goal.returns-clause-safe
-returns-clause-safe c net events stands =
+pub returns-clause-headline : goal.returns-clause-headline
+returns-clause-headline c net events stands =
     let net_is = ap (λ (w : WorldView). w.net) c.self.view_is ∙ stands.stands.net_is in
-    on_ok_holds c.take.result (safe_after net events c.args.event.now (subst IsWithinRules net_is c.conns.ensures.rules) stands.rates c.asks_rate.ensures)
+    on_ok_holds c.take.result (headline_after net events c.args.event.now (subst IsWithinRules net_is c.conns.ensures.rules) stands.rates c.asks_rate.ensures)
