@@ -8,6 +8,8 @@ mod happen;
 mod hops;
 mod messages;
 mod opening;
+#[cfg(test)]
+mod tests;
 mod world;
 
 pub use abt_actor::SourceActor;

@@ -1,0 +1,79 @@
+//! Cells, from the shaper to the policer.
+use super::*;
+
+// The connection has 1,000 cells per second, and its first cell left a second after the start.
+fn has_emitted_one(rt: &impl Abort, world: &mut World<'_>) -> Result<(), Fail> {
+    let soon = ShapeFault::TooSoon {
+        next: 6000000000000,
+    };
+    let story = [
+        starts(0, 5000000000000),
+        (ask(0, 0x53e8), asked(100, 1, 0, 0x53e8)?),
+        passes(0, 1, 1),
+        turns(0, 1),
+        passes_back(0, 1, 1, true),
+        hears(0, 1, true, Heard::Raised),
+        (emit(5900000000000), Outcome::EmitRefused(soon)),
+        emits(6000000000000, 0, 6001000000000),
+    ];
+    tell(rt, world, &story)
+}
+
+#[test]
+fn cells_that_leave_in_turn_conform_late_or_early_on_the_line(rt: HostRuntime) -> Result<(), Fail> {
+    let net = lone(rt.alloc())?;
+    let mut world = world(rt.alloc(), &net)?;
+    has_emitted_one(&rt, &mut world)?;
+    let story = [
+        emits(6001000000000, 1, 6002000000000),
+        conforms(0, 6000000001200),
+        conforms(1, 6001000001000),
+    ];
+    tell(&rt, &mut world, &story)
+}
+
+// A request that came to the first hop fences off the cells that left before it was made. The line takes a delay of 1,000
+// and up to 200 more.
+#[test]
+fn a_request_overtakes_no_cell_and_the_line_keeps_its_delay(rt: HostRuntime) -> Result<(), Fail> {
+    let net = lone(rt.alloc())?;
+    let mut world = world(rt.alloc(), &net)?;
+    has_emitted_one(&rt, &mut world)?;
+    let story = [
+        (ask(0, 0x5120), asked(100, 2, 0x5120, 0x5120)?),
+        passes(0, 1, 2),
+        cannot(arrive(0, 6000000001000), Cause::Fenced),
+        emits(6001000000000, 1, 6003500000000),
+        cannot(arrive(1, 6001000001201), Cause::Delay),
+        cannot(arrive(1, 6001000000999), Cause::Delay),
+        conforms(1, 6001000001200),
+        cannot(arrive(1, 6001000001200), Cause::Fenced),
+        cannot(arrive(2, 6003500001000), Cause::NotSent),
+    ];
+    tell(&rt, &mut world, &story)
+}
+
+#[test]
+fn at_the_greatest_rate_cells_may_come_at_once_and_not_in_another_order(
+    rt: HostRuntime,
+) -> Result<(), Fail> {
+    let wide = AccessLine {
+        tau: 1000,
+        ..line(100, &[0])
+    };
+    let net = net(rt.alloc(), &[2196875771904], &[wide])?;
+    let story = [
+        starts(0, 0),
+        (ask(0, 0x7fff), asked(100, 1, 0, 0x7fff)?),
+        passes(0, 1, 1),
+        turns(0, 1),
+        passes_back(0, 1, 1, true),
+        hears(0, 1, true, Heard::Raised),
+        emits(1000000000000, 0, 1000000000234),
+        emits(1000000000234, 1, 1000000000468),
+        conforms(0, 1000000002000),
+        cannot(arrive(1, 1000000001999), Cause::ClockBack),
+        conforms(1, 1000000002000),
+    ];
+    tell(&rt, &mut world(rt.alloc(), &net)?, &story)
+}

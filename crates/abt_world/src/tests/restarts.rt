@@ -1,0 +1,67 @@
+//! Sources that lose all but their stores, and stores that fail.
+use super::*;
+use abt_source::{AskFault, StartFault};
+
+#[test]
+fn a_yes_from_before_a_crash_is_ignored(rt: HostRuntime) -> Result<(), Fail> {
+    let net = lone(rt.alloc())?;
+    let story = [
+        starts(0, 0),
+        (ask(0, 0x5120), asked(100, 1, 0, 0x5120)?),
+        passes(0, 1, 1),
+        turns(0, 1),
+        passes_back(0, 1, 1, true),
+        crashes(0),
+        cannot(ask(0, 0x5120), Cause::Down),
+        starts(0, 5),
+        hears(0, 1, true, Heard::Ignored),
+        (ask(0, 0x5258), asked(100, 2, 0, 0x5258)?),
+        hears(0, 1, true, Heard::Ignored),
+    ];
+    tell(&rt, &mut world(rt.alloc(), &net)?, &story)
+}
+
+// A start, and an ask whose write into the store fails by a plan.
+fn fails_to_ask(plan: StorePlan) -> [Row; 2] {
+    let refused = Outcome::AskRefused(AskFault::Keep);
+    [starts(0, 0), (ask_as_planned(0x5120, plan), refused)]
+}
+
+#[test]
+fn a_number_that_was_not_used_is_asked_with_again(rt: HostRuntime) -> Result<(), Fail> {
+    let net = lone(rt.alloc())?;
+    let mut world = world(rt.alloc(), &net)?;
+    tell(&rt, &mut world, &fails_to_ask(StorePlan::FailsAfter))?;
+    let story = [(ask(0, 0x5120), asked(100, 1, 0, 0x5120)?)];
+    tell(&rt, &mut world, &story)
+}
+
+// After a restart a source goes on from the number in its store, whether or not that number was used.
+#[test]
+fn a_restart_goes_on_from_the_number_in_the_store(rt: HostRuntime) -> Result<(), Fail> {
+    let net = lone(rt.alloc())?;
+    for (plan, seq) in [(StorePlan::FailsAfter, 2), (StorePlan::FailsBefore, 1)] {
+        let mut world = world(rt.alloc(), &net)?;
+        tell(&rt, &mut world, &fails_to_ask(plan))?;
+        let story = [
+            crashes(0),
+            starts(0, 0),
+            (ask(0, 0x5120), asked(100, seq, 0, 0x5120)?),
+        ];
+        tell(&rt, &mut world, &story)?;
+    }
+    Ok(())
+}
+
+// The greatest moment of a start is 2^61 less a second (docs/RULES.md, "Limits").
+#[test]
+fn a_source_starts_at_the_greatest_moment_and_not_later(rt: HostRuntime) -> Result<(), Fail> {
+    let net = lone(rt.alloc())?;
+    let late = Event::Start {
+        conn: 0,
+        now: 2305842009213693953,
+    };
+    let refused = Outcome::StartRefused(StartFault::TimeRange);
+    let story = [(late, refused), starts(0, 2305841009213693952)];
+    tell(&rt, &mut world(rt.alloc(), &net)?, &story)
+}
