@@ -10,7 +10,7 @@ mod scenario;
 mod text;
 mod value;
 
-pub use engine::{EngineFault, read_from};
+pub use engine::{EngineFault, read_from, run_text};
 pub use fault::ScenarioFault;
 pub use key::Key;
 pub use reports::report;
