@@ -1,8 +1,8 @@
 -- The words of a text, cut at its first space.
-use Rattle.std.proofs.Common.{◌≡◌, ◌≢◌, ℕ, ◌<◌, ◌++◌, List, [], ◌∷◌, length, get_or, refl, arith, suc, map, Bor, append_assoc}
+use Rattle.std.proofs.Common.{◌≡◌, ◌==◌, inl, inr, ap, sym, ◌∙◌, ◌≢◌, ℕ, ◌<◌, ◌++◌, List, [], ◌∷◌, length, get_or, refl, arith, suc, map, Bor, append_assoc}
 use Rattle.std.proofs.lemmas.List.{map-append}
-use Rattle.std.proofs.lemmas.Bool.{ne_eqb}
-use Rattle.abt_text.specs.Words.{words_of, with_octet}
+use Rattle.std.proofs.lemmas.Bool.{ne_eqb, cases_Bool, eqb-true}
+use Rattle.abt_text.specs.Words.{spaced, words_of, with_octet}
 
 abbrev pub Lacks : ℕ → List ℕ → Type 0
 Lacks octet text = (i : ℕ) → i < length text → get_or text i 0 ≢ octet
@@ -22,3 +22,36 @@ first_word (c ∷ cs) more free = rw (ne_eqb c 32 (free 0 (omega arith)), first_
 pub word_found : (found new : List (Bor (List ℕ))) (word : Bor (List ℕ)) (left all : List (List ℕ)) → new ≡ found ++ word ∷ []
     → map (λ w. w.now) found ++ (word.now ∷ left) ≡ all → map (λ w. w.now) new ++ left ≡ all
 word_found found new word left all e h = rw (e, map-append, append_assoc) h
+
+pub record HasWord (words : List (List ℕ)) : Type 0 where
+  first : List ℕ
+  others : List (List ℕ)
+  are : words ≡ first ∷ others
+
+with_octet-has : (c : ℕ) (words : List (List ℕ)) → HasWord (with_octet c words)
+with_octet-has c [] = record { first = c ∷ []; others = []; are = refl }
+with_octet-has c (word ∷ words) = record { first = c ∷ word; others = words; are = refl }
+
+-- a text has a word
+words_of-has : (text : List ℕ) → HasWord (words_of text)
+words_of-has [] = record { first = []; others = []; are = refl }
+words_of-has (c ∷ cs) = elim (cases_Bool (c == 32)) [
+    inl is ↦ rw is (record { first = []; others = words_of cs; are = refl })
+    | inr other ↦ rw other (with_octet-has c (words_of cs))
+  ]
+
+spaced-octet : (c : ℕ) (words : List (List ℕ)) → spaced (with_octet c words) ≡ c ∷ spaced words
+spaced-octet c [] = refl
+spaced-octet c (word ∷ []) = refl
+spaced-octet c (word ∷ (next ∷ words)) = refl
+
+spaced-behind : (words : List (List ℕ)) → HasWord words → spaced ([] ∷ words) ≡ 32 ∷ spaced words
+spaced-behind words has = rw (has.are) refl
+
+-- a single space between each two words makes the text again
+pub spaced_words : (text : List ℕ) → spaced (words_of text) ≡ text
+spaced_words [] = refl
+spaced_words (c ∷ cs) = elim (cases_Bool (c == 32)) [
+    inl is ↦ rw is (spaced-behind (words_of cs) (words_of-has cs) ∙ rw (spaced_words cs, eqb-true c 32 is) refl)
+    | inr other ↦ rw other (spaced-octet c (words_of cs) ∙ ap (λ rest. c ∷ rest) (spaced_words cs))
+  ]
