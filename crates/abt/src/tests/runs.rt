@@ -195,5 +195,6 @@ fn breaks_off(rt: &impl Abort, alloc: Global, plan: &Plan, room: usize)
         return;
     }
     assert_eq!(rt; errors.taken(), "fault: write\n".as_bytes());
-    assert_eq!(rt; out.taken(), &EXAMPLE_REPORT.as_bytes()[..room]);
+    assert_eq!(rt; out.taken().len(), room);
+    assert!(rt; EXAMPLE_REPORT.as_bytes().starts_with(out.taken()));
 }

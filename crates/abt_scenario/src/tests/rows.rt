@@ -23,15 +23,16 @@ fn a_scenario_has_its_net_its_events_and_its_scripts(rt: HostRuntime) -> Result<
     )?;
     let read = scenario(alloc, text.as_str())?;
     assert_eq!(rt; read.net.capacities(), [512_000].as_slice());
-    let conns = read.net.conns();
-    assert_eq!(rt; conns.len(), 2);
-    assert_eq!(rt; conns[0].vc.vpi(), 1);
-    assert_eq!(rt; conns[0].vc.vci(), 100);
-    assert_eq!(rt; conns[0].path.as_slice(), [0].as_slice());
-    assert_eq!(rt; conns[0].delay, 1000);
-    assert_eq!(rt; conns[0].tau, 200);
-    assert_eq!(rt; conns[1].vc.vpi(), 4095);
-    assert_eq!(rt; conns[1].vc.vci(), 65535);
+    let [first, second] = read.net.conns() else {
+        return Err(Fail::from("not two connections"));
+    };
+    assert_eq!(rt; first.vc.vpi(), 1);
+    assert_eq!(rt; first.vc.vci(), 100);
+    assert_eq!(rt; first.path.as_slice(), [0].as_slice());
+    assert_eq!(rt; first.delay, 1000);
+    assert_eq!(rt; first.tau, 200);
+    assert_eq!(rt; second.vc.vpi(), 4095);
+    assert_eq!(rt; second.vc.vci(), 65535);
     let rate = Rate::at_most(204_800);
     let plan = StorePlan::Works;
     let events = [
@@ -44,9 +45,11 @@ fn a_scenario_has_its_net_its_events_and_its_scripts(rt: HostRuntime) -> Result<
     ];
     assert_eq!(rt; read.events.as_slice(), events.as_slice());
     let commands = [Command::Start { now: 5 }, Command::Listen { turns: 7 }];
-    assert_eq!(rt; read.scripts.len(), 2);
-    assert_eq!(rt; read.scripts.as_slice()[0].as_slice(), commands.as_slice());
-    assert_eq!(rt; read.scripts.as_slice()[1].len(), 0);
+    let [script, none] = read.scripts.as_slice() else {
+        return Err(Fail::from("not two scripts"));
+    };
+    assert_eq!(rt; script.as_slice(), commands.as_slice());
+    assert!(rt; none.is_empty());
     Ok(())
 }
 

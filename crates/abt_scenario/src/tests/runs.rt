@@ -103,7 +103,8 @@ fn expect(
     for (index, (event, answer)) in rows.iter().enumerate() {
         let word = format!(in alloc; "\"{event}\",")?;
         text.push_str(word.as_str())?;
-        let line = format!(in alloc; "{} {answer}\n", index + 1)?;
+        let number = index as u64 + 1;
+        let line = format!(in alloc; "{number} {answer}\n")?;
         report.push_str(line.as_str())?;
     }
     text.push_str("]\n")?;
@@ -124,19 +125,20 @@ fn an_empty_net_is_safe(rt: HostRuntime) -> Result<(), Fail> {
 
 #[test]
 fn of_a_report_that_breaks_off_the_beginning_went_out(rt: HostRuntime) {
-    for room in 0..EXAMPLE_REPORT.len() {
+    let report = EXAMPLE_REPORT.as_bytes();
+    for room in 0..report.len() {
         let mut out = Narrow::new(7, room);
         match run_text(rt.alloc(), &mut EXAMPLE.as_bytes(), &mut out) {
             Err(EngineFault::Memory) => {}
             answer => {
                 assert_eq!(rt; answer, Err(EngineFault::Write));
-                assert_eq!(rt; out.taken(), &EXAMPLE_REPORT.as_bytes()[..room]);
+                assert_eq!(rt; out.taken(), &report[..room]);
             }
         }
     }
     let mut out = Narrow::new(1, 1024);
     if run_text(rt.alloc(), &mut EXAMPLE.as_bytes(), &mut out) == Ok(()) {
-        assert_eq!(rt; out.taken(), EXAMPLE_REPORT.as_bytes());
+        assert_eq!(rt; out.taken(), report);
     }
 }
 
