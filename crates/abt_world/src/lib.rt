@@ -3,6 +3,7 @@
 
 mod cells;
 mod course;
+mod ends;
 mod fresh;
 mod happen;
 mod hops;
