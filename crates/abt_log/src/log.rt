@@ -60,9 +60,7 @@ impl Log {
             let mark = search::mark(&self.facts, seq);
             self.delivered_mark = self.delivered_mark.max(mark);
         }
-        let Ok(()) = self.facts.push(fact) else {
-            unreachable!()
-        };
+        self.facts.push_reserved(fact);
     }
 
     /// The floor and the asked rate of a number, if it was asked.

@@ -27,6 +27,7 @@ impl AnyGrant {
         AnyGrant::Shut(Grant::first(ledger.open()))
     }
 
+    /// The number of the newest request that was decided, 0 before the first.
     pub fn newest(&self) -> u32
         ensures { result ≡ (reservation_of self.now).newest }
     {
@@ -36,6 +37,7 @@ impl AnyGrant {
         }
     }
 
+    /// The floor of that request.
     pub fn floor(&self) -> Rate
         ensures { result ≡ (reservation_of self.now).floor }
     {
@@ -45,6 +47,7 @@ impl AnyGrant {
         }
     }
 
+    /// The rate that it asked for.
     pub fn ask(&self) -> Rate
         ensures { result ≡ (reservation_of self.now).ask }
     {
@@ -54,6 +57,7 @@ impl AnyGrant {
         }
     }
 
+    /// What is reserved.
     pub fn held(&self) -> Rate
         ensures { result ≡ held_by (reservation_of self.now) }
     {
@@ -63,6 +67,7 @@ impl AnyGrant {
         }
     }
 
+    /// Whether what was asked for is reserved; otherwise only the floor is.
     pub fn is_open(&self) -> bool
         ensures { result ≡ (reservation_of self.now).is_open }
     {

@@ -1,12 +1,12 @@
 -- What a fault says of the text that a reader had left.
-use Rattle.std.specs.Prelude.{◌<◌, ◌≤◌, ◌≢◌, ⊤, length, Ok, Err}
+use Rattle.std.specs.Prelude.{◌<◌, ◌≤◌, ⊤, length, Err}
 use Rattle.std.specs.Str.{IsUtf8}
 use Rattle.abt_text.specs.Text.{Text}
 use Rattle.abt_scenario.specs.declared.engine.EngineFault.{EngineFault}
 use Rattle.abt_scenario.specs.declared.engine.EngineFault.TheVariants.{Read, TooLong, NotUtf8, Scenario, Write, Memory}
 use Rattle.abt_scenario.specs.Scenarios.{Reads}
 
--- Some text of at most so many octets is one of a scenario's length.
+-- The text is no longer than a scenario may be, which is 16 MiB.
 abbrev pub IsOfLength : Text → Type 0
 IsOfLength text = length text ≤ 16777216
 

@@ -2,7 +2,6 @@
 -- outcomes").
 use Rattle.std.specs.Prelude.{◌≡◌, ◌↔◌, ℕ, true, List, map}
 use Rattle.std.specs.List.{enumerate_from}
-use Rattle.abt_net.specs.declared.conn.Conn.{Conn}
 use Rattle.abt_net.specs.Topology.{Topology}
 use Rattle.abt_facts.specs.declared.fact.Fact.{Fact}
 use Rattle.abt_facts.specs.Source.{rate_of}

@@ -35,7 +35,7 @@ pub(crate) fn conn_number(event: &Event) -> u16
     }
 }
 
-// What an event asks for is a rate.
+// What an event asks for is a rate, as a fact for the proofs: its body only looks at the rate.
 pub(crate) fn asks_rate(event: &Event)
     ensures { AsksRate event.now }
 {
