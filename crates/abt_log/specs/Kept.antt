@@ -1,6 +1,8 @@
 -- A log, as contracts see it.
-use Rattle.std.specs.Prelude.{ℕ, List, Option, None, Some, if◌then◌else◌}
+use Rattle.std.specs.Prelude.{ℕ, Bool, true, false, List, Option, None, Some, if◌then◌else◌}
+use Rattle.abt_gcra.specs.declared.verdict.Verdict.TheVariants.{Conforming}
 use Rattle.abt_facts.specs.declared.fact.Fact.{Fact}
+use Rattle.abt_facts.specs.declared.fact.Fact.TheVariants.{Arrived}
 use Rattle.abt_facts.specs.Requests.{was_asked, floor_of, ask_of}
 
 -- the facts of a connection, the newest first, and for how many more there is room
@@ -11,3 +13,9 @@ pub record LogView : Type 0 where
 -- the floor and the asked rate of a number, if it was asked
 abbrev pub asked_in : List Fact → ℕ → Option (ℕ × ℕ)
 asked_in facts seq = if was_asked facts seq then Some (floor_of facts seq, ask_of facts seq) else None
+
+-- whether a fact isn't the arrival of a cell that was found not conforming
+abbrev pub conforms_if_arrived : Fact → Bool
+conforms_if_arrived (Arrived cell at rate Conforming) = true
+conforms_if_arrived (Arrived cell at rate verdict) = false
+conforms_if_arrived fact = true

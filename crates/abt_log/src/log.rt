@@ -1,6 +1,7 @@
 //! Logs.
 ghost use Rattle.std.specs.Prelude.{◌≡◌, ◌+◌, ◌≤◌, [], ◌∷◌, nat_lt, OnOk};
-ghost use Rattle.abt_log.specs.Kept.{asked_in};
+ghost use Rattle.std.specs.List.{list_all};
+ghost use Rattle.abt_log.specs.Kept.{asked_in, conforms_if_arrived};
 ghost use Rattle.abt_facts.specs.Sent.{was_passed, was_shut, was_turned, was_back};
 ghost use Rattle.abt_facts.specs.Cells.{moment_of, after_last_of, last_arrival_of, delivered_mark_of};
 
@@ -124,5 +125,13 @@ impl Log {
         ensures { result ≡ nat_lt cell (after_last_of self.now.facts) }
     {
         search::is_behind_last(&self.facts, cell)
+    }
+
+    /// Whether each cell that arrived was found conforming.
+    #[tactic(auto, using(crate::proofs::Searches::all_of_reverse))]
+    pub fn all_conform(&self) -> bool
+        ensures { result ≡ list_all conforms_if_arrived self.now.facts }
+    {
+        search::all_conform(&self.facts)
     }
 }

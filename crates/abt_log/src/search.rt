@@ -1,11 +1,13 @@
 //! Searches of a list of facts, the oldest first. Each goes through the whole list, and the newest fact decides.
 ghost use Rattle.std.specs.Prelude.{◌≡◌, reverse, nat_lt};
-ghost use Rattle.abt_log.specs.Kept.{asked_in};
+ghost use Rattle.std.specs.List.{list_all};
+ghost use Rattle.abt_log.specs.Kept.{asked_in, conforms_if_arrived};
 ghost use Rattle.abt_facts.specs.Requests.{mark_of};
 ghost use Rattle.abt_facts.specs.Sent.{was_passed, was_shut, was_turned, was_back};
 ghost use Rattle.abt_facts.specs.Cells.{moment_of, after_last_of, last_arrival_of};
 
 use abt_facts::Fact;
+use abt_gcra::Verdict;
 use abt_rate::Rate;
 
 #[tactic(auto, using(crate::proofs::Searches::newest_next))]
@@ -145,4 +147,19 @@ pub(crate) fn was_back(facts: &[Fact], seq: u32, hop: u16) -> bool
         }
     }
     found
+}
+
+fn conforms_if_arrived(fact: &Fact) -> bool
+    ensures { result ≡ conforms_if_arrived fact.now }
+{
+    match fact {
+        Fact::Arrived { verdict, .. } => *verdict == Verdict::Conforming,
+        _ => true,
+    }
+}
+
+pub(crate) fn all_conform(facts: &[Fact]) -> bool
+    ensures { result ≡ list_all conforms_if_arrived facts.now }
+{
+    facts.iter().all(|fact| conforms_if_arrived(fact))
 }

@@ -5,3 +5,4 @@ mod Happening
 mod Standings
 mod Pushing
 mod Openings
+mod Final

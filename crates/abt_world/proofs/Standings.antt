@@ -3,7 +3,8 @@ use Rattle.std.proofs.Common.{◌≡◌, ℕ, zero, suc, ◌≤◌, ◌<◌, Lis
 use Rattle.std.specs.Prelude.{Some, None, Option, option_map, slice_get, slice_set, All, MatchResult, OnOk, unwrap_or}
 use Rattle.std.proofs.lemmas.Bool.{cases_eq}
 use Rattle.std.proofs.lemmas.Option.{slice_get_past}
-use Rattle.std.proofs.lemmas.List.Elements.{All-append, All-cons, All-nil}
+use Rattle.std.proofs.lemmas.List.Elements.{All-append, All-cons, All-nil, All-take}
+use Rattle.std.proofs.Math.Seq.{take-append_seam}
 use Rattle.abt_net.specs.declared.conn.Conn.{Conn}
 use Rattle.abt_net.specs.Topology.{Topology, IsWithinRules}
 use Rattle.abt_node.specs.Table.{Table}
@@ -117,19 +118,25 @@ step_taken net events world e conn outcome course ports stands asks known low le
     )
 
 -- the headline holds whatever happened
+headline_holds : (net : Topology) (events : List Event) → IsWithinRules net → All AsksRate events → HeadlineHolds net (facts_after net events)
+headline_holds net events rules asks = record {
+  safe = every_safe net events rules asks;
+  drops = every_never_disputes net events rules asks;
+  answers = every_one_answer net events rules asks;
+  floors = every_rates_wait net events rules asks;
+  raised = every_yes_stands net events rules asks;
+  verdicts = every_arrival_conforms net events rules asks;
+  due = every_next_is_due net events rules asks;
+}
+
 pub headline_after : (net : Topology) (events : List Event) (e : Event) → IsWithinRules net → All AsksRate events → AsksRate e → HeadlineHolds net (facts_after net (events ++ e ∷ []))
-headline_after net events e rules rates asks =
-    let all = events ++ e ∷ [] in
-    let ask = all_ask events e rates asks in
-    record {
-      safe = every_safe net all rules ask;
-      drops = every_never_disputes net all rules ask;
-      answers = every_one_answer net all rules ask;
-      floors = every_rates_wait net all rules ask;
-      raised = every_yes_stands net all rules ask;
-      verdicts = every_arrival_conforms net all rules ask;
-      due = every_next_is_due net all rules ask;
-    }
+headline_after net events e rules rates asks = headline_holds net (events ++ e ∷ []) rules (all_ask events e rates asks)
+
+-- also after the first of some events
+pub headline_before : (net : Topology) (before after events : List Event) → IsWithinRules net → All AsksRate events → before ++ after ≡ events → HeadlineHolds net (facts_after net before)
+headline_before net before after events rules asks is =
+    let first : take (length before) events ≡ before = ap (take (length before)) (sym is) ∙ take-append_seam before after in
+    headline_holds net before rules (subst (All AsksRate) first (All-take AsksRate (length before) events asks))
 
 pub on_ok_holds : {A E : Type 0} {P : Type 0} (r : Result A E) → P → OnOk r P
 on_ok_holds (Ok x) p = p

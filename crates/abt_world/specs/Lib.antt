@@ -4,3 +4,4 @@ pub mod Opening
 pub mod Courses
 pub mod Readings
 pub mod Headline
+pub mod Holding

@@ -3,16 +3,23 @@
 
 mod cells;
 mod course;
+mod ends;
 mod fresh;
 mod happen;
+mod holding;
 mod hops;
 mod messages;
 mod opening;
+mod safety;
 #[cfg(test)]
 mod tests;
+mod whole;
 mod world;
 
 pub use abt_actor::SourceActor;
+pub use abt_list::Sequence;
 pub use abt_model::{Cause, Event, Heard, Outcome, SourceCommand};
 pub use abt_net::{Conn, Net, NetFault, Path};
+pub use abt_trace::Trace;
+pub use whole::run;
 pub use world::World;

@@ -4,6 +4,8 @@ mod cells;
 mod memory;
 mod messages;
 mod restarts;
+mod safety;
+mod whole;
 
 use super::*;
 use abt_cell::{Answer, Request, Vc};

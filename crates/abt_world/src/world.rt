@@ -1,21 +1,27 @@
 //! Worlds.
-ghost use Rattle.std.specs.Prelude.{◌≡◌, ◌++◌, [], ◌∷◌, List, IfOk, OnOk, MatchResult};
+ghost use Rattle.std.specs.Prelude.{◌≡◌, ◌↔◌, ◌++◌, true, [], ◌∷◌, List, IfOk, OnOk, MatchResult};
 ghost use Rattle.abt_net.specs.Topology.{Topology};
 ghost use Rattle.abt_model.specs.Outcomes.{outcome_of};
-ghost use Rattle.abt_model.specs.Run.{facts_after};
+ghost use Rattle.abt_model.specs.Run.{facts_after, outcomes_of};
+ghost use Rattle.abt_model.specs.Safe.{IsSafe};
+ghost use Rattle.abt_trace.specs.Traces.{IsTrace};
 ghost use Rattle.abt_model.specs.declared.event.Event.{Event};
 ghost use Rattle.abt_world.specs.Headline.{HeadlineHolds};
 ghost use Rattle.abt_world.specs.Readings.{rate_in, held_in, total_in};
 ghost use Rattle.abt_world.specs.Standing.{StandsFor};
 
 use crate::course::Course;
+use crate::ends::{held_of, rates_of, totals_of};
 use crate::fresh::{fresh_courses, opening_ports};
 use crate::happen::{asks_rate, conn_number};
 use crate::hops::port_at;
+use crate::safety::{cells_conform, rates_are_held, sums_fit};
+use abt_list::Sequence;
 use abt_model::{Cause, Event, Outcome};
 use abt_net::Net;
 use abt_node::Port;
 use abt_rate::Rate;
+use abt_trace::Trace;
 use std::alloc::{AllocError, Global};
 use std::marker::Model;
 
@@ -123,5 +129,37 @@ impl<'net> World<'net> {
             return None;
         }
         Some(self.ports[place].total())
+    }
+
+    /// Whether no source shapes at a rate above what a hop of its path holds for it, no port holds more than its capacity,
+    /// and each cell that arrived was found conforming (docs/GUARANTEES.md, "The headline"). It is looked up in what the
+    /// world keeps.
+    pub fn safe(&self) -> bool
+        ensures { (net : Topology) (events : List Event) → StandsFor net events self.now →
+            (result ≡ true) ↔ IsSafe net (facts_after net events) }
+    {
+        rates_are_held(self.net.conns(), &self.courses, &self.ports)
+            && sums_fit(self.net.capacities(), &self.ports)
+            && cells_conform(&self.courses)
+    }
+
+    // What is left in the end, beside what the events answered.
+    pub(crate) fn end(
+        &self,
+        alloc: Global,
+        outcomes: Sequence<Outcome>,
+    ) -> Result<Trace, AllocError>
+        ensures trace { (net : Topology) (events : List Event) → StandsFor net events self.now →
+            outcomes ≡ outcomes_of net events → IfOk result (IsTrace net events) }
+        ensures headline { (net : Topology) (events : List Event) → StandsFor net events self.now →
+            (before after : List Event) → before ++ after ≡ events → OnOk result (HeadlineHolds net (facts_after net before)) }
+    {
+        Ok(Trace {
+            outcomes,
+            rates: rates_of(alloc, &self.courses)?,
+            held: held_of(alloc, self.net.conns(), &self.ports)?,
+            totals: totals_of(alloc, &self.ports)?,
+            safe: self.safe(),
+        })
     }
 }

@@ -1,0 +1,36 @@
+use Rattle.std.proofs.Common.{◌≡◌, List, true, false, refl, sym, subst, ap, ◌∙◌}
+use Rattle.std.specs.Prelude.{map}
+use Rattle.abt_net.specs.declared.conn.Conn.{Conn}
+use Rattle.abt_net.specs.Topology.{Topology, IsWithinRules}
+use Rattle.abt_node.specs.Table.{Table, sum_of}
+use Rattle.abt_model.specs.declared.event.Event.{Event}
+use Rattle.abt_world.specs.declared.course.Course.{Course}
+use Rattle.abt_world.specs.Courses.{seen}
+use Rattle.abt_world.specs.Holding.{held_by_port}
+use Rattle.abt_world.specs.Standing.{WorldView, StandsFor}
+use Rattle.abt_world.proofs.Standings.{headline_before}
+use Rattle.abt_world.proofs.Final.{AreOfPast, rates_read, held_read, totals_read}
+use Rattle.abt_world.proofs.world.World.end.Goals as goal
+
+pub returns-clause-trace : goal.returns-clause-trace
+returns-clause-trace c net events stands said =
+    let net_is = ap (λ (w : WorldView). w.net) c.self.view_is ∙ stands.stands.net_is in
+    let rules : IsWithinRules net = subst IsWithinRules net_is c.conns.ensures.rules in
+    let conns : c.conns.result.now ≡ net.conns = c.conns.ensures.value ∙ ap (λ (n : Topology). n.conns) net_is in
+    let courses = c.self.inside.courses.items in
+    let ports = c.self.inside.ports.items in
+    let inside : StandsFor net events (record { net = c.self.inside.net.now; ports = ports; courses = map seen courses }) = subst (StandsFor net events) (sym c.self.view_is) stands in
+    let are : AreOfPast net events courses ports = record { rules = rules; stands = subst (λ n. StandsFor net events (record { net = n; ports = ports; courses = map seen courses })) net_is inside } in
+    let read = λ (ks : List Conn) (ps : List Table). map (λ (conn : Conn). map (held_by_port conn.vc ps) conn.path) ks in
+    record {
+      outcomes = said;
+      rates = c.in_ok-rates_of.ensures ∙ ap (map (λ (course : Course). course.actor.source.rate)) c.deref.ensures.value ∙ rates_read net events courses ports are;
+      held = c.in_ok-held_of.ensures ∙ ap (read c.conns.result.now) c.deref-2.ensures.value ∙ ap (λ ks. read ks ports) conns ∙ held_read net events courses ports are;
+      totals = c.in_ok-totals_of.ensures ∙ ap (map sum_of) c.deref-3.ensures.value ∙ totals_read net events courses ports are;
+      safe = c.safe.ensures net events stands;
+    }
+
+pub returns-clause-headline : goal.returns-clause-headline
+returns-clause-headline c net events stands before after is =
+    let net_is = ap (λ (w : WorldView). w.net) c.self.view_is ∙ stands.stands.net_is in
+    headline_before net before after events (subst IsWithinRules net_is c.conns.ensures.rules) stands.rates is

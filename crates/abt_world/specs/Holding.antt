@@ -1,0 +1,13 @@
+-- What ports hold for a channel, as the code reads it.
+use Rattle.std.specs.Prelude.{ℕ, Bool, nat_le, List, slice_get, option_map, option_and_then, unwrap_or}
+use Rattle.std.specs.List.{list_all}
+use Rattle.abt_cell.specs.Channel.{Channel}
+use Rattle.abt_node.specs.Table.{Table, held_at, connection_at}
+
+-- what the table of a port holds for a channel, nothing where it has no such port or channel
+abbrev pub held_by_port : Channel → List Table → ℕ → ℕ
+held_by_port vc ports p = unwrap_or (option_and_then (λ table. option_map held_at (connection_at table vc)) (slice_get ports p)) 0
+
+-- whether a rate is at most what each port of a path holds for a channel
+abbrev pub is_held_along : ℕ → Channel → List Table → List ℕ → Bool
+is_held_along rate vc ports path = list_all (λ port. nat_le rate (held_by_port vc ports port)) path

@@ -1,0 +1,43 @@
+//! What ports hold for a channel.
+ghost use Rattle.std.specs.Prelude.{◌≡◌, IfOk, map};
+ghost use Rattle.abt_world.specs.Holding.{held_by_port, is_held_along};
+
+use abt_cell::Vc;
+use abt_list::Sequence;
+use abt_node::Port;
+use abt_rate::Rate;
+use std::alloc::{AllocError, Global};
+
+// What a port holds for a channel, nothing where it doesn't know it.
+fn held_by_port(vc: Vc, ports: &[Port], port: u16) -> Rate
+    ensures { result ≡ held_by_port vc ports.now port }
+{
+    match ports.get(usize::from(port)) {
+        Some(port) => port.held(vc).unwrap_or(Rate::ZERO),
+        None => Rate::ZERO,
+    }
+}
+
+// What each port of a path holds for a channel.
+pub(crate) fn held_along(
+    alloc: Global,
+    vc: Vc,
+    path: &[u16],
+    ports: &[Port],
+) -> Result<Sequence<Rate>, AllocError>
+    ensures { IfOk result (λ held. held ≡ map (held_by_port vc ports.now) path.now) }
+{
+    let mut held = Sequence::new(alloc);
+    for port in path {
+        held.push(held_by_port(vc, ports, *port))?;
+    }
+    Ok(held)
+}
+
+// Whether a rate is at most what each port of a path holds for a channel.
+pub(crate) fn is_held(rate: Rate, vc: Vc, path: &[u16], ports: &[Port]) -> bool
+    ensures { result ≡ is_held_along rate vc ports.now path.now }
+{
+    path.iter()
+        .all(|port| rate <= held_by_port(vc, ports, *port))
+}
