@@ -77,3 +77,61 @@ fn at_the_greatest_rate_cells_may_come_at_once_and_not_in_another_order(
     ];
     tell(&rt, &mut world(rt.alloc(), &net)?, &story)
 }
+
+// The way of a request to a yes that raises the rate of the first connection.
+fn raise(rt: &impl Abort, world: &mut World<'_>, seq: u32) -> Result<(), Fail> {
+    let story = [
+        passes(0, 1, seq),
+        turns(0, seq),
+        passes_back(0, 1, seq, true),
+        hears(0, seq, true, Heard::Raised),
+    ];
+    tell(rt, world, &story)
+}
+
+// 400 cells per second are 2.5 milliseconds apart, 1,000 one. The moment of the next cell is that of the rate at which the last
+// one left, whatever was asked since, and each cell comes as early as its line and the policer allow.
+#[test]
+fn cells_of_two_rates_on_one_connection_conform(rt: HostRuntime) -> Result<(), Fail> {
+    let net = lone(rt.alloc())?;
+    let mut world = world(rt.alloc(), &net)?;
+    let first = [starts(0, 0), (ask(0, 0x5120), asked(100, 1, 0, 0x5120)?)];
+    tell(&rt, &mut world, &first)?;
+    raise(&rt, &mut world, 1)?;
+    let slow = [
+        emits(1000000000000, 0, 1002500000000),
+        (ask(0, 0x53e8), asked(100, 2, 0x5120, 0x53e8)?),
+        conforms(0, 1000000001200),
+    ];
+    tell(&rt, &mut world, &slow)?;
+    raise(&rt, &mut world, 2)?;
+    let soon = ShapeFault::TooSoon {
+        next: 1002500000000,
+    };
+    let fast = [
+        (emit(1002499999999), Outcome::EmitRefused(soon)),
+        emits(1002500000000, 1, 1003500000000),
+        (ask(0, 0x5120), asked(100, 3, 0x5120, 0x5120)?),
+        emits(1003500000000, 2, 1006000000000),
+        conforms(1, 1002500001000),
+        passes(0, 1, 3),
+        conforms(2, 1003500001000),
+    ];
+    tell(&rt, &mut world, &fast)?;
+    assert!(rt; world.safe());
+    Ok(())
+}
+
+#[test]
+fn a_cell_under_way_arrives_though_its_source_has_crashed(rt: HostRuntime) -> Result<(), Fail> {
+    let net = lone(rt.alloc())?;
+    let mut world = world(rt.alloc(), &net)?;
+    has_emitted_one(&rt, &mut world)?;
+    let story = [
+        crashes(0),
+        starts(0, 6000000000000),
+        (emit(6000000000000), Outcome::EmitRefused(ShapeFault::Zero)),
+        conforms(0, 6000000001000),
+    ];
+    tell(&rt, &mut world, &story)
+}

@@ -65,3 +65,16 @@ fn a_source_starts_at_the_greatest_moment_and_not_later(rt: HostRuntime) -> Resu
     let story = [(late, refused), starts(0, 2305841009213693952)];
     tell(&rt, &mut world(rt.alloc(), &net)?, &story)
 }
+
+#[test]
+fn a_source_never_starts_before_its_last_start(rt: HostRuntime) -> Result<(), Fail> {
+    let net = lone(rt.alloc())?;
+    let early = Event::Start { conn: 0, now: 8 };
+    let story = [
+        starts(0, 9),
+        crashes(0),
+        cannot(early, Cause::ClockBack),
+        starts(0, 9),
+    ];
+    tell(&rt, &mut world(rt.alloc(), &net)?, &story)
+}
