@@ -1,6 +1,6 @@
 -- What is read off the connections and ports of a world in the end is what its past gives.
-use Rattle.std.proofs.Common.{◌≡◌, ℕ, zero, suc, ◌+◌, ◌-◌, ◌≤◌, ◌<◌, Bool, true, false, List, [], ◌∷◌, inl, inr, refl, sym, subst, ap, ◌∙◌, arith, length, map}
-use Rattle.std.specs.Prelude.{Some, None, Option, option_map, option_and_then, unwrap_or, slice_get, slice_index, nat_le, if◌then◌else◌}
+use Rattle.std.proofs.Common.{◌≡◌, ℕ, suc, ◌+◌, ◌-◌, ◌≤◌, ◌<◌, Bool, true, List, [], ◌∷◌, inl, inr, refl, sym, subst, ap, ◌∙◌, arith, length, map}
+use Rattle.std.specs.Prelude.{Some, None, Option, option_map, option_and_then, unwrap_or, slice_get, slice_index, nat_le}
 use Rattle.std.specs.List.{list_all, zip, enumerate_from}
 use Rattle.std.proofs.lemmas.Bool.Decides.{nat_tests}
 use Rattle.std.proofs.lemmas.Bool.{cond-true}
@@ -14,7 +14,6 @@ use Rattle.abt_log.specs.Kept.{conforms_if_arrived}
 use Rattle.abt_net.specs.declared.conn.Conn.{Conn}
 use Rattle.abt_net.specs.Topology.{Topology, IsWithinRules}
 use Rattle.abt_node.specs.Table.{Table, sum_of, held_at, connection_at}
-use Rattle.abt_model.specs.declared.connection_fact.ConnectionFact.{ConnectionFact}
 use Rattle.abt_model.specs.declared.event.Event.{Event}
 use Rattle.abt_model.specs.Answers.{is_hop}
 use Rattle.abt_model.specs.Conns.{conn_at}
@@ -22,7 +21,7 @@ use Rattle.abt_model.specs.Past.{facts_of}
 use Rattle.abt_model.specs.PortTable.{port_table}
 use Rattle.abt_model.specs.Reserved.{reserved_on}
 use Rattle.abt_model.specs.Run.{facts_after}
-use Rattle.abt_model.specs.Safe.{AllConform, IsSafe}
+use Rattle.abt_model.specs.Safe.{AllConform}
 use Rattle.abt_model.proofs.Sums.{facts_after_lawful}
 use Rattle.abt_model.proofs.Tables.{totals_reserved}
 use Rattle.abt_model.proofs.EveryPasts.{every_safe}
@@ -30,9 +29,9 @@ use Rattle.abt_model.proofs.Worlds.{cases_option}
 use Rattle.abt_trace.specs.Traces.{rates_after, held_after, held_along, totals_after}
 use Rattle.abt_world.specs.declared.course.Course.{Course}
 use Rattle.abt_world.specs.Courses.{seen}
-use Rattle.abt_world.specs.Holding.{held_by_port, is_held_along}
-use Rattle.abt_world.specs.Standing.{CourseView, WorldView, course_of, IsOfPast, StandsFor}
-use Rattle.abt_world.specs.Steps.{IsConnAt, ArePorts, port_at}
+use Rattle.abt_safety.specs.Holding.{held_by_port, is_held_along}
+use Rattle.abt_world.specs.Standing.{CourseView, course_of, StandsFor}
+use Rattle.abt_world.specs.Steps.{IsConnAt, port_at}
 use Rattle.abt_world.proofs.Arriving.{rate_there}
 use Rattle.abt_model.proofs.Served.{conn_within}
 use Rattle.abt_world.proofs.Serving.{port_has}

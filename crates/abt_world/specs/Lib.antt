@@ -4,4 +4,3 @@ pub mod Opening
 pub mod Courses
 pub mod Readings
 pub mod Headline
-pub mod Holding

@@ -3,14 +3,14 @@ ghost use Rattle.std.specs.Prelude.{◌≡◌, IfOk, map};
 ghost use Rattle.abt_net.specs.declared.conn.Conn.{Conn};
 ghost use Rattle.abt_node.specs.Table.{sum_of};
 ghost use Rattle.abt_world.specs.declared.course.Course.{Course};
-ghost use Rattle.abt_world.specs.Holding.{held_by_port};
+ghost use Rattle.abt_safety.specs.Holding.{held_by_port};
 
 use crate::course::Course;
-use crate::holding::held_along;
 use abt_list::Sequence;
 use abt_net::Conn;
 use abt_node::Port;
 use abt_rate::Rate;
+use abt_safety::held_along;
 use std::alloc::{AllocError, Global};
 
 // The rate of each source.

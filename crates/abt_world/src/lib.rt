@@ -6,13 +6,10 @@ mod course;
 mod ends;
 mod fresh;
 mod happen;
-mod holding;
 mod hops;
 mod messages;
 mod opening;
 mod safety;
-#[cfg(test)]
-mod tests;
 mod whole;
 mod world;
 

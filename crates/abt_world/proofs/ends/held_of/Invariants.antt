@@ -1,6 +1,6 @@
 use Rattle.std.proofs.Common.{◌≡◌, map, take}
 use Rattle.abt_net.specs.declared.conn.Conn.{Conn}
-use Rattle.abt_world.specs.Holding.{held_by_port}
+use Rattle.abt_safety.specs.Holding.{held_by_port}
 use Rattle.abt_world.proofs.ends.held_of.Given as goal
 
 abbrev pub invariant-loop-conn : goal.invariant-loop-conn

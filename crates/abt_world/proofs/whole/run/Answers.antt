@@ -1,4 +1,4 @@
-use Rattle.std.proofs.Common.{◌≡◌, ◌+◌, ◌<◌, List, [], ◌∷◌, ◌++◌, sym, subst, ap, ◌∙◌, length, take, arith}
+use Rattle.std.proofs.Common.{◌≡◌, ◌+◌, ◌<◌, [], ◌∷◌, ◌++◌, sym, subst, ap, ◌∙◌, length, take, arith}
 use Rattle.std.proofs.lemmas.List.{take_more, take_all}
 use Rattle.abt_model.specs.declared.event.Event.{Event}
 use Rattle.abt_model.specs.declared.outcome.Outcome.{Outcome}

@@ -1,12 +1,11 @@
-use Rattle.std.proofs.Common.{◌≡◌, List, true, false, refl, sym, subst, ap, ◌∙◌}
+use Rattle.std.proofs.Common.{◌≡◌, List, sym, subst, ap, ◌∙◌}
 use Rattle.std.specs.Prelude.{map}
 use Rattle.abt_net.specs.declared.conn.Conn.{Conn}
 use Rattle.abt_net.specs.Topology.{Topology, IsWithinRules}
 use Rattle.abt_node.specs.Table.{Table, sum_of}
-use Rattle.abt_model.specs.declared.event.Event.{Event}
 use Rattle.abt_world.specs.declared.course.Course.{Course}
 use Rattle.abt_world.specs.Courses.{seen}
-use Rattle.abt_world.specs.Holding.{held_by_port}
+use Rattle.abt_safety.specs.Holding.{held_by_port}
 use Rattle.abt_world.specs.Standing.{WorldView, StandsFor}
 use Rattle.abt_world.proofs.Standings.{headline_before}
 use Rattle.abt_world.proofs.Final.{AreOfPast, rates_read, held_read, totals_read}

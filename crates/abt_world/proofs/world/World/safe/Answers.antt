@@ -1,15 +1,14 @@
-use Rattle.std.proofs.Common.{◌≡◌, ℕ, List, true, false, sym, subst, ap, ◌∙◌}
+use Rattle.std.proofs.Common.{◌≡◌, ℕ, List, true, sym, subst, ap, ◌∙◌}
 use Rattle.std.specs.Prelude.{map, nat_le}
 use Rattle.std.specs.List.{list_all, zip}
 use Rattle.abt_net.specs.declared.conn.Conn.{Conn}
 use Rattle.abt_net.specs.Topology.{Topology, IsWithinRules}
 use Rattle.abt_node.specs.Table.{Table, sum_of}
-use Rattle.abt_model.specs.declared.event.Event.{Event}
 use Rattle.abt_model.proofs.EveryPasts.{every_safe}
 use Rattle.abt_log.specs.Kept.{conforms_if_arrived}
 use Rattle.abt_world.specs.declared.course.Course.{Course}
 use Rattle.abt_world.specs.Courses.{seen}
-use Rattle.abt_world.specs.Holding.{is_held_along}
+use Rattle.abt_safety.specs.Holding.{is_held_along}
 use Rattle.abt_world.specs.Standing.{WorldView, StandsFor}
 use Rattle.abt_world.proofs.Final.{AreOfPast, rates_pass, sums_pass, cells_pass}
 use Rattle.abt_world.proofs.world.World.safe.Goals as goal

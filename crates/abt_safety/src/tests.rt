@@ -1,11 +1,10 @@
 //! Values of no world that can be, so that what looks for them is seen to find them.
 use super::*;
-use crate::course::Course;
-use crate::holding::is_held;
-use crate::safety::{cells_conform, fits};
-use abt_facts::Fact;
-use abt_log::Log;
+use abt_cell::{Request, Vc};
 use abt_node::Port;
+use abt_rate::Rate;
+use std::alloc::{AllocError, Global};
+use std::test::Fail;
 
 /// Two ports of 1,000 cells per second, of which the first holds 600 for the channel and the second 400.
 fn ports_with(alloc: Global, vc: Vc) -> Result<Vec<Port>, AllocError> {
@@ -42,6 +41,21 @@ fn a_rate_one_step_above_what_a_hop_holds_is_found(rt: HostRuntime) -> Result<()
     Ok(())
 }
 
+// A list of what is held; where memory was refused, it is asked for once more.
+#[test]
+fn what_each_hop_holds_is_listed_in_order(rt: HostRuntime) -> Result<(), Fail> {
+    let vc = Vc::new(1, 100).unwrap();
+    let ports = ports(rt.alloc(), vc)?;
+    let path = [1, 0, 2];
+    let held = match held_along(rt.alloc(), vc, &path, &ports) {
+        Ok(held) => held,
+        Err(_) => held_along(rt.alloc(), vc, &path, &ports)?,
+    };
+    let expected = [Rate::from_code(0x5120), Rate::from_code(0x5258), Rate::ZERO];
+    assert_eq!(rt; held.as_slice(), expected.as_slice());
+    Ok(())
+}
+
 #[test]
 fn a_port_that_is_not_there_holds_nothing(rt: HostRuntime) -> Result<(), Fail> {
     let (vc, other) = (Vc::new(1, 100).unwrap(), Vc::new(1, 101).unwrap());
@@ -54,28 +68,12 @@ fn a_port_that_is_not_there_holds_nothing(rt: HostRuntime) -> Result<(), Fail> {
 }
 
 #[test]
-fn a_sum_one_above_its_capacity_is_found(rt: HostRuntime) {
+fn a_sum_one_above_its_capacity_is_found(rt: HostRuntime) -> Result<(), Fail> {
     assert!(rt; fits(512000, 512000));
     assert!(rt; !fits(512001, 512000));
-}
-
-#[test]
-fn a_cell_that_came_too_early_is_found(rt: HostRuntime) -> Result<(), Fail> {
-    for verdict in [Verdict::Conforming, Verdict::TooEarly, Verdict::NoRate] {
-        let mut log = Log::new(rt.alloc());
-        if log.reserve().is_err() {
-            log.reserve()?;
-        }
-        log.note(Fact::Arrived {
-            cell: 0,
-            at: 5,
-            rate: Rate::from_code(0x5120),
-            verdict,
-        });
-        log.note(Fact::Crashed);
-        let actor = SourceActor::new(Vc::new(1, 100).unwrap());
-        let courses = [Course { actor, log }];
-        assert_eq!(rt; cells_conform(&courses), verdict == Verdict::Conforming);
-    }
+    let ports = ports(rt.alloc(), Vc::new(1, 100).unwrap())?;
+    assert!(rt; sums_fit(&[307200, 204800], &ports));
+    assert!(rt; !sums_fit(&[307199, 204800], &ports));
+    assert!(rt; !sums_fit(&[307200, 204799], &ports));
     Ok(())
 }

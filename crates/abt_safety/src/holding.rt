@@ -1,6 +1,6 @@
 //! What ports hold for a channel.
 ghost use Rattle.std.specs.Prelude.{◌≡◌, IfOk, map};
-ghost use Rattle.abt_world.specs.Holding.{held_by_port, is_held_along};
+ghost use Rattle.abt_safety.specs.Holding.{held_by_port, is_held_along};
 
 use abt_cell::Vc;
 use abt_list::Sequence;
@@ -18,8 +18,9 @@ fn held_by_port(vc: Vc, ports: &[Port], port: u16) -> Rate
     }
 }
 
-// What each port of a path holds for a channel.
-pub(crate) fn held_along(
+/// What each port of a path holds for a channel, the first hop's first, and nothing where a port isn't there or doesn't know
+/// the channel. A path has the numbers of its ports.
+pub fn held_along(
     alloc: Global,
     vc: Vc,
     path: &[u16],
@@ -34,8 +35,8 @@ pub(crate) fn held_along(
     Ok(held)
 }
 
-// Whether a rate is at most what each port of a path holds for a channel.
-pub(crate) fn is_held(rate: Rate, vc: Vc, path: &[u16], ports: &[Port]) -> bool
+/// Whether a rate is at most what each port of a path holds for a channel.
+pub fn is_held(rate: Rate, vc: Vc, path: &[u16], ports: &[Port]) -> bool
     ensures { result ≡ is_held_along rate vc ports.now path.now }
 {
     path.iter()

@@ -1,19 +1,19 @@
 //! Stories: lists of events, each with what it answers. The rates are those of docs/RULES.md, "Rates": codes 5120, 5258
 //! and 53e8 are 400, 600 and 1,000 cells per second, 7fff is the greatest.
 mod cells;
+mod logs;
 mod memory;
 mod messages;
 mod restarts;
-mod safety;
 mod whole;
 
-use super::*;
 use abt_cell::{Answer, Request, Vc};
 use abt_gcra::Verdict;
 use abt_keep::StorePlan;
 use abt_node::{Back, Onward};
 use abt_rate::Rate;
 use abt_shaper::ShapeFault;
+use abt_world::{Cause, Conn, Event, Heard, Net, NetFault, Outcome, Path, Trace, World, run};
 use std::alloc::{AllocError, Global};
 use std::process::Abort;
 use std::test::Fail;
