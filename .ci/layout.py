@@ -12,6 +12,7 @@ DOCUMENTS = [
     "docs/FORMATS.md",
     "docs/GUARANTEES.md",
     "docs/READING.md",
+    "docs/SCENARIOS.md",
     "docs/TESTING.md",
     "docs/DECISIONS.md",
 ]

@@ -3,8 +3,10 @@ use Rattle.std.specs.Prelude.{◌≡◌, ℕ, ◌^◌, ◌≤◌, ◌⊎◌, ⊤
 use Rattle.std.specs.Io.KnownBytes.{Appends, Keeps}
 use Rattle.std.specs.declared.alloc.Global.{Global}
 use Rattle.abt_text.specs.Text.{Text}
-use Rattle.abt_text.specs.Streams.{AppendsPrefix}
-use Rattle.abt.specs.Names.{fault_line}
+use Rattle.abt_text.specs.Streams.{AppendsPrefix, ConsumesAtMost}
+use Rattle.abt_scenario.specs.Engine.{Reports, Leaves}
+use Rattle.abt_scenario.specs.declared.engine.EngineFault.{EngineFault}
+use Rattle.abt.specs.Names.{fault_line, fault_of_engine}
 use Rattle.abt.specs.RateText.{rate_text}
 use Rattle.abt.specs.CellText.{cell_text}
 use Rattle.abt.specs.PortText.{port_text}
@@ -14,7 +16,7 @@ use Rattle.abt.specs.declared.plan.WordsFault.{WordsFault}
 use Rattle.abt.specs.declared.plan.WordsFault.TheVariants.{Words, Help}
 use Rattle.abt.specs.declared.plan.WordsFault.TheVariants as words_fault
 use Rattle.abt.specs.declared.plan.Plan.{Plan}
-use Rattle.abt.specs.declared.plan.Plan.TheVariants.{Rate, Cell, Port}
+use Rattle.abt.specs.declared.plan.Plan.TheVariants.{Rate, Cell, Port, Run}
 
 abbrev pub IsWithinLimits : Plan → Type 0
 IsWithinLimits (Port capacity cells) = capacity ≤ 2 ^ 60
@@ -24,21 +26,42 @@ IsWithinLimits _ = ⊤
 abbrev pub texts_of : List (String Global) → List Text
 texts_of texts = map string_bytes texts
 
--- the whole text of a plan, or why there is none
-abbrev pub outcome_of : Plan → Result Text Fault
-outcome_of (Rate code) = rate_text (string_bytes code)
-outcome_of (Cell hex) = cell_text (string_bytes hex)
-outcome_of (Port capacity cells) = Ok (port_text capacity (texts_of cells.items))
+-- a text without where it lies in memory
+abbrev pub text_seen : Result (String Global) Fault → Result Text Fault
+text_seen (Ok text) = Ok (string_bytes text)
+text_seen (Err fault) = Err fault
 
--- a plan's text went out, all of it
-abbrev pub Prints : Plan → Option Text → Option Text → Type 0
-Prints plan old new = IsOkAnd (outcome_of plan) (Appends old new)
+-- what a plan prints went out, all of it, where this is what the reader had left
+abbrev pub Prints : Plan → (left old new : Option Text) → Type 0
+Prints (Rate code) left old new = IsOkAnd (rate_text (string_bytes code)) (Appends old new)
+Prints (Cell hex) left old new = IsOkAnd (cell_text (string_bytes hex)) (Appends old new)
+Prints (Port capacity cells) left old new = Appends old new (port_text capacity (texts_of cells.items))
+Prints (Run file) left old new = Reports left old new
 
--- what went out where a plan isn't done for this fault
-abbrev pub EndsBy : Fault → Plan → Option Text → Option Text → Type 0
-EndsBy Write plan old new = IsOkAnd (outcome_of plan) (AppendsPrefix old new)
-EndsBy Memory plan old new = Keeps old new
-EndsBy fault plan old new = (outcome_of plan ≡ Err fault) × Keeps old new
+-- What went out where the text, or fault, that was to be printed isn't printed for this fault: a part of the text where the
+-- output failed, and else nothing, since memory was refused, or there is no text.
+abbrev pub EndsTextBy : Fault → Result Text Fault → Option Text → Option Text → Type 0
+EndsTextBy fault exact old new =
+    ((fault ≡ Write) × IsOkAnd exact (AppendsPrefix old new))
+    ⊎ (((fault ≡ Memory) ⊎ (exact ≡ Err fault)) × Keeps old new)
+
+-- the same of a scenario's report
+pub record EndsRunBy (fault : Fault) (left old new : Option Text) : Type 0 where
+  pub engine_fault : EngineFault
+  pub named : fault ≡ fault_of_engine engine_fault
+  pub leaves : Leaves engine_fault left old new
+
+-- the same of each plan
+abbrev pub EndsBy : Fault → Plan → (left old new : Option Text) → Type 0
+EndsBy fault (Rate code) left old new = EndsTextBy fault (rate_text (string_bytes code)) old new
+EndsBy fault (Cell hex) left old new = EndsTextBy fault (cell_text (string_bytes hex)) old new
+EndsBy fault (Port capacity cells) left old new = EndsTextBy fault (Ok (port_text capacity (texts_of cells.items))) old new
+EndsBy fault (Run file) left old new = EndsRunBy fault left old new
+
+-- what a plan takes of the reader: nothing, but a scenario's text
+abbrev pub ReadsFor : Plan → (old new : Option Text) → Type 0
+ReadsFor (Run file) old new = ConsumesAtMost old new 16777217
+ReadsFor _ old new = Keeps old new
 
 -- a text went out as far as the writer took it
 abbrev pub Tells : Text → Option Text → Option Text → Type 0
@@ -49,9 +72,9 @@ abbrev pub TellsFault : Fault → Option Text → Option Text → Type 0
 TellsFault fault old new = Tells (fault_line fault) old new ⊎ Tells (fault_line Memory) old new
 
 -- A plan that isn't done: why, what went out of its text, and what was told.
-pub record IsRefused (plan : Plan) (old new errors_old errors_new : Option Text) : Type 0 where
+pub record IsRefused (plan : Plan) (left old new errors_old errors_new : Option Text) : Type 0 where
   pub fault : Fault
-  pub printed : EndsBy fault plan old new
+  pub printed : EndsBy fault plan left old new
   pub told : TellsFault fault errors_old errors_new
 
 -- What is answered where words are no plan: help, all of it, on standard output with status 0; what is told of words that

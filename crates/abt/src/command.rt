@@ -12,6 +12,9 @@ pub const HEX: &str = "HEX";
 /// The capacity of `abt port`.
 pub const CAPACITY: &str = "CAPACITY";
 
+/// The scenario of `abt run`.
+pub const FILE: &str = "FILE";
+
 /// The command line behind the program's name.
 pub fn command<'a>(alloc: Global) -> Result<Command<'a>, AllocError> {
     Command::new(alloc, "abt")
@@ -22,7 +25,8 @@ pub fn command<'a>(alloc: Global) -> Result<Command<'a>, AllocError> {
         .after_help(EXAMPLES)
         .subcommand(rate_command(alloc)?)?
         .subcommand(cell_command(alloc)?)?
-        .subcommand(port_command(alloc)?)
+        .subcommand(port_command(alloc)?)?
+        .subcommand(run_command(alloc)?)
 }
 
 fn rate_command<'a>(alloc: Global) -> Result<Command<'a>, AllocError> {
@@ -62,12 +66,23 @@ fn port_command<'a>(alloc: Global) -> Result<Command<'a>, AllocError> {
         .arg(cells)
 }
 
+fn run_command<'a>(alloc: Global) -> Result<Command<'a>, AllocError> {
+    let file = Arg::new(alloc, FILE).help(
+        "The scenario, a TOML text; without a file it is read from the standard input",
+    );
+    Command::new(alloc, "run")
+        .about("Run a scenario, and report what each of its events answered")
+        .after_help(RUN_EXAMPLE)
+        .arg(file)
+}
+
 const EXAMPLES: &str = "Examples:
   abt rate 53e8
   abt cell 0010064c02045258000000000000000000000001\
 6a6a6a6a6a6a6a6a6a6a6a6a6a6a6a6a6a6a6a6a6a6a6a6a6a6a6a6a6a6a038c
   abt port 512000 0010064c02045258000000000000000000000001\
 6a6a6a6a6a6a6a6a6a6a6a6a6a6a6a6a6a6a6a6a6a6a6a6a6a6a6a6a6a6a038c
+  abt run scenarios/one_source.toml
 What each prints is shown by its own help, as abt help port.";
 
 const RATE_EXAMPLE: &str = "Example:
@@ -85,3 +100,11 @@ const PORT_EXAMPLE: &str = "Example:
   1 pass 0010064c02045258000000000000000000000001\
 6a6a6a6a6a6a6a6a6a6a6a6a6a6a6a6a6a6a6a6a6a6a6a6a6a6a6a6a6a6a038c
   total 307200";
+
+const RUN_EXAMPLE: &str = "Example:
+  printf 'ports = [512000]\\nevents = [\"start 0 0\"]\\n' | abt run
+  events 1
+  1 not-enabled Unknown
+  port 0 total 0 capacity 512000
+  safe
+How scenarios and reports are written stands in docs/FORMATS.md, and scenarios/ has examples.";

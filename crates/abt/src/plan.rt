@@ -11,6 +11,8 @@ pub enum Plan {
     Cell(String),
     /// Serve RM cells, as hexadecimal text, at one port of this capacity in units of 1/512 cell/s.
     Port { capacity: u64, cells: Vec<String> },
+    /// Run the scenario of this file, or of the standard input, and print its report.
+    Run(Option<String>),
 }
 
 /// Why words are no plan.

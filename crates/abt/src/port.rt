@@ -106,8 +106,7 @@ fn drop_text(alloc: Global, cause: DropCause) -> Result<String, AllocError>
 fn fault_text(alloc: Global, fault: Fault) -> Result<String, AllocError>
     ensures { IfOk result (λ text. string_bytes text ≡ fault_text fault) }
 {
-    let name = fault.name();
-    format!(in alloc; "fault {name}")
+    format!(in alloc; "fault {fault}")
 }
 
 fn cause_name(cause: DropCause) -> &'static str

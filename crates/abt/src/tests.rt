@@ -4,6 +4,7 @@ mod memory;
 mod plans;
 mod ports;
 mod rates;
+mod runs;
 mod streams;
 
 ghost use Rattle.std.specs.Prelude.{IfOk};

@@ -2,7 +2,7 @@
 ghost use Rattle.std.specs.Prelude.{IfOk};
 ghost use Rattle.abt.specs.Plans.{IsWithinLimits};
 
-use crate::command::{CAPACITY, CODE, HEX, command};
+use crate::command::{CAPACITY, CODE, FILE, HEX, command};
 use crate::plan::{Plan, WordsFault};
 use abt_node::CAPACITY_MAX;
 use clap::ArgMatches;
@@ -26,6 +26,7 @@ pub fn plan_words<'a>(alloc: Global, words: &'a [&'a str]) -> Result<Plan, Words
         Some(("rate", found)) => Ok(Plan::Rate(text_of(alloc, found, CODE)?)),
         Some(("cell", found)) => Ok(Plan::Cell(text_of(alloc, found, HEX)?)),
         Some(("port", found)) => port_plan(alloc, found),
+        Some(("run", found)) => Ok(Plan::Run(file_of(alloc, found)?)),
         _ => no_plan(alloc, "no such command"),
     }
 }
@@ -53,6 +54,14 @@ fn port_plan(alloc: Global, found: &ArgMatches<'_>) -> Result<Plan, WordsFault>
 // Whether a text is digits alone: `clap` takes a plus sign as well.
 fn is_digits(text: &str) -> bool {
     text.bytes().all(|octet| octet.is_ascii_digit())
+}
+
+// The file that is named, if one is.
+fn file_of(alloc: Global, found: &ArgMatches<'_>) -> Result<Option<String>, AllocError> {
+    match found.get_str(FILE) {
+        Some(file) => Ok(Some(String::from_str(alloc, file)?)),
+        None => Ok(None),
+    }
 }
 
 fn no_plan(alloc: Global, why: &str) -> Result<Plan, WordsFault>

@@ -1,12 +1,18 @@
--- What a fault says of the text that a reader had left.
-use Rattle.std.specs.Prelude.{◌<◌, ◌≤◌, ⊤, length, Err}
+-- What is made of the text that a reader had left, where it is known.
+use Rattle.std.specs.Prelude.{◌≡◌, ◌<◌, ◌≤◌, ⊤, true, length, Option, IfSome, Ok, Err}
 use Rattle.std.specs.Str.{IsUtf8}
+use Rattle.std.specs.Io.KnownBytes.{Appends, Keeps}
+use Rattle.abt_report.specs.Report.{report_of}
+use Rattle.abt_text.specs.Streams.{AppendsPrefix}
 use Rattle.abt_text.specs.Text.{Text}
+use Rattle.abt_trace.specs.Traces.{IsTrace}
+use Rattle.abt_trace.specs.declared.trace.Trace.{Trace}
 use Rattle.abt_scenario.specs.declared.engine.EngineFault.{EngineFault}
 use Rattle.abt_scenario.specs.declared.engine.EngineFault.TheVariants.{Read, TooLong, NotUtf8, Scenario, Write, Memory}
+use Rattle.abt_scenario.specs.declared.scenario.Scenario as declared
 use Rattle.abt_scenario.specs.Scenarios.{Reads}
 
--- The text is no longer than a scenario may be, which is 16 MiB.
+-- The text has at most as many octets as a scenario's.
 abbrev pub IsOfLength : Text → Type 0
 IsOfLength text = length text ≤ 16777216
 
@@ -18,3 +24,33 @@ Explains NotUtf8 text = IsOfLength text × (¬ IsUtf8 text)
 Explains (Scenario fault) text = IsOfLength text × Reads text (Err fault)
 Explains Write text = ⊥
 Explains Memory text = ⊤
+
+-- The text is the report of the scenario's run, which is safe: so its last line says.
+pub record IsReportText (scenario : declared.Scenario) (text : Text) : Type 0 where
+  pub trace : Trace
+  pub is_trace : IsTrace scenario.net scenario.events trace
+  pub is_safe : trace.safe ≡ true
+  pub is_report : text ≡ report_of scenario.net.capacities trace
+
+-- The text is the report of the scenario that was read.
+pub record IsReportOf (left : Option Text) (text : Text) : Type 0 where
+  pub scenario : declared.Scenario
+  pub read : IfSome left (λ source. Reads source (Ok scenario))
+  pub reported : IsReportText scenario text
+
+-- That report went out, and nothing else.
+pub record Reports (left old new : Option Text) : Type 0 where
+  pub text : Text
+  pub report : IsReportOf left text
+  pub written : Appends old new text
+
+-- A part of it went out, from its beginning, and not all of it.
+pub record ReportsPart (left old new : Option Text) : Type 0 where
+  pub text : Text
+  pub report : IsReportOf left text
+  pub written : AppendsPrefix old new text
+
+-- what a fault says, and what it leaves with the writer: a part of the report where that failed, and else what was there
+abbrev pub Leaves : EngineFault → (left old new : Option Text) → Type 0
+Leaves Write left old new = ReportsPart left old new
+Leaves fault left old new = IfSome left (Explains fault) × Keeps old new

@@ -4,3 +4,4 @@ pub mod Values
 pub mod Walk
 pub mod Scenarios
 pub mod Engine
+pub mod OneAnswer

@@ -1,15 +1,17 @@
-//! Scenarios from any reader.
-ghost use Rattle.std.specs.Prelude.{◌≤◌, ◌+◌, Ok, IfOk, IfErr, IfSome, length};
+//! Scenarios from any reader, reports to any writer.
+ghost use Rattle.std.specs.Prelude.{◌≤◌, ◌≢◌, ◌+◌, Ok, IfOk, IfErr, IfSome, OnOk, length, string_bytes};
 ghost use Rattle.abt_text.specs.Streams.{ConsumesAtMost};
 ghost use Rattle.abt_scenario.specs.Scenarios.{Reads};
-ghost use Rattle.abt_scenario.specs.Engine.{Explains};
+ghost use Rattle.abt_scenario.specs.Engine.{Explains, IsReportText, Reports, Leaves};
 
 use crate::fault::ScenarioFault;
+use crate::reports::report;
 use crate::scenario::Scenario;
 use crate::text::read;
-use abt_text::{TEXT_MAX, TextFault, octets_of};
-use std::alloc::Global;
-use std::io::Read;
+use abt_text::{TEXT_MAX, TextFault, octets_of, put};
+use abt_world::run;
+use std::alloc::{AllocError, Global};
+use std::io::{Read, Write};
 use thiserror::Error;
 
 /// Why the scenario of a reader isn't read, run and reported.
@@ -41,6 +43,7 @@ pub fn read_from<R: Read>(alloc: Global, reader: &mut R) -> Result<Scenario, Eng
     ensures ok { IfOk result (λ scenario. IfSome (R.remaining reader.old) (λ text. Reads text (Ok scenario))) }
     ensures limit { IfOk result (λ _. IfSome (R.remaining reader.old) (λ text. length text ≤ TEXT_MAX)) }
     ensures err { IfErr result (λ fault. IfSome (R.remaining reader.old) (Explains fault)) }
+    ensures reads { IfErr result (λ fault. fault ≢ EngineFault.Write) }
     ensures stops { ConsumesAtMost (R.remaining reader.old) (R.remaining reader.new) (TEXT_MAX + 1) }
 {
     let octets = match octets_of(alloc, reader) {
@@ -57,4 +60,38 @@ pub fn read_from<R: Read>(alloc: Global, reader: &mut R) -> Result<Scenario, Eng
         Err(ScenarioFault::Memory) => Err(EngineFault::Memory),
         Err(fault) => Err(EngineFault::Scenario(fault)),
     }
+}
+
+/// Reads a scenario, runs it and writes its report. Nothing is written before the whole report is made; where the writer
+/// fails, or takes no octet, a part of the report went out.
+pub fn run_text<R: Read, W: Write>(
+    alloc: Global,
+    reader: &mut R,
+    writer: &mut W,
+) -> Result<(), EngineFault>
+    ensures ok { OnOk result (Reports (R.remaining reader.old) (W.contents writer.old) (W.contents writer.new)) }
+    ensures limit { OnOk result (IfSome (R.remaining reader.old) (λ text. length text ≤ TEXT_MAX)) }
+    ensures err { IfErr result (λ fault. Leaves fault (R.remaining reader.old)
+        (W.contents writer.old) (W.contents writer.new)) }
+    ensures stops { ConsumesAtMost (R.remaining reader.old) (R.remaining reader.new) (TEXT_MAX + 1) }
+{
+    let scenario = match read_from(alloc, reader) {
+        Ok(scenario) => scenario,
+        Err(fault) => return Err(fault),
+    };
+    let Ok(text) = report_of_run(alloc, &scenario) else {
+        return Err(EngineFault::Memory);
+    };
+    match put(writer, text.as_bytes()) {
+        Ok(()) => Ok(()),
+        Err(_) => Err(EngineFault::Write),
+    }
+}
+
+// The report of a scenario's run.
+fn report_of_run(alloc: Global, scenario: &Scenario) -> Result<String, AllocError>
+    ensures { IfOk result (λ text. IsReportText scenario.now (string_bytes text)) }
+{
+    let trace = run(alloc, &scenario.net, scenario.events.as_slice())?;
+    report(alloc, scenario, &trace)
 }

@@ -2,6 +2,7 @@
 //! docs/FORMATS.md, "Scenario".
 mod faults;
 mod rows;
+mod runs;
 mod streams;
 
 use crate::{Scenario, ScenarioFault, read};

@@ -29,6 +29,13 @@ fn words_are_plans(rt: HostRuntime) -> Result<(), Fail> {
         assert_eq!(rt; cells[1].as_str(), "zz");
         assert_eq!(rt; cells[2].as_str(), "");
     }
+    let Plan::Run(None) = planned(alloc, &["run"])? else {
+        return Err(Fail::from("no run of the standard input"));
+    };
+    let Plan::Run(Some(file)) = planned(alloc, &["run", "net.toml"])? else {
+        return Err(Fail::from("no run of a file"));
+    };
+    assert_eq!(rt; file.as_str(), "net.toml");
     Ok(())
 }
 
@@ -54,7 +61,7 @@ fn other_words_are_refused(rt: HostRuntime) {
     assert!(rt; is_refused(&["rate"], alloc));
     assert!(rt; is_refused(&["rate", "53e8", "53e8"], alloc));
     assert!(rt; is_refused(&["cell"], alloc));
-    assert!(rt; is_refused(&["run"], alloc));
+    assert!(rt; is_refused(&["run", "a.toml", "b.toml"], alloc));
     assert!(rt; is_refused(&["threads", "--workers", "4"], alloc));
     assert!(rt; is_refused(&["port", "--capacity", "5", A], alloc));
 }
@@ -77,6 +84,11 @@ fn help_shows_each_command_with_an_example(rt: HostRuntime) -> Result<(), Fail> 
             "port",
             "Usage: abt port <CAPACITY> <HEX>...",
             "total 307200",
+        ),
+        (
+            "run",
+            "Usage: abt run [FILE]",
+            "port 0 total 0 capacity 512000",
         ),
     ] {
         let Err(WordsFault::Help(text)) = plan_words(alloc, &[word, "--help"]) else {

@@ -3,10 +3,10 @@ use std::alloc::Global;
 use std::io::{self, Error, ErrorKind, Read};
 use std::test::Fail;
 
-// A reader that gives line feeds for ever.
+/// A reader that gives line feeds for ever.
 #[derive(Drop)]
-struct Endless {
-    given: u64,
+pub(super) struct Endless {
+    pub(super) given: u64,
 }
 
 impl Read for Endless {
@@ -19,11 +19,11 @@ impl Read for Endless {
     }
 }
 
-// A reader that gives a text one octet a call, and fails after so many calls.
+/// A reader that gives a text one octet a call, and fails after so many calls.
 #[derive(Drop)]
-struct Slow<'a> {
-    left: &'a [u8],
-    calls: usize,
+pub(super) struct Slow<'a> {
+    pub(super) left: &'a [u8],
+    pub(super) calls: usize,
 }
 
 impl<'a> Read for Slow<'a> {

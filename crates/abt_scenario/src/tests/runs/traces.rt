@@ -1,0 +1,45 @@
+//! A report of a trace that was made by hand, and that no run has.
+use super::super::{ONE, scenario};
+use crate::report;
+use abt_list::Sequence;
+use abt_model::{Cause, Outcome};
+use abt_rate::Rate;
+use abt_trace::Trace;
+use std::alloc::{AllocError, Global};
+use std::test::Fail;
+
+/// The first event was behind a fence, and a source shapes at 600 cells per second where 400 are held for it.
+fn unsafe_trace(alloc: Global) -> Result<Trace, AllocError> {
+    let low = Rate::at_most(204_800);
+    let high = Rate::at_most(307_200);
+    let fenced = Outcome::NotEnabled(Cause::Fenced);
+    let mut held = Sequence::new(alloc);
+    held.push(Sequence::from(Vec::from_slice(alloc, &[low])?))?;
+    Ok(Trace {
+        outcomes: Sequence::from(Vec::from_slice(alloc, &[fenced])?),
+        rates: Sequence::from(Vec::from_slice(alloc, &[high])?),
+        held,
+        totals: Sequence::from(Vec::from_slice(alloc, &[204_800])?),
+        safe: false,
+    })
+}
+
+#[test]
+fn a_trace_that_is_not_safe_is_reported_so(rt: HostRuntime) -> Result<(), Fail> {
+    let alloc = rt.alloc();
+    let read = scenario(alloc, ONE)?;
+    let trace = match unsafe_trace(alloc) {
+        Ok(trace) => trace,
+        Err(_) => unsafe_trace(alloc)?,
+    };
+    let text = match report(alloc, &read, &trace) {
+        Ok(text) => text,
+        Err(_) => report(alloc, &read, &trace)?,
+    };
+    assert_eq!(rt;
+        text.as_str(),
+        "events 1\n1 not-enabled Fenced\nconnection 0 rate 5258 held 5120\n\
+        port 0 total 204800 capacity 512000\nunsafe\n"
+    );
+    Ok(())
+}
