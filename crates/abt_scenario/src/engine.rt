@@ -75,10 +75,7 @@ pub fn run_text<R: Read, W: Write>(
         (W.contents writer.old) (W.contents writer.new)) }
     ensures stops { ConsumesAtMost (R.remaining reader.old) (R.remaining reader.new) (TEXT_MAX + 1) }
 {
-    let scenario = match read_from(alloc, reader) {
-        Ok(scenario) => scenario,
-        Err(fault) => return Err(fault),
-    };
+    let scenario = read_from(alloc, reader)?;
     let Ok(text) = report_of_run(alloc, &scenario) else {
         return Err(EngineFault::Memory);
     };

@@ -18,6 +18,3 @@ pub use laws::{each_text_has_one_reading, each_text_has_one_report};
 pub use reports::report;
 pub use scenario::Scenario;
 pub use text::read;
-
-#[cfg(test)]
-mod tests;

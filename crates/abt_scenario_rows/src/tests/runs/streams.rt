@@ -1,7 +1,7 @@
 //! Readers that fail, never end or give an octet a call, and writers that take less than they are handed.
 use super::super::streams::{Endless, Slow};
 use super::{EXAMPLE, EXAMPLE_REPORT};
-use crate::{EngineFault, run_text};
+use abt_scenario::{EngineFault, run_text};
 use std::alloc::Global;
 use std::io::{self, Error, ErrorKind, Write};
 use std::test::Fail;

@@ -5,7 +5,7 @@ mod rows;
 mod runs;
 mod streams;
 
-use crate::{Scenario, ScenarioFault, read};
+use abt_scenario::{Scenario, ScenarioFault, read};
 use std::alloc::Global;
 use std::test::Fail;
 

@@ -1,5 +1,5 @@
 use super::{ONE, fault};
-use crate::{Key, ScenarioFault};
+use abt_scenario::{Key, ScenarioFault};
 use abt_net::NetFault;
 use std::test::Fail;
 

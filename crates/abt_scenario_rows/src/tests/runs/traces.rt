@@ -1,6 +1,6 @@
 //! A report of a trace that was made by hand, and that no run has.
 use super::super::{ONE, scenario};
-use crate::report;
+use abt_scenario::report;
 use abt_list::Sequence;
 use abt_model::{Cause, Outcome};
 use abt_rate::Rate;

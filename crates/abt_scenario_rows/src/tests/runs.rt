@@ -4,7 +4,7 @@ mod requests;
 mod streams;
 mod traces;
 
-use crate::{EngineFault, run_text};
+use abt_scenario::{EngineFault, run_text};
 use std::alloc::Global;
 use std::process::Abort;
 use std::test::Fail;

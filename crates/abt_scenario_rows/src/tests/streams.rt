@@ -1,4 +1,4 @@
-use crate::{EngineFault, Key, Scenario, ScenarioFault, read_from};
+use abt_scenario::{EngineFault, Key, Scenario, ScenarioFault, read_from};
 use std::alloc::Global;
 use std::io::{self, Error, ErrorKind, Read};
 use std::test::Fail;
