@@ -27,6 +27,7 @@ WITHOUT_BODIES = {
     "abt_script",
     "abt_source_journal",
     "abt_trace",
+    "abt_walk",
 }
 
 

@@ -1,10 +1,9 @@
 //! What a process is given: its words, and where to say that they are no plan.
 ghost use Rattle.std.specs.Prelude.{◌≡◌, IfOk};
-ghost use Rattle.abt.specs.Plans.{IsWithinLimits, AnswersWords};
+ghost use Rattle.abt_perform.specs.Plans.{IsWithinLimits, AnswersWords};
 
-use crate::plan::{Plan, WordsFault};
-use crate::telling::{MEMORY_LINE, WRITE_LINE, tell_text};
 use crate::words::plan_words;
+use abt_perform::{MEMORY_LINE, Plan, WRITE_LINE, WordsFault, tell_text};
 use abt_text::put;
 use std::alloc::AllocGlobal;
 use std::env::{self, Env};

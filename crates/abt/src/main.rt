@@ -2,29 +2,19 @@
 //! scenario.
 #![tactic(auto)]
 
-mod cell;
 mod command;
 mod environment;
-mod fault;
-mod perform;
-mod plan;
-mod port;
-mod rate;
-mod scenario_fault;
-mod telling;
 #[cfg(test)]
 mod tests;
 mod words;
 
-ghost use Rattle.abt.specs.Plans.{IsWithinLimits};
+ghost use Rattle.abt_perform.specs.Plans.{IsWithinLimits};
 
+use abt_perform::{MEMORY_LINE, OPEN_LINE, Plan, perform, tell_text};
 use environment::{answer_words, given_plan};
-use perform::perform;
-use plan::Plan;
 use std::fs::File;
 use std::io::{ErrorKind, Stderr, Stdout};
 use std::process::ExitCode;
-use telling::{MEMORY_LINE, OPEN_LINE, tell_text};
 
 fn main(rt: HostRuntime) -> ExitCode {
     let mut out = rt.stdout();

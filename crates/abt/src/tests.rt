@@ -8,11 +8,10 @@ mod runs;
 mod streams;
 
 ghost use Rattle.std.specs.Prelude.{IfOk};
-ghost use Rattle.abt.specs.Plans.{IsWithinLimits};
+ghost use Rattle.abt_perform.specs.Plans.{IsWithinLimits};
 
-use crate::perform::perform;
-use crate::plan::{Plan, WordsFault};
 use crate::words::plan_words;
+use abt_perform::{Plan, WordsFault, perform};
 use std::alloc::Global;
 use std::io::{self, Error, ErrorKind, Write};
 use std::process::Abort;

@@ -1,10 +1,10 @@
 //! The words of a command line, and the plans that they ask for.
 ghost use Rattle.std.specs.Prelude.{IfOk};
-ghost use Rattle.abt.specs.Plans.{IsWithinLimits};
+ghost use Rattle.abt_perform.specs.Plans.{IsWithinLimits};
 
 use crate::command::{CAPACITY, CODE, FILE, HEX, command};
-use crate::plan::{Plan, WordsFault};
 use abt_node::CAPACITY_MAX;
+use abt_perform::{Plan, WordsFault};
 use clap::ArgMatches;
 use clap::error::ErrorKind;
 use std::alloc::{AllocError, Global};

@@ -1,8 +1,8 @@
 //! Each allocation of a command fails in turn where the tests are run by `rt try --test --fail-alloc N`: then its fault is
 //! told and nothing goes out, and the same call is done when it is made again.
 use super::{A, B, B2, expect};
-use crate::plan::WordsFault;
 use crate::words::plan_words;
+use abt_perform::WordsFault;
 use std::test::Fail;
 
 const THREE_LINES: &str = "1 pass 0010064c02045258000000000000000000000001\

@@ -1,6 +1,6 @@
 use super::{A, planned};
-use crate::plan::{Plan, WordsFault};
 use crate::words::plan_words;
+use abt_perform::{Plan, WordsFault};
 use std::test::Fail;
 
 #[test]

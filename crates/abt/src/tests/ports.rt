@@ -1,8 +1,7 @@
 use super::{A, B, B2, LA, NB, Narrow, YA, expect};
 use crate::cell::message_hex;
-use crate::perform::perform;
-use crate::plan::Plan;
 use abt_cell::{Request, Rm, Vc};
+use abt_perform::{Plan, perform};
 use abt_rate::Rate;
 use std::alloc::Global;
 use std::test::Fail;

@@ -1,9 +1,8 @@
 //! Rows of `abt run`, over readers that are handed in.
-ghost use Rattle.abt.specs.Plans.{IsWithinLimits};
+ghost use Rattle.abt_perform.specs.Plans.{IsWithinLimits};
 
 use super::{Narrow, planned};
-use crate::perform::perform;
-use crate::plan::Plan;
+use abt_perform::{Plan, perform};
 use std::alloc::Global;
 use std::io::{self, Error, ErrorKind, Read};
 use std::process::Abort;

@@ -1,8 +1,7 @@
-ghost use Rattle.abt.specs.Plans.{IsWithinLimits};
+ghost use Rattle.abt_perform.specs.Plans.{IsWithinLimits};
 
 use super::{Narrow, planned};
-use crate::perform::perform;
-use crate::plan::Plan;
+use abt_perform::{Plan, perform};
 use std::alloc::Global;
 use std::process::Abort;
 use std::test::Fail;

@@ -1,0 +1,106 @@
+//! Why a plan isn't done, and what is printed of it.
+ghost use Rattle.std.specs.Prelude.{◌≡◌, IfOk, Some, string_bytes};
+ghost use Rattle.abt_perform.specs.Names.{fault_name, fault_line, rm_fault_name, fault_of_engine};
+
+use crate::scenario_fault::ScenarioFaultName;
+use abt_cell::RmFault;
+use abt_scenario::{EngineFault, ScenarioFault};
+use std::alloc::{AllocError, Global};
+use std::fmt;
+
+/// Why a plan, or one cell of it, isn't done. A fault shows itself by its name and its fields (docs/FORMATS.md, "The program").
+#[derive(Clone, Copy, Debug, PartialEq, Eq)]
+pub enum Fault {
+    /// The text is no rate code: not four hexadecimal digits.
+    Code,
+    /// The text isn't hexadecimal, or has an odd number of digits.
+    Hex,
+    /// The octets aren't the 52 of a cell.
+    Length,
+    /// The cell is neither a request nor an answer.
+    Rm(RmFault),
+    /// The port has no room for another connection.
+    Full,
+    /// The input can't be read.
+    Read,
+    /// The input has more octets than a scenario may have.
+    TooLong,
+    /// The input is no UTF-8 text.
+    NotUtf8,
+    /// The input is no scenario.
+    Scenario(ScenarioFault),
+    /// The output can't be written.
+    Write,
+    /// No memory was found.
+    Memory,
+}
+
+impl From<AllocError> for Fault {
+    ghost use Rattle.abt_perform.specs.declared.fault.Fault.TheVariants.{Memory};
+
+    ghost from_gives = { λ _ fault. fault ≡ Memory };
+
+    fn from(_: AllocError) -> Fault {
+        Fault::Memory
+    }
+}
+
+impl From<EngineFault> for Fault {
+    ghost from_gives = { λ engine fault. fault ≡ fault_of_engine engine };
+
+    fn from(fault: EngineFault) -> Fault {
+        match fault {
+            EngineFault::Read => Fault::Read,
+            EngineFault::TooLong => Fault::TooLong,
+            EngineFault::NotUtf8 => Fault::NotUtf8,
+            EngineFault::Scenario(fault) => Fault::Scenario(fault),
+            EngineFault::Write => Fault::Write,
+            EngineFault::Memory => Fault::Memory,
+        }
+    }
+}
+
+impl fmt::Display for Fault {
+    ghost output = { λ fault. Some (fault_name fault) };
+
+    fn fmt<W: fmt::Write>(&self, f: &mut fmt::Formatter<W>) -> fmt::Result {
+        match self {
+            Fault::Code => write!(f, "code"),
+            Fault::Hex => write!(f, "hex"),
+            Fault::Length => write!(f, "Length"),
+            Fault::Rm(fault) => write!(f, "{}", rm_fault_name(*fault)),
+            Fault::Full => write!(f, "Full"),
+            Fault::Read => write!(f, "read"),
+            Fault::TooLong => write!(f, "TooLong"),
+            Fault::NotUtf8 => write!(f, "NotUtf8"),
+            Fault::Scenario(fault) => write!(f, "{}", ScenarioFaultName(*fault)),
+            Fault::Write => write!(f, "write"),
+            Fault::Memory => write!(f, "memory"),
+        }
+    }
+}
+
+impl Fault {
+    /// The line that tells the fault of a plan.
+    pub fn line(self, alloc: Global) -> Result<String, AllocError>
+        ensures { IfOk result (λ line. string_bytes line ≡ fault_line self) }
+    {
+        let fault = self;
+        format!(in alloc; "fault: {fault}\n")
+    }
+}
+
+fn rm_fault_name(fault: RmFault) -> &'static str
+    ensures { result.now ≡ rm_fault_name fault }
+{
+    match fault {
+        RmFault::NotRm => "NotRm",
+        RmFault::Crc => "Crc",
+        RmFault::Protocol => "Protocol",
+        RmFault::Maintenance => "Maintenance",
+        RmFault::Elastic => "Elastic",
+        RmFault::Direction => "Direction",
+        RmFault::SeqZero => "SeqZero",
+        RmFault::RateOrder => "RateOrder",
+    }
+}

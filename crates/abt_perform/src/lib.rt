@@ -1,0 +1,16 @@
+//! What the program does once its words are read: what a rate code means, what an RM cell says, what a port of a switch does with RM
+//! cells, and what a whole net does in a scenario.
+#![tactic(auto)]
+
+mod cell;
+mod fault;
+mod performing;
+mod plan;
+mod port;
+mod rate;
+mod scenario_fault;
+mod telling;
+
+pub use performing::perform;
+pub use plan::{Plan, WordsFault};
+pub use telling::{MEMORY_LINE, OPEN_LINE, WRITE_LINE, tell_text};

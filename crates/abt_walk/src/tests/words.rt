@@ -1,0 +1,156 @@
+//! What the facts of one connection say of its source: each answer is found by going through all of them (docs/RULES.md,
+//! "Facts"). Lists of facts have the oldest first.
+use abt_cell::{Request, Vc};
+use abt_facts::Fact;
+use abt_rate::Rate;
+
+/// What a source is doing.
+#[derive(Clone, Copy, Debug, PartialEq, Eq)]
+pub enum State {
+    Down,
+    /// It waits for no answer.
+    Idle,
+    /// It waits for the answer to this number.
+    Asking { seq: u32 },
+}
+
+/// What was asked for under a number.
+#[derive(Clone, Copy, Debug, PartialEq, Eq)]
+pub struct Terms {
+    pub floor: Rate,
+    pub ask: Rate,
+    /// How many cells had left before.
+    pub mark: u64,
+}
+
+/// By the last start, crash, ask or answer.
+pub fn state_after(facts: &[Fact]) -> State {
+    let mut state = State::Down;
+    for fact in facts {
+        state = match *fact {
+            Fact::Started { .. } | Fact::Heard { .. } => State::Idle,
+            Fact::Crashed => State::Down,
+            Fact::Asked { seq, .. } => State::Asking { seq },
+            _ => state,
+        };
+    }
+    state
+}
+
+/// What was asked for under a number, or None where it never was.
+pub fn asked(facts: &[Fact], number: u32) -> Option<Terms> {
+    for fact in facts {
+        if let Fact::Asked {
+            seq,
+            floor,
+            ask,
+            mark,
+        } = *fact
+        {
+            if seq == number {
+                return Some(Terms { floor, ask, mark });
+            }
+        }
+    }
+    None
+}
+
+/// The request of a number that was asked.
+pub fn request_of(vc: Vc, seq: u32, terms: Terms) -> Option<Request> {
+    Request::new(vc, seq, terms.floor, terms.ask)
+}
+
+fn answered_rate(facts: &[Fact], seq: u32, granted: bool) -> Rate {
+    match asked(facts, seq) {
+        Some(terms) if granted => terms.ask,
+        Some(terms) => terms.floor,
+        None => Rate::ZERO,
+    }
+}
+
+/// The rate at which the source shapes, by the same facts.
+pub fn rate(facts: &[Fact]) -> Rate {
+    let mut rate = Rate::ZERO;
+    for fact in facts {
+        rate = match *fact {
+            Fact::Started { .. } | Fact::Crashed => Rate::ZERO,
+            Fact::Asked { floor, .. } => floor,
+            Fact::Heard { seq, granted } => answered_rate(facts, seq, granted),
+            _ => rate,
+        };
+    }
+    rate
+}
+
+/// The greatest number that was stored.
+pub fn stored(facts: &[Fact]) -> u32 {
+    let mut greatest = 0;
+    for fact in facts {
+        if let Fact::Stored { seq } = *fact {
+            greatest = greatest.max(seq);
+        }
+    }
+    greatest
+}
+
+/// The number of the last start or ask.
+pub fn last(facts: &[Fact]) -> u32 {
+    let mut last = 0;
+    for fact in facts {
+        last = match *fact {
+            Fact::Started { number, .. } => number,
+            Fact::Asked { seq, .. } => seq,
+            _ => last,
+        };
+    }
+    last
+}
+
+/// The greatest moment of a start or an emission.
+pub fn clock(facts: &[Fact]) -> u64 {
+    let mut clock = 0;
+    for fact in facts {
+        clock = match *fact {
+            Fact::Started { now, .. } => clock.max(now),
+            Fact::Emitted { at, .. } => clock.max(at),
+            _ => clock,
+        };
+    }
+    clock
+}
+
+/// The least whole number of picoseconds which, times the units of the rate, is 512 * 10^12 or more. Zero has none.
+pub fn spacing(rate: Rate) -> Option<u64> {
+    const CELL: u64 = 512_000_000_000_000;
+    let whole = CELL.checked_div(rate.units())?;
+    if whole.saturating_mul(rate.units()) < CELL {
+        Some(whole.saturating_add(1))
+    } else {
+        Some(whole)
+    }
+}
+
+/// The first moment at which the next cell may leave: a second after the last start, or the spacing of its rate after the
+/// last cell, whichever was later.
+pub fn next(facts: &[Fact]) -> u64 {
+    let mut next: u64 = 0;
+    for fact in facts {
+        next = match *fact {
+            Fact::Started { now, .. } => now.saturating_add(1_000_000_000_000),
+            Fact::Emitted { at, rate, .. } => at.saturating_add(spacing(rate).unwrap_or(0)),
+            _ => next,
+        };
+    }
+    next
+}
+
+/// How many cells left.
+pub fn emitted(facts: &[Fact]) -> u64 {
+    let mut count: u64 = 0;
+    for fact in facts {
+        if let Fact::Emitted { .. } = *fact {
+            count = count.saturating_add(1);
+        }
+    }
+    count
+}
