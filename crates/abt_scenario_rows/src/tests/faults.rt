@@ -1,6 +1,6 @@
 use super::{ONE, fault};
-use abt_scenario::{Key, ScenarioFault};
 use abt_net::NetFault;
+use abt_scenario::{Key, ScenarioFault};
 use std::test::Fail;
 
 #[test]
