@@ -1,0 +1,96 @@
+//! A connection through 16 ports, whose every request makes 31 parcels of the one link worker: the request comes to 15 ports more,
+//! and its yes to all 16.
+use super::fixture::{LONG, START, ask, faithful, is_told, listen, net, ran};
+use abt_cell::Answer;
+use abt_journal::PortInput;
+use abt_model::{Heard, Outcome};
+use abt_net::Net;
+use abt_relay::ThreadPlan;
+use abt_script::Command;
+use abt_source_journal::SourceEntry;
+use std::alloc::Global;
+use std::test::*;
+
+const PATH: [u16; 16] = [0, 1, 2, 3, 4, 5, 6, 7, 8, 9, 10, 11, 12, 13, 14, 15];
+
+fn long_net(alloc: Global) -> Result<Net, Fail> {
+    Ok(net(alloc, 16, &[(&PATH, 1000, 200)]).ok_or("no net")?)
+}
+
+// A start, and so many requests, each with its answer.
+fn many(alloc: Global, requests: usize) -> Option<Vec<Command>> {
+    let mut script = Vec::new(alloc);
+    script.push(START).ok()?;
+    for _request in 0..requests {
+        script.push(ask(0x5258)).ok()?;
+        script.push(listen(LONG)).ok()?;
+    }
+    Some(script)
+}
+
+// Whether three entries are those of a request that was granted.
+fn is_granted(entries: &[SourceEntry], number: u32) -> bool {
+    let &[asked, sent, told] = entries else {
+        return false;
+    };
+    matches!(asked, SourceEntry::Did(_, Outcome::Asked(request)) if request.seq() == number)
+        && matches!(sent, SourceEntry::Sent { .. })
+        && is_told(&told, number)
+        && matches!(told, SourceEntry::Did(_, Outcome::Told(Heard::Raised)))
+}
+
+#[test]
+fn each_of_a_hundred_requests_is_granted(rt: HostRuntime) -> Result<(), Fail> {
+    let net = long_net(rt.alloc())?;
+    let script = many(rt.alloc(), 100).ok_or("no script")?;
+    let run = ran(&rt, rt.alloc(), &net, &[script.as_slice()], faithful(1))?;
+    let entries = run.sources[0].entries.as_slice();
+    assert_eq!(rt; entries.len(), 301);
+    let mut number = 0;
+    for granted in entries[1..].chunks(3) {
+        number += 1;
+        assert!(rt; is_granted(granted, number));
+    }
+    Ok(())
+}
+
+#[test]
+fn a_request_whose_first_parcel_is_lost_is_not_answered(rt: HostRuntime) -> Result<(), Fail> {
+    let net = long_net(rt.alloc())?;
+    let plan = ThreadPlan {
+        workers: 1,
+        drop_every: 32,
+        repeat_every: 0,
+    };
+    let script = [START, ask(0x5258), listen(LONG), ask(0x5258), listen(1000)];
+    let run = ran(&rt, rt.alloc(), &net, &[&script], plan)?;
+    let entries = run.sources[0].entries.as_slice();
+    assert_eq!(rt; entries.len(), 6);
+    assert!(rt; is_granted(&entries[1..4], 1));
+    assert!(rt; matches!(entries[5], SourceEntry::Sent { .. }));
+    assert_eq!(rt; run.journals.ports[0].len(), 3);
+    for port in &run.journals.ports[1..] {
+        assert_eq!(rt; port.len(), 2);
+    }
+    Ok(())
+}
+
+#[test]
+fn the_last_parcel_is_served_twice(rt: HostRuntime) -> Result<(), Fail> {
+    let net = long_net(rt.alloc())?;
+    let plan = ThreadPlan {
+        workers: 1,
+        drop_every: 0,
+        repeat_every: 31,
+    };
+    let script = [START, ask(0x5258), listen(LONG)];
+    let run = ran(&rt, rt.alloc(), &net, &[&script], plan)?;
+    let port = run.journals.ports[0].as_slice();
+    assert_eq!(rt; port.len(), 3);
+    let PortInput::Request(request) = port[0].input else {
+        return Err(Fail::from("no request came first"));
+    };
+    let yes = PortInput::Answer(Answer::of(&request, true));
+    assert!(rt; port[1].input == yes && port[2].input == yes);
+    Ok(())
+}
