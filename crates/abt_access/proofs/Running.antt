@@ -19,8 +19,8 @@ use Rattle.abt_script.specs.declared.command.Command.{Command}
 use Rattle.abt_script.specs.declared.command.Command.TheVariants.{Start, Ask, Again, Crash, Emit, Listen}
 use Rattle.abt_source_journal.specs.declared.entry.SourceEntry.{SourceEntry}
 use Rattle.abt_access.specs.Deeds.{Step, Deed, Does}
-use Rattle.abt_access.specs.Scripts.{arrived_after, moment_after, then_done, step_of, AreReceiptsFor, Runs, RunsScript}
-use Rattle.abt_access.specs.Sites.{HasDone, IsAfter, Obeys, Listened, HasRun, IsBehind, IsInTolerance}
+use Rattle.abt_access.specs.Scripts.{arrived_after, moment_after, then_done, step_of, AreReceiptsFor, Runs, RunsScript, IsInTolerance}
+use Rattle.abt_access.specs.Sites.{HasDone, IsAfter, Obeys, Listened, HasRun, IsBehind}
 use Rattle.abt_access.specs.declared.site.Site.{Site}
 use Rattle.abt_access.proofs.Doing.{bare, bare_done}
 

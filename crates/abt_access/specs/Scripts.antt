@@ -1,5 +1,6 @@
 -- Journals of sources that run their scripts (docs/RULES.md, "Workers").
-use Rattle.std.specs.Prelude.{◌≡◌, ℕ, ◌++◌, List, [], ◌∷◌, map, All}
+use Rattle.std.specs.Prelude.{◌≡◌, ℕ, ◌≤◌, ◌++◌, List, [], ◌∷◌, map, All}
+use Rattle.std.specs.Option.{ForSome}
 use Rattle.abt_net.specs.declared.conn.Conn.{Conn}
 use Rattle.abt_facts.specs.declared.fact.Fact.{Fact}
 use Rattle.abt_journal.specs.declared.entry.Entry.{Entry}
@@ -7,6 +8,7 @@ use Rattle.abt_journal.specs.declared.entry.Receipt.{Receipt}
 use Rattle.abt_journal.specs.declared.input.PortInput.{PortInput}
 use Rattle.abt_journal.specs.declared.input.PortInput.TheVariants.{Arrive}
 use Rattle.abt_script.specs.declared.command.Command.{Command}
+use Rattle.abt_script.specs.declared.command.Command.TheVariants.{Start, Ask, Again, Crash, Emit, Listen}
 use Rattle.abt_source_journal.specs.declared.entry.SourceEntry.{SourceEntry}
 use Rattle.abt_access.specs.Deeds.{Step, Deed, Does}
 
@@ -48,3 +50,12 @@ step_of entry = record { place = entry.place; input = entry.input }
 pub record AreReceiptsFor (port : ℕ) (steps : List Step) (receipts : List Receipt) : Type 0 where
   pub each : map (λ r. step_of r.entry) receipts ≡ steps
   pub there : All (λ r. r.port ≡ port) receipts
+
+-- A cell of a script isn't later by more than the tau of its connection, as far as it isn't lost.
+abbrev pub IsInTolerance : (tau : ℕ) → Command → Type 0
+IsInTolerance tau (Emit now jitter) = ForSome jitter (λ j. j ≤ tau)
+IsInTolerance tau (Start now) = Unit {0}
+IsInTolerance tau (Ask rate plan) = Unit {0}
+IsInTolerance tau Again = Unit {0}
+IsInTolerance tau Crash = Unit {0}
+IsInTolerance tau (Listen turns) = Unit {0}

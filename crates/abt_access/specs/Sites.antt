@@ -1,6 +1,5 @@
 -- Sources at their access lines, as their workers keep them.
 use Rattle.std.specs.Prelude.{◌≡◌, ℕ, ◌≤◌, ◌++◌, ◌∷◌, [], List, length}
-use Rattle.std.specs.Option.{ForSome}
 use Rattle.abt_cell.specs.Channel.{Channel}
 use Rattle.abt_net.specs.declared.conn.Conn.{Conn}
 use Rattle.abt_facts.specs.declared.fact.Fact.{Fact}
@@ -10,7 +9,6 @@ use Rattle.abt_actor.specs.Actor.{ActorView, actor_of}
 use Rattle.abt_actor.specs.Commands.{command_answer}
 use Rattle.abt_journal.specs.declared.entry.Receipt.{Receipt}
 use Rattle.abt_script.specs.declared.command.Command.{Command}
-use Rattle.abt_script.specs.declared.command.Command.TheVariants.{Start, Ask, Again, Crash, Emit, Listen}
 use Rattle.abt_source_journal.specs.declared.entry.SourceEntry.{SourceEntry}
 use Rattle.abt_access.specs.Deeds.{Step, Deed, did, facts_past, Hears, Does}
 use Rattle.abt_access.specs.Scripts.{arrived_after, AreReceiptsFor, Runs}
@@ -66,12 +64,3 @@ pub record HasRun (conn : Conn) (c port : ℕ) (commands : List Command) (facts 
 
 abbrev pub IsBehind : Conn → (c port : ℕ) → List Command → Site → Type 0
 IsBehind conn c port commands site = (facts : List Fact) × (steps : List Step) × HasRun conn c port commands facts steps site
-
--- A cell of a script isn't later by more than the tau of its connection, as far as it isn't lost.
-abbrev pub IsInTolerance : (tau : ℕ) → Command → Type 0
-IsInTolerance tau (Emit now jitter) = ForSome jitter (λ j. j ≤ tau)
-IsInTolerance tau (Start now) = Unit {0}
-IsInTolerance tau (Ask rate plan) = Unit {0}
-IsInTolerance tau Again = Unit {0}
-IsInTolerance tau Crash = Unit {0}
-IsInTolerance tau (Listen turns) = Unit {0}

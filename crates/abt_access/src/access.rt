@@ -5,8 +5,8 @@ ghost use Rattle.abt_journal.specs.declared.fault.ServeFault.{ServeFault};
 ghost use Rattle.abt_net.specs.Topology.{conn_at};
 ghost use Rattle.abt_net.specs.declared.conn.Conn.{Conn};
 ghost use Rattle.abt_relay.specs.Cells.{AreCellsOf};
-ghost use Rattle.abt_access.specs.Scripts.{RunsScript, AreReceiptsFor, step_of};
-ghost use Rattle.abt_access.specs.Sites.{IsGiven, Obeys, IsInTolerance};
+ghost use Rattle.abt_access.specs.Scripts.{RunsScript, IsInTolerance, step_of};
+ghost use Rattle.abt_access.specs.Sites.{IsGiven, Obeys};
 
 use crate::line::Line;
 use crate::site::Site;

@@ -3,7 +3,7 @@ use Rattle.std.proofs.Common.{◌≡◌, ℕ, zero, suc, ◌<◌, List, [], ◌�
 use Rattle.std.proofs.lemmas.Option.{slice_get-get_or}
 use Rattle.abt_net.specs.declared.conn.Conn.{Conn}
 use Rattle.abt_script.specs.declared.command.Command.{Command}
-use Rattle.abt_access.specs.Sites.{IsInTolerance}
+use Rattle.abt_access.specs.Scripts.{IsInTolerance}
 use Rattle.abt_threads.specs.Runs.{ScriptsFit}
 
 pub fits_length : (conns : List Conn) (scripts : List (List Command)) → ScriptsFit conns scripts → length scripts ≡ length conns

@@ -1,6 +1,7 @@
 -- Runs of a net in threads (docs/RULES.md, "Workers").
-use Rattle.std.specs.Prelude.{◌≡◌, ◌≢◌, ℕ, ◌+◌, ◌<◌, ◌≤◌, List, [], ◌∷◌, length, map, All, Some, slice_get, slice_index}
-use Rattle.abt_net.specs.Topology.{Topology, conn_at}
+use Rattle.std.specs.Prelude.{◌≡◌, ◌≢◌, ℕ, ◌+◌, ◌<◌, ◌≤◌, List, [], ◌∷◌, length, map, All, slice_index}
+use Rattle.abt_cell.specs.declared.message.Rm.{Rm}
+use Rattle.abt_net.specs.Topology.{Topology}
 use Rattle.abt_net.specs.declared.conn.Conn.{Conn}
 use Rattle.abt_journal.specs.declared.entry.Entry.{Entry}
 use Rattle.abt_ports.specs.Foreign.{AreHistories}
@@ -8,8 +9,8 @@ use Rattle.abt_ports.specs.Gathered.{journal_at, entries_of}
 use Rattle.abt_script.specs.declared.command.Command.{Command}
 use Rattle.abt_source_journal.specs.declared.journal.SourceJournal.{SourceJournal}
 use Rattle.abt_relay.specs.declared.plan.ThreadPlan.{ThreadPlan}
-use Rattle.abt_access.specs.Sites.{IsInTolerance}
-use Rattle.abt_access.specs.Scripts.{RunsScript, step_of}
+use Rattle.abt_relay.specs.Messages.{input_of}
+use Rattle.abt_access.specs.Scripts.{RunsScript, IsInTolerance, step_of}
 use Rattle.abt_threads.specs.declared.gathered.Gathered.{Gathered}
 
 -- There are link workers, and not too many.
@@ -36,7 +37,14 @@ AreRunsFrom c (conn ∷ conns) (script ∷ scripts) journals (source ∷ sources
     IsRunOf conn c script journals source × AreRunsFrom (c + 1) conns scripts journals sources
 AreRunsFrom c conns scripts journals sources = ⊥
 
--- What a run of threads leaves: the journal of each port is one of one thread, and each source ran its script.
-pub record IsRun (net : Topology) (scripts : List (List Command)) (run : Gathered) : Type 0 where
+-- The entry is one for a request or an answer.
+abbrev pub IsMessageEntry : Entry → Type 0
+IsMessageEntry entry = (message : Rm) × (entry.input ≡ input_of message)
+
+-- What a run of threads with so many link workers leaves: the journal of each port is one of one thread, each source ran its script,
+-- the link workers' entries are requests and answers, and there is no other caller.
+pub record IsRun (net : Topology) (scripts : List (List Command)) (workers : ℕ) (run : Gathered) : Type 0 where
   pub histories : AreHistories net run.journals
   pub sources : AreRunsFrom 0 net.conns scripts run.journals run.sources.items
+  pub links : (k p : ℕ) → k < workers → All IsMessageEntry (entries_of (length net.conns + k) (journal_at run.journals p))
+  pub callers : (p : ℕ) → All (λ e. e.caller < length net.conns + workers) (journal_at run.journals p)

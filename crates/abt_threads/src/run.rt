@@ -34,7 +34,7 @@ pub fn run_threads<R: Threads + Wait + Sync, G: Gate + Sync>(
     plan: ThreadPlan,
     gate: &G,
 ) -> Result<Gathered, RunFault>
-    ensures ok { IfOk result (IsRun net.now scripts.now) }
+    ensures ok { IfOk result (IsRun net.now scripts.now plan.workers) }
     ensures workers { IsErrOf result RunFault.Workers ↔ ¬ HasWorkers plan }
     ensures scripts { IsErrOf result RunFault.Scripts ↔ (HasWorkers plan × ¬ ScriptsFit net.now.conns scripts.now) }
     ensures wound { (seen found : ℕ) → IsErrOf result (RunFault.Wound seen found) → found < seen }

@@ -2,7 +2,7 @@
 ghost use Rattle.std.specs.Prelude.{◌≡◌, ◌<◌, ◌↔◌, IsTrue, All, Some, length, slice_get};
 ghost use Rattle.abt_net.specs.Topology.{conn_at};
 ghost use Rattle.abt_net.specs.declared.conn.Conn.{Conn};
-ghost use Rattle.abt_access.specs.Sites.{IsInTolerance};
+ghost use Rattle.abt_access.specs.Scripts.{IsInTolerance};
 ghost use Rattle.abt_threads.specs.Runs.{ScriptsFit};
 
 use abt_net::{Conn, Net};

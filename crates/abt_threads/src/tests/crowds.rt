@@ -1,6 +1,6 @@
 //! Three sources whose paths cross, with few and with many link workers. Which requests are granted depends on the order in which
 //! threads come; that the run is gathered doesn't.
-use super::fixture::{START, ask, faithful, listen, net, ran};
+use super::fixture::{START, ask, entries, faithful, listen, net, ran};
 use abt_model::{Event, Outcome};
 use abt_net::Net;
 use abt_script::Command;
@@ -23,6 +23,17 @@ fn emission(jitter: Option<u64>) -> Command {
     }
 }
 
+// Looks for an answer a million times at most.
+fn waits() -> Command {
+    listen(1_000_000)
+}
+
+fn later_start() -> Command {
+    Command::Start {
+        now: 1_000_000_000_001,
+    }
+}
+
 // Runs the net with so many link workers, so many times.
 fn crowd<R: Threads + Wait + Sync + Abort>(
     rt: &R,
@@ -31,37 +42,42 @@ fn crowd<R: Threads + Wait + Sync + Abort>(
     runs: u32,
 ) -> Result<(), Fail> {
     let net = crossing(alloc)?;
-    let again = Command::Start {
-        now: 1_000_000_000_001,
-    };
-    let waits = listen(1_000_000);
+    for _run in 0..runs {
+        one_run(rt, alloc, &net, workers)?;
+    }
+    Ok(())
+}
+
+fn one_run<R: Threads + Wait + Sync + Abort>(
+    rt: &R,
+    alloc: Global,
+    net: &Net,
+    workers: u16,
+) -> Result<(), Fail> {
     let scripts: [&[Command]; 3] = [
         &[
             START,
             ask(0x5120),
-            waits,
+            waits(),
             emission(Some(0)),
             ask(0x5258),
-            waits,
+            waits(),
         ],
         &[
             START,
             ask(0x5258),
-            waits,
+            waits(),
             emission(Some(200)),
             Command::Crash,
-            again,
+            later_start(),
             ask(0x5120),
         ],
-        &[START, ask(0x5120), Command::Again, waits, emission(None)],
+        &[START, ask(0x5120), Command::Again, waits(), emission(None)],
     ];
-    let started = Event::Start { conn: 2, now: 0 };
-    for _run in 0..runs {
-        let run = ran(rt, alloc, &net, &scripts, faithful(workers))?;
-        assert_eq!(rt; run.sources.len(), 3);
-        let entries = run.sources[2].entries.as_slice();
-        assert!(rt; entries[0] == SourceEntry::Did(started, Outcome::Started));
-    }
+    let run = ran(rt, alloc, net, &scripts, faithful(workers))?;
+    assert_eq!(rt; run.sources.len(), 3);
+    let started = SourceEntry::Did(Event::Start { conn: 2, now: 0 }, Outcome::Started);
+    assert!(rt; entries(&run, 2).first() == Some(&started));
     Ok(())
 }
 

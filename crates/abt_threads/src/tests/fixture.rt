@@ -1,6 +1,7 @@
 //! Nets and scripts that the tests share. Where memory is refused, `None` is given.
 use crate::{Gathered, RunFault, run_threads};
 use abt_cell::{Request, Vc};
+use abt_journal::Entry;
 use abt_keep::StorePlan;
 use abt_model::Event;
 use abt_net::{Conn, Net, Path};
@@ -111,4 +112,20 @@ pub(super) fn first_request(vci: u16, code: u16) -> Result<Request, Fail> {
 /// Whether the entry is for an event of which this holds.
 pub(super) fn is_told(entry: &SourceEntry, number: u32) -> bool {
     matches!(entry, SourceEntry::Did(Event::Told { conn: 0, seq, granted: true }, _) if *seq == number)
+}
+
+/// The entries of a source.
+pub(super) fn entries(run: &Gathered, conn: usize) -> &[SourceEntry] {
+    match run.sources.get(conn) {
+        Some(journal) => journal.entries.as_slice(),
+        None => &[],
+    }
+}
+
+/// The entries of a port.
+pub(super) fn port(run: &Gathered, number: usize) -> &[Entry] {
+    match run.journals.ports.get(number) {
+        Some(entries) => entries.as_slice(),
+        None => &[],
+    }
 }

@@ -1,6 +1,8 @@
 //! That workers work side by side, and that answers are heard. A gate holds one call until it has seen another, and gives up
 //! after a great number of turns, each of which leaves the processor to other threads.
-use super::fixture::{LONG, START, TURNS, ask, faithful, is_told, listen, net, ran_at};
+use super::fixture::{
+    LONG, START, TURNS, ask, entries, faithful, is_told, listen, net, port, ran_at,
+};
 use abt_gcra::Verdict;
 use abt_journal::PortReply;
 use abt_model::{Event, Heard, Outcome};
@@ -123,9 +125,10 @@ fn a_yes_that_comes_back_is_heard_and_its_cell_conforms(rt: HostRuntime) -> Resu
     let script = [START, ask(0x5120), Command::Again, listen(LONG), emission];
     let run = ran_at(&rt, rt.alloc(), &net, &[&script], faithful(1), &gate)?;
     assert!(rt; !gate.gave_up.load(Ordering::SeqCst));
-    let port = run.journals.ports[0].as_slice();
-    let last = port.len().saturating_sub(1);
-    assert!(rt; ends_with_a_cell(run.sources[0].entries.as_slice(), port[last].place));
-    assert!(rt; port[last].reply == PortReply::Arrived(Ok(Verdict::Conforming)));
+    let &[.., last] = port(&run, 0) else {
+        return Err(Fail::from("no step of port 0"));
+    };
+    assert!(rt; ends_with_a_cell(entries(&run, 0), last.place));
+    assert!(rt; last.reply == PortReply::Arrived(Ok(Verdict::Conforming)));
     Ok(())
 }

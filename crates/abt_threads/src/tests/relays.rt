@@ -1,6 +1,6 @@
 //! A connection through 16 ports, whose every request makes 31 parcels of the one link worker: the request comes to 15 ports more,
 //! and its yes to all 16.
-use super::fixture::{LONG, START, ask, faithful, is_told, listen, net, ran};
+use super::fixture::{LONG, START, ask, entries, faithful, is_told, listen, net, port, ran};
 use abt_cell::Answer;
 use abt_journal::PortInput;
 use abt_model::{Heard, Outcome};
@@ -44,12 +44,14 @@ fn each_of_a_hundred_requests_is_granted(rt: HostRuntime) -> Result<(), Fail> {
     let net = long_net(rt.alloc())?;
     let script = many(rt.alloc(), 100).ok_or("no script")?;
     let run = ran(&rt, rt.alloc(), &net, &[script.as_slice()], faithful(1))?;
-    let entries = run.sources[0].entries.as_slice();
-    assert_eq!(rt; entries.len(), 301);
-    let mut number = 0;
-    for granted in entries[1..].chunks(3) {
-        number += 1;
-        assert!(rt; is_granted(granted, number));
+    assert_eq!(rt; entries(&run, 0).len(), 301);
+    let [_, granted @ ..] = entries(&run, 0) else {
+        return Err(Fail::from("no entry"));
+    };
+    let mut number = 1u32;
+    for three in granted.chunks(3) {
+        assert!(rt; is_granted(three, number));
+        number = number.saturating_add(1);
     }
     Ok(())
 }
@@ -64,13 +66,14 @@ fn a_request_whose_first_parcel_is_lost_is_not_answered(rt: HostRuntime) -> Resu
     };
     let script = [START, ask(0x5258), listen(LONG), ask(0x5258), listen(1000)];
     let run = ran(&rt, rt.alloc(), &net, &[&script], plan)?;
-    let entries = run.sources[0].entries.as_slice();
-    assert_eq!(rt; entries.len(), 6);
-    assert!(rt; is_granted(&entries[1..4], 1));
-    assert!(rt; matches!(entries[5], SourceEntry::Sent { .. }));
-    assert_eq!(rt; run.journals.ports[0].len(), 3);
-    for port in &run.journals.ports[1..] {
-        assert_eq!(rt; port.len(), 2);
+    let &[_, asked, sent, told, _, last] = entries(&run, 0) else {
+        return Err(Fail::from("not six entries"));
+    };
+    assert!(rt; is_granted(&[asked, sent, told], 1));
+    assert!(rt; matches!(last, SourceEntry::Sent { .. }));
+    assert_eq!(rt; port(&run, 0).len(), 3);
+    for number in 1..16usize {
+        assert_eq!(rt; port(&run, number).len(), 2);
     }
     Ok(())
 }
@@ -85,12 +88,13 @@ fn the_last_parcel_is_served_twice(rt: HostRuntime) -> Result<(), Fail> {
     };
     let script = [START, ask(0x5258), listen(LONG)];
     let run = ran(&rt, rt.alloc(), &net, &[&script], plan)?;
-    let port = run.journals.ports[0].as_slice();
-    assert_eq!(rt; port.len(), 3);
-    let PortInput::Request(request) = port[0].input else {
+    let &[first, second, third] = port(&run, 0) else {
+        return Err(Fail::from("not three entries"));
+    };
+    let PortInput::Request(request) = first.input else {
         return Err(Fail::from("no request came first"));
     };
     let yes = PortInput::Answer(Answer::of(&request, true));
-    assert!(rt; port[1].input == yes && port[2].input == yes);
+    assert!(rt; second.input == yes && third.input == yes);
     Ok(())
 }

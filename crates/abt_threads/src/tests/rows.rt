@@ -1,6 +1,6 @@
 //! What a run of a net with one port leaves, or why it has no result.
-use super::fixture::{START, ask, faithful, first_request, net, one_port, ran};
-use crate::{Gathered, RunFault};
+use super::fixture::{START, ask, entries, faithful, first_request, net, one_port, port, ran};
+use crate::RunFault;
 use abt_journal::{Entry, PortInput, PortReply};
 use abt_model::{Event, Outcome};
 use abt_node::Onward;
@@ -72,17 +72,9 @@ fn a_source_that_asks_nothing_leaves_no_entry_at_a_port(rt: HostRuntime) -> Resu
     let run = ran(&rt, rt.alloc(), &net, &[&script], faithful(1))?;
     let started = SourceEntry::Did(Event::Start { conn: 0, now: 0 }, Outcome::Started);
     let crashed = SourceEntry::Did(Event::Crash { conn: 0 }, Outcome::Crashed);
-    assert!(rt; run.sources[0].entries.as_slice() == [started, crashed].as_slice());
-    assert_eq!(rt; run.journals.ports[0].len(), 0);
+    assert!(rt; entries(&run, 0) == [started, crashed].as_slice());
+    assert_eq!(rt; port(&run, 0).len(), 0);
     Ok(())
-}
-
-// The entries of the only source.
-fn own(run: &Gathered) -> &[SourceEntry] {
-    if run.sources.is_empty() {
-        return &[];
-    }
-    run.sources[0].entries.as_slice()
 }
 
 #[test]
@@ -102,9 +94,9 @@ fn what_is_asked_is_served_at_once_and_what_the_plan_says_is_lost(
         input: PortInput::Request(first_request(100, 0x5120)?),
         reply: PortReply::Requested(Onward::Pass),
     };
-    assert!(rt; run.journals.ports[0].as_slice() == [entry].as_slice());
-    assert_eq!(rt; own(&run).len(), 3);
-    assert!(rt; own(&run)[2] == SourceEntry::Sent { place: 0 });
+    assert!(rt; port(&run, 0) == [entry].as_slice());
+    assert_eq!(rt; entries(&run, 0).len(), 3);
+    assert!(rt; entries(&run, 0).get(2) == Some(&SourceEntry::Sent { place: 0 }));
     Ok(())
 }
 

@@ -14,10 +14,6 @@ run_workers-requires-clause-callers g c κs within =
 pub returns-clause-ok : goal.returns-clause-ok
 returns-clause-ok g c =
     let fit : ScriptsFit c.args.net.now.conns c.args.scripts.now = search rules in
-    let worked = c.in_ok-accesses.ensures.worked in
     let joined : c.in_ok-seats.seats.items ≡ c.in_ok-accesses.field-0.accesses.items ++ c.in_ok-accesses.field-0.links.items = search rules in
-    record {
-      histories = c.in_ok-journals.ensures.histories;
-      sources = ended c.args.net.now c.args.scripts.now c.in_ok-accesses.field-0.accesses.items c.in_ok-accesses.field-0.links.items c.in_ok-seats.seats.items c.in_ok-accesses.field-0.sources.items
-          c.in_ok-journals.journals fit worked.sources joined c.in_ok-journals.ensures.receipts;
-    }
+    ended c.args.net.now c.args.scripts.now c.args.plan.workers c.in_ok-accesses.field-0 c.in_ok-seats.seats.items c.in_ok-journals.journals fit c.in_ok-accesses.ensures.worked joined
+    c.in_ok-journals.ensures.histories c.in_ok-journals.ensures.receipts
