@@ -1,0 +1,4 @@
+pub mod Emitted
+pub mod Doing
+pub mod Hearing
+pub mod Running

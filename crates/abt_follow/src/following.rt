@@ -1,0 +1,46 @@
+//! The rule that workers go by.
+ghost use Rattle.std.specs.Prelude.{◌≡◌, ◌≢◌, ℕ, Some};
+ghost use Rattle.abt_model.specs.Reserved.{hop_of};
+ghost use Rattle.abt_net.specs.Topology.{conn_at, channel_at};
+ghost use Rattle.abt_net.specs.declared.conn.Conn.{Conn};
+ghost use Rattle.abt_follow.specs.Following as following;
+
+use crate::next_message::Next;
+use crate::path::{hop_at, sent_after};
+use abt_cell::{Rm, Vc};
+use abt_journal::PortReply;
+use abt_net::Net;
+
+/// What is sent once a port replied to a message (docs/RULES.md, "Path"): a request that it passed goes to the next port
+/// of its path, and its yes to the last port itself; a no, or an answer that it passed back, goes to the port before, or
+/// from the first to the source.
+///
+/// Nothing is sent after a drop, of a connection that the net doesn't have, by a port off the connection's path, or where
+/// the reply isn't one to such a message: one of the other kind, or a refusal with another answer than the request's no.
+pub fn follow(net: &Net, port: u16, rm: &Rm, reply: &PortReply) -> Next
+    ensures on_path { (c : ℕ) (conn : Conn) → conn_at net.now c ≡ Some conn → conn.vc ≡ following.channel_of rm.now →
+        hop_of conn.path port ≢ 0 → result ≡ following.sent_after conn.path c (hop_of conn.path port) rm.now reply.now }
+    ensures off_path { (c : ℕ) (conn : Conn) → conn_at net.now c ≡ Some conn → conn.vc ≡ following.channel_of rm.now →
+        hop_of conn.path port ≡ 0 → result ≡ Next.Nothing }
+    ensures unknown { ((c : ℕ) → channel_at net.now.conns c ≢ Some (following.channel_of rm.now)) → result ≡ Next.Nothing }
+{
+    let Some(number) = net.find(channel_of(rm)) else {
+        return Next::Nothing;
+    };
+    let conn = &net.conns()[usize::from(number)];
+    let path = conn.path.as_slice();
+    match hop_at(path, port) {
+        0 => Next::Nothing,
+        hop => sent_after(path, number, hop, rm, reply),
+    }
+}
+
+// The channel of a message.
+fn channel_of(rm: &Rm) -> Vc
+    ensures { result ≡ following.channel_of rm.now }
+{
+    match rm {
+        Rm::Request(request) => request.vc(),
+        Rm::Answer(answer) => answer.vc(),
+    }
+}

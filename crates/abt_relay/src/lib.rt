@@ -1,0 +1,12 @@
+//! Parcels on their way between ports, and the workers that carry them.
+#![tactic(auto)]
+
+mod link;
+mod parcel;
+mod plan;
+mod post;
+
+pub use link::link_worker;
+pub use parcel::{AnswerBox, Parcel};
+pub use plan::ThreadPlan;
+pub use post::Post;

@@ -1,0 +1,98 @@
+//! Link workers.
+ghost use Rattle.std.specs.Prelude.{◌≡◌, ◌<◌, ℕ, All, IfOk, IsErrOf, length};
+ghost use Rattle.abt_journal.specs.declared.fault.ServeFault.{ServeFault};
+ghost use Rattle.abt_relay.specs.Cells.{AreCellsOf};
+ghost use Rattle.abt_relay.specs.Messages as messages;
+ghost use Rattle.abt_relay.specs.Messages.{IsMessage};
+
+use crate::parcel::{AnswerBox, Parcel, message_in};
+use crate::plan::ThreadPlan;
+use crate::post::Post;
+use abt_cell::Rm;
+use abt_journal::{PortInput, Seat, ServeFault};
+use abt_net::Net;
+use abt_ports::{Gate, PortCell};
+use crossbeam_channel::{Receiver, Sender};
+use std::alloc::Global;
+use std::sync::Wait;
+
+/// Takes parcels from the channel until one says stop, or no more can come: has each message served by its port, and
+/// sends on what the port's reply has sent (docs/RULES.md, "Workers"). It may wait for a parcel and for a port.
+///
+/// Parcels that the plan says, that no message can be read from, whose port isn't in the net, or for which there is no
+/// memory, are lost.
+///
+/// # Errors
+/// A port whose journal is shorter than what the worker has seen of it ends the worker.
+pub fn link_worker<R: Wait, G: Gate>(
+    rt: &R,
+    alloc: Global,
+    net: &Net,
+    caller: u16,
+    plan: ThreadPlan,
+    cells: &[PortCell],
+    to: Sender<Parcel>,
+    from: Receiver<Parcel>,
+    boxes: &[AnswerBox],
+    gate: &G,
+) -> Result<Seat, ServeFault>
+    requires cells { AreCellsOf net.now cells.now }
+    requires boxes { length boxes.now ≡ length net.now.conns }
+    ensures caller { IfOk result (λ seat. seat.caller ≡ caller) }
+    ensures messages { IfOk result (λ seat. All IsMessage seat.receipts) }
+    ensures wound { (seen found : ℕ) → IsErrOf result (ServeFault.Wound seen found) → found < seen }
+    ensures memory { ¬ IsErrOf result ServeFault.Memory }
+{
+    let post = Post::new(net, to, boxes);
+    let mut seat = Seat::new(alloc, caller);
+    let mut taken: u64 = 0;
+    for _ in rt.forever() {
+        let Ok(Parcel::Cell { port, octets }) = from.recv(rt) else {
+            break;
+        };
+        taken = taken.saturating_add(1);
+        for _time in 0..plan.times(taken) {
+            relay(rt, &post, cells, gate, &mut seat, port, &octets)?;
+        }
+    }
+    Ok(seat)
+}
+
+// Has the message in a parcel served by its port, and sends on what that has sent.
+fn relay<R: Wait, G: Gate>(
+    rt: &R,
+    post: &Post,
+    cells: &[PortCell],
+    gate: &G,
+    seat: &mut Seat,
+    port: u16,
+    octets: &[u8; 52],
+) -> Result<(), ServeFault>
+    ensures caller { seat.new.caller ≡ seat.old.caller }
+    ensures messages { All IsMessage seat.old.receipts → All IsMessage seat.new.receipts }
+    ensures wound { (seen found : ℕ) → IsErrOf result (ServeFault.Wound seen found) → found < seen }
+    ensures memory { ¬ IsErrOf result ServeFault.Memory }
+{
+    let Some(cell) = cells.get(usize::from(port)) else {
+        return Ok(());
+    };
+    let Some(rm) = message_in(octets) else {
+        return Ok(());
+    };
+    match cell.serve(rt, seat, gate, input_of(&rm)) {
+        Ok((_, reply)) => post.send_on(rt, port, &rm, &reply),
+        Err(ServeFault::Memory) => {}
+        Err(wound) => return Err(wound),
+    }
+    Ok(())
+}
+
+// What a message is to a port.
+fn input_of(rm: &Rm) -> PortInput
+    ensures { result ≡ messages.input_of rm.now }
+{
+    match rm {
+        Rm::Request(request) => PortInput::Request(*request),
+        Rm::Answer(answer) => PortInput::Answer(*answer),
+    }
+}

@@ -1,0 +1,4 @@
+pub mod Fitting
+pub mod Opened
+pub mod Promised
+pub mod Ended

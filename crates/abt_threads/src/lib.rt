@@ -1,0 +1,20 @@
+//! Runs of a net in threads: a worker for each source, and workers for the messages between ports.
+#![tactic(auto)]
+
+mod boxes;
+mod fault;
+mod gathered;
+mod join;
+mod opening;
+mod promises;
+mod run;
+mod scripts;
+mod start;
+mod workers;
+
+pub use fault::RunFault;
+pub use gathered::Gathered;
+pub use run::{WORKERS_MAX, run_threads};
+
+#[cfg(test)]
+mod tests;

@@ -1,0 +1,33 @@
+//! What workers promise of their results.
+use abt_journal::{Seat, ServeFault};
+use abt_net::Net;
+use abt_script::Script;
+use abt_source_journal::SourceJournal;
+use std::snapshot::Snapshot;
+use std::thread::Promise;
+
+/// That an access worker ran its script, and has the receipts for the steps that its journal names.
+#[derive(Drop)]
+pub struct AccessOf {
+    pub(crate) conn: u16,
+    pub(crate) net: Snapshot<Net>,
+    pub(crate) script: Snapshot<Script>,
+}
+
+impl Promise<Result<(Seat, SourceJournal), ServeFault>> for AccessOf {
+    ghost use Rattle.abt_threads.specs.Promises.{KeepsAccess};
+
+    ghost kept_by = { λ p r. KeepsAccess p.net.value p.conn p.script.value r };
+}
+
+/// That a link worker's receipts are ones for requests and answers.
+#[derive(Clone, Copy)]
+pub struct LinkOf {
+    pub(crate) caller: u16,
+}
+
+impl Promise<Result<Seat, ServeFault>> for LinkOf {
+    ghost use Rattle.abt_threads.specs.Promises.{KeepsLink};
+
+    ghost kept_by = { λ p r. KeepsLink p.caller r };
+}

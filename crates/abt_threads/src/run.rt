@@ -1,0 +1,80 @@
+//! Runs of a net.
+ghost use Rattle.std.specs.Prelude.{◌≡◌, ◌↔◌, ◌<◌, ◌≤◌, ◌++◌, ◌+◌, ℕ, [], IfOk, IsErrOf, length, vec_len, vec_capacity};
+ghost use Rattle.abt_threads.specs.declared.fault.RunFault.{RunFault};
+ghost use Rattle.abt_threads.specs.Runs.{HasWorkers, ScriptsFit, IsRun};
+
+use crate::boxes::empty_boxes;
+use crate::fault::RunFault;
+use crate::gathered::Gathered;
+use crate::opening::opening_cells;
+use crate::scripts::scripts_fit;
+use crate::workers::{Worked, run_workers};
+use abt_journal::{PortState, Seat};
+use abt_net::Net;
+use abt_ports::{Gate, PortCell, gather};
+use abt_relay::ThreadPlan;
+use abt_script::Script;
+use std::alloc::{AllocError, Global};
+use std::sync::Wait;
+use std::thread::Threads;
+
+/// The most link workers of a run.
+pub const WORKERS_MAX: u16 = 64;
+
+/// Runs a net in threads of its own: an access worker for each connection, which carries out its script, and link workers, which
+/// carry messages between ports (docs/RULES.md, "Workers"). When all access workers have ended, each link worker is stopped; what
+/// lies in the channel then is lost. All threads are joined, also where some couldn't be started. Then the journals are gathered.
+///
+/// The callers are the connections by their numbers, and after them the link workers.
+pub fn run_threads<R: Threads + Wait + Sync, G: Gate + Sync>(
+    rt: &R,
+    alloc: Global,
+    net: &Net,
+    scripts: &[Script],
+    plan: ThreadPlan,
+    gate: &G,
+) -> Result<Gathered, RunFault>
+    ensures ok { IfOk result (IsRun net.now scripts.now plan.workers) }
+    ensures workers { IsErrOf result RunFault.Workers ↔ ¬ HasWorkers plan }
+    ensures scripts { IsErrOf result RunFault.Scripts ↔ (HasWorkers plan × ¬ ScriptsFit net.now.conns scripts.now) }
+    ensures wound { (seen found : ℕ) → IsErrOf result (RunFault.Wound seen found) → found < seen }
+{
+    if plan.workers == 0 || plan.workers > WORKERS_MAX {
+        return Err(RunFault::Workers);
+    }
+    if !scripts_fit(net.conns(), scripts) {
+        return Err(RunFault::Scripts);
+    }
+    let cells = opening_cells(alloc, net)?;
+    let room = Vec::with_capacity(alloc, cells.len())?;
+    let boxes = empty_boxes(alloc, net.conns().len())?;
+    let Worked {
+        accesses,
+        sources,
+        links,
+    } = run_workers(rt, alloc, net, scripts, plan, &cells, &boxes, gate)?;
+    let seats = together(accesses, links)?;
+    let journals = gather(alloc, net, states_of(cells, room), seats)?;
+    Ok(Gathered { journals, sources })
+}
+
+// The states of the ports, in the room that is there for them.
+fn states_of(cells: Vec<PortCell>, mut states: Vec<PortState>) -> Vec<PortState>
+    requires empty { states.items ≡ [] }
+    requires room { vec_len cells ≤ vec_capacity states }
+{
+    for cell in cells {
+        states.push_reserved(cell.into_state());
+    }
+    states
+}
+
+// The seats of all workers.
+fn together(mut seats: Vec<Seat>, links: Vec<Seat>) -> Result<Vec<Seat>, AllocError>
+    ensures { IfOk result (λ all. all.items ≡ seats.items ++ links.items) }
+{
+    for seat in links {
+        seats.push(seat)?;
+    }
+    Ok(seats)
+}

@@ -1,0 +1,6 @@
+//! Runs of nets in threads. What the clauses don't say: that workers run side by side, that messages go on and answers are heard.
+mod crowds;
+mod fixture;
+mod gates;
+mod relays;
+mod rows;
