@@ -11,6 +11,7 @@ mod rate;
 mod scenario_fault;
 mod telling;
 
+pub use cell::message_hex;
 pub use performing::perform;
 pub use plan::{Plan, WordsFault};
 pub use telling::{MEMORY_LINE, OPEN_LINE, WRITE_LINE, tell_text};

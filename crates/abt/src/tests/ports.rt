@@ -1,7 +1,6 @@
 use super::{A, B, B2, LA, NB, Narrow, YA, expect};
-use crate::cell::message_hex;
 use abt_cell::{Request, Rm, Vc};
-use abt_perform::{Plan, perform};
+use abt_perform::{Plan, message_hex, perform};
 use abt_rate::Rate;
 use std::alloc::Global;
 use std::test::Fail;
