@@ -1,0 +1,22 @@
+//! Journals of ports and sources woven into one list of events.
+#![tactic(auto)]
+
+mod asked;
+mod board;
+mod candidate;
+mod fault;
+mod given;
+mod look;
+mod pass;
+mod port;
+mod same;
+mod source;
+mod stuck;
+#[cfg(test)]
+mod tests;
+mod weave;
+
+pub use abt_list::Sequence;
+pub use abt_woven::{Actor, Stuck};
+pub use fault::WeaveFault;
+pub use weave::weave;
