@@ -1,0 +1,4 @@
+pub mod Candidates
+pub mod Stops
+pub mod Board
+pub mod Tried

@@ -1,4 +1,7 @@
 //! What a source asked for.
+ghost use Rattle.std.specs.Prelude.{◌≡◌, reverse};
+ghost use Rattle.abt_woven.specs.Asked.{floor_in, ask_in};
+
 use abt_model::{Event, Outcome};
 use abt_rate::Rate;
 use abt_source_journal::SourceEntry;
@@ -11,7 +14,10 @@ pub(crate) struct Rates {
 }
 
 // The rates of the last request of this number among a source's entries, and none where there is no such request.
-pub(crate) fn rates_asked(entries: &[SourceEntry], seq: u32) -> Rates {
+pub(crate) fn rates_asked(entries: &[SourceEntry], seq: u32) -> Rates
+    ensures floor { result.floor ≡ floor_in (reverse entries.now) seq }
+    ensures ask { result.ask ≡ ask_in (reverse entries.now) seq }
+{
     let mut rates = Rates {
         floor: Rate::ZERO,
         ask: Rate::ZERO,

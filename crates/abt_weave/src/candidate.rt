@@ -1,9 +1,15 @@
 //! The event that the next entry of a port can be.
-use crate::asked::rates_asked;
-use abt_cell::{Request, Vc};
+ghost use Rattle.std.specs.Prelude.{◌≡◌, ◌==◌, ◌&&◌, ℕ, reverse, Some, IfSome};
+ghost use Rattle.abt_weave.specs.Candidates as candidates;
+ghost use Rattle.abt_weave.specs.Candidates.{event_by, is_sent_at, cell_arrived_at};
+ghost use Rattle.abt_weave.specs.Stops.{IsStop};
+
+use crate::asked::{Rates, rates_asked};
+use abt_cell::Vc;
 use abt_journal::PortInput;
 use abt_model::Event;
 use abt_net::Net;
+use abt_rate::Rate;
 use abt_source_journal::SourceEntry;
 
 /// A port on the path of a connection.
@@ -14,7 +20,10 @@ pub(crate) struct Stop {
 }
 
 // Where a port stands on the path of the connection that has this channel.
-pub(crate) fn stop_of(net: &Net, vc: Vc, port: u16) -> Option<Stop> {
+pub(crate) fn stop_of(net: &Net, vc: Vc, port: u16) -> Option<Stop>
+    ensures some { IfSome result (λ stop. IsStop net.now vc port stop.conn stop.hop) }
+    ensures only { (c hop : ℕ) → IsStop net.now vc port c hop → result ≡ Some (record { conn = c; hop = hop }) }
+{
     let conn = net.find(vc)?;
     let path = net.conns()[usize::from(conn)].path.as_slice();
     let place = path.iter().position(|passed| *passed == port)?;
@@ -25,7 +34,9 @@ pub(crate) fn stop_of(net: &Net, vc: Vc, port: u16) -> Option<Stop> {
 }
 
 // The channel that an input is about.
-pub(crate) fn channel_of(input: &PortInput) -> Vc {
+pub(crate) fn channel_of(input: &PortInput) -> Vc
+    ensures { result ≡ candidates.channel_of input.now }
+{
     match input {
         PortInput::Request(request) => request.vc(),
         PortInput::Answer(answer) => answer.vc(),
@@ -33,14 +44,9 @@ pub(crate) fn channel_of(input: &PortInput) -> Vc {
     }
 }
 
-/// How far the source of a connection has come: its entries that are placed, and the next one.
-#[derive(Clone, Copy)]
-pub(crate) struct Beside<'run> {
-    pub placed: &'run [SourceEntry],
-    pub next: Option<SourceEntry>,
-}
-
-fn is_sent_at(next: Option<SourceEntry>, place: u64) -> bool {
+fn is_sent_at(next: Option<SourceEntry>, place: u64) -> bool
+    ensures { result ≡ is_sent_at place next }
+{
     match next {
         Some(SourceEntry::Sent { place: named }) => named == place,
         _ => false,
@@ -48,51 +54,64 @@ fn is_sent_at(next: Option<SourceEntry>, place: u64) -> bool {
 }
 
 // The number of the cell that arrived at this place.
-fn cell_arrived_at(next: Option<SourceEntry>, place: u64) -> Option<u64> {
+fn cell_arrived_at(next: Option<SourceEntry>, place: u64) -> Option<u64>
+    ensures { result ≡ cell_arrived_at place next }
+{
     match next {
         Some(SourceEntry::Arrived { cell, place: named }) if named == place => Some(cell),
         _ => None,
     }
 }
 
-fn request_event(stop: Stop, place: u64, request: &Request, beside: Beside) -> Option<Event> {
-    let rates = rates_asked(beside.placed, request.seq());
-    if request.floor() != rates.floor || request.ask() != rates.ask {
-        return None;
-    }
-    if stop.hop == 1 && !is_sent_at(beside.next, place) {
-        return None;
-    }
-    Some(Event::Request {
-        conn: stop.conn,
-        hop: stop.hop,
-        seq: request.seq(),
-    })
+// Whether a message has these rates.
+fn has_rates(rates: Rates, floor: Rate, ask: Rate) -> bool
+    ensures { result ≡ (floor == rates.floor && ask == rates.ask) }
+{
+    floor == rates.floor && ask == rates.ask
 }
 
 // The event that brings this to a port, where its step takes this place in the port's journal.
-pub(crate) fn event_of(stop: Stop, place: u64, input: &PortInput, beside: Beside) -> Option<Event> {
+pub(crate) fn event_of(
+    stop: Stop,
+    place: u64,
+    input: &PortInput,
+    placed: &[SourceEntry],
+    next: Option<SourceEntry>,
+) -> Option<Event>
+    ensures { result ≡ event_by stop.conn stop.hop place input.now (reverse placed.now) next }
+{
+    let Stop { conn, hop } = stop;
     match input {
-        PortInput::Request(request) => request_event(stop, place, request, beside),
-        PortInput::Answer(answer) => {
-            let rates = rates_asked(beside.placed, answer.seq());
-            if answer.floor() != rates.floor || answer.ask() != rates.ask {
+        PortInput::Request(request) => {
+            let seq = request.seq();
+            if !has_rates(rates_asked(placed, seq), request.floor(), request.ask()) {
                 return None;
             }
+            if hop == 1 && !is_sent_at(next, place) {
+                return None;
+            }
+            Some(Event::Request { conn, hop, seq })
+        }
+        PortInput::Answer(answer) => {
+            let seq = answer.seq();
+            if !has_rates(rates_asked(placed, seq), answer.floor(), answer.ask()) {
+                return None;
+            }
+            let granted = answer.granted();
             Some(Event::Answer {
-                conn: stop.conn,
-                hop: stop.hop,
-                seq: answer.seq(),
-                granted: answer.granted(),
+                conn,
+                hop,
+                seq,
+                granted,
             })
         }
         PortInput::Arrive { at, .. } => {
-            if stop.hop != 1 {
+            if hop != 1 {
                 return None;
             }
-            let cell = cell_arrived_at(beside.next, place)?;
+            let cell = cell_arrived_at(next, place)?;
             Some(Event::Arrive {
-                conn: stop.conn,
+                conn,
                 cell,
                 at: *at,
             })

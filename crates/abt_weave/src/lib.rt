@@ -14,9 +14,10 @@ mod source;
 mod stuck;
 #[cfg(test)]
 mod tests;
-mod weave;
+mod trying;
+mod weaving;
 
 pub use abt_list::Sequence;
 pub use abt_woven::{Actor, Stuck};
 pub use fault::WeaveFault;
-pub use weave::weave;
+pub use weaving::weave;

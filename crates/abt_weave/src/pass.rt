@@ -14,7 +14,7 @@ pub(crate) struct Marks {
 }
 
 impl Marks {
-    pub(crate) fn new(alloc: Global, given: Given) -> Result<Marks, AllocError> {
+    pub(crate) fn new(alloc: Global, given: &Given) -> Result<Marks, AllocError> {
         Ok(Marks {
             sources: vec![in alloc; false; given.sources.len()]?,
             ports: vec![in alloc; false; given.ports.len()]?,
@@ -24,7 +24,7 @@ impl Marks {
 
 fn pass_sources<'run>(
     alloc: Global,
-    given: Given<'run>,
+    given: &Given<'run>,
     board: &mut Board<'run>,
     marks: &mut [bool],
 ) -> Result<bool, AllocError> {
@@ -44,7 +44,7 @@ fn pass_sources<'run>(
 
 fn pass_ports<'run>(
     alloc: Global,
-    given: Given<'run>,
+    given: &Given<'run>,
     board: &mut Board<'run>,
     marks: &mut [bool],
 ) -> Result<bool, AllocError> {
@@ -65,7 +65,7 @@ fn pass_ports<'run>(
 // Looks once at each actor that isn't marked.
 pub(crate) fn pass<'run>(
     alloc: Global,
-    given: Given<'run>,
+    given: &Given<'run>,
     board: &mut Board<'run>,
     marks: &mut Marks,
 ) -> Result<bool, AllocError> {
@@ -77,7 +77,7 @@ pub(crate) fn pass<'run>(
 // Places entries while any can be placed. Actors that mismatched are looked at again when nothing else moves.
 pub(crate) fn settle<'run>(
     alloc: Global,
-    given: Given<'run>,
+    given: &Given<'run>,
     board: &mut Board<'run>,
 ) -> Result<Marks, AllocError> {
     let mut marks = Marks::new(alloc, given)?;

@@ -1,6 +1,6 @@
 //! The next entry of a port.
 use crate::board::{Board, world_after};
-use crate::candidate::{Beside, Stop, channel_of, event_of, own_turn, stop_of};
+use crate::candidate::{Stop, channel_of, event_of, own_turn, stop_of};
 use crate::given::Given;
 use crate::look::Look;
 use crate::same::{is_enabled, is_same_reply, reply_of};
@@ -8,25 +8,17 @@ use abt_journal::Entry;
 use abt_model::Event;
 use std::alloc::{AllocError, Global};
 
-// How far the source of a connection has come.
-fn beside<'run>(given: Given<'run>, board: &Board, conn: u16) -> Beside<'run> {
-    let c = usize::from(conn);
-    let entries = given.sources[c].entries.as_slice();
-    let place = board.source_places[c];
-    Beside {
-        placed: &entries[..place],
-        next: entries.get(place).copied(),
-    }
-}
-
 // The event that the next entry of a port can be, and where.
-fn candidate(given: Given, board: &Board, port: u16, entry: &Entry) -> Option<(Stop, Event)> {
+fn candidate(given: &Given, board: &Board, port: u16, entry: &Entry) -> Option<(Stop, Event)> {
     let place = board.port_places[usize::from(port)] as u64;
     if entry.place != place {
         return None;
     }
     let stop = stop_of(given.net, channel_of(&entry.input), port)?;
-    let event = event_of(stop, place, &entry.input, beside(given, board, stop.conn))?;
+    let c = usize::from(stop.conn);
+    let entries = given.sources[c].entries.as_slice();
+    let (placed, left) = entries.split_at(board.source_places[c]);
+    let event = event_of(stop, place, &entry.input, placed, left.first().copied())?;
     Some((stop, event))
 }
 
@@ -49,7 +41,7 @@ fn advance(board: &mut Board, port: u16, stop: Stop, event: &Event) {
 /// it is a yes at the last hop that wasn't sent yet, its Turn is placed before it.
 pub(crate) fn look_at_port<'run>(
     alloc: Global,
-    given: Given<'run>,
+    given: &Given<'run>,
     board: &mut Board<'run>,
     port: u16,
 ) -> Result<Look, AllocError> {

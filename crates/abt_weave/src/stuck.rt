@@ -8,7 +8,7 @@ use std::alloc::{AllocError, Global};
 // All actors that have entries left, sources by number and then ports by number.
 pub(crate) fn stuck_actors(
     alloc: Global,
-    given: Given,
+    given: &Given,
     board: &Board,
 ) -> Result<Sequence<Stuck>, AllocError> {
     let mut stuck = Sequence::new(alloc);

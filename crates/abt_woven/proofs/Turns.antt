@@ -1,7 +1,7 @@
 -- What Turns change: only whether a yes is sent to the last hop.
 use Rattle.std.proofs.Common.{◌≡◌, ◌≢◌, ℕ, ◌+◌, ◌⊎◌, inl, inr, refl, ap, Bool, true, false, List, [], ◌∷◌, ◌++◌, length, ◌∙◌, sym, subst, Option, None, Some}
 use Rattle.std.specs.Prelude.{◌==◌, ◌&&◌, ◌||◌, ◌-◌, not, if◌then◌else◌, slice_index}
-use Rattle.std.proofs.lemmas.Bool.{cond-false, cond-true, cond_both, cases_Bool, cases_eq, eq-eqb, ne_eqb, eqb-true, or_left, or_cases, false_from_ne_true}
+use Rattle.std.proofs.lemmas.Bool.{false≢true, cond-false, cond-true, cond_both, cases_Bool, cases_eq, eq-eqb, ne_eqb, eqb-true, or_left, or_cases, false_from_ne_true}
 use Rattle.std.proofs.lemmas.List.{append-nil}
 use Rattle.abt_keep.specs.declared.plan.StorePlan.{StorePlan}
 use Rattle.abt_keep.specs.declared.plan.StorePlan.TheVariants.{Works, FailsBefore, FailsAfter}
@@ -26,7 +26,7 @@ use Rattle.abt_model.specs.Reserved.{held_on, reserved_on}
 use Rattle.abt_model.proofs.Sums.{numbered_same}
 use Rattle.abt_journal.specs.declared.input.PortReply.{PortReply}
 use Rattle.abt_source_journal.specs.declared.entry.SourceEntry.{SourceEntry}
-use Rattle.abt_woven.specs.Projections.{Step, Visit, reply_of, past_of, visit_by, visit, step_at, steps_on, entry_at, entries_on}
+use Rattle.abt_woven.specs.Projections.{Step, Visit, is_enabled, reply_of, past_of, visit_by, visit, step_at, steps_on, entry_at, entries_on}
 use Rattle.abt_woven.specs.Stuck.{IsTurn, AreTurns}
 
 -- an answer, by whether it was sent
@@ -212,7 +212,7 @@ turn_same net earlier turns all c s =
 pub record HasOwnTurn (net : Topology) (earlier : List Event) (event : Event) : Type 0 where
   pub conn : ℕ
   pub seq : ℕ
-  pub yes : IsYesOf net conn seq event
+  pub its : IsYesOf net conn seq event
   pub happens : outcome_of net (past_of net earlier) (Turn conn seq) ≡ Turned
 
 sent_turns : (net : Topology) (earlier turns : List Event) → AreTurns net earlier turns → (event : Event) →
@@ -229,7 +229,7 @@ sent_turns net earlier (turn ∷ turns) all event =
           record {
             conn = all.0.conn;
             seq = all.0.seq;
-            yes = its;
+            its = its;
             happens = sym (turn_same net earlier turns all.1 all.0.conn all.0.seq) ∙ ap (outcome_of net (past_of net (turns ++ earlier))) (sym all.0.is) ∙ all.0.happens;
           },
           now ∙ yes_sent net all.0.conn all.0.seq (past_of net (turns ++ earlier)) event its)
@@ -242,7 +242,7 @@ own_after net earlier event own =
     let past = past_of net earlier in
     ap (λ (w : List ConnectionFact). outcome_of net w event) (turned-is net past own.conn own.seq own.happens)
     ∙ outcome-if net (turned own.conn own.seq past) event
-    ∙ ap (λ (x : Bool). outcome_if x net (turned own.conn own.seq past) event) (yes_sent net own.conn own.seq past event own.yes)
+    ∙ ap (λ (x : Bool). outcome_if x net (turned own.conn own.seq past) event) (yes_sent net own.conn own.seq past event own.its)
     ∙ outcome_if-turned true net own.conn own.seq past event
 
 -- After Turns an event answers what it does at once, or right after its own Turn.
@@ -290,3 +290,35 @@ entries_turns net earlier (turn ∷ turns) all c =
     ap (λ e. entries_on net c (e ∷ turns ++ earlier)) all.0.is
     ∙ entries_turn net (turns ++ earlier) all.0.conn all.0.seq c
     ∙ entries_turns net earlier turns all.1 c
+
+unsent_off : (conn : Conn) (facts : List Fact) (hop seq : ℕ) (granted : Bool) → is_enabled (answered_if false conn facts hop seq granted) ≡ false
+unsent_off conn facts hop seq granted =
+    cond_both (not (is_hop (length conn.path) hop)) (NotEnabled Unknown) (NotEnabled NotSent) (λ (o : Outcome). is_enabled o ≡ false) (λ e. refl) (λ e. refl)
+
+-- a yes that can come already answers the same after its Turn
+pub own_same : (net : Topology) (earlier : List Event) (event : Event) → (own : HasOwnTurn net earlier event) → is_enabled (outcome_of net (past_of net earlier) event) ≡ true →
+    outcome_of net (past_of net (Turn own.conn own.seq ∷ earlier)) event ≡ outcome_of net (past_of net earlier) event
+own_same net earlier event own enabled =
+    let past = past_of net earlier in
+    let sent : is_sent net past event ≡ true = elim (cases_Bool (is_sent net past event)) [
+        | inl yes_it_was ↦ yes_it_was
+        | inr it_was_not ↦ (
+            let off : is_enabled (outcome_if false net past event) ≡ false =
+              ap (λ e. is_enabled (outcome_if false net past e)) own.its.is
+              ∙ ap (λ (o : Option Conn). is_enabled (outcome_at_if false net past o (Answer own.conn (length own.its.conn.path) own.seq true))) own.its.known
+              ∙ unsent_off own.its.conn (facts_of own.conn past) (length own.its.conn.path) own.seq true in
+            absurd (false≢true (sym off ∙ sym (ap is_enabled (outcome-if net past event ∙ ap (λ (x : Bool). outcome_if x net past event) it_was_not)) ∙ enabled)))
+      ] in
+    own_after net earlier event own
+    ∙ sym (outcome-if net past event ∙ ap (λ (x : Bool). outcome_if x net past event) sent)
+
+-- a yes answers something right after its Turn
+pub own_enabled : (net : Topology) (earlier : List Event) (event : Event) → (own : HasOwnTurn net earlier event) → is_hop (length own.its.conn.path) (length own.its.conn.path) ≡ true →
+    is_enabled (outcome_of net (past_of net (Turn own.conn own.seq ∷ earlier)) event) ≡ true
+own_enabled net earlier event own within =
+    let past = past_of net earlier in
+    let hops = length own.its.conn.path in
+    ap is_enabled (own_after net earlier event own)
+    ∙ ap (λ e. is_enabled (outcome_if true net past e)) own.its.is
+    ∙ ap (λ (o : Option Conn). is_enabled (outcome_at_if true net past o (Answer own.conn hops own.seq true))) own.its.known
+    ∙ ap is_enabled (cond-false _ _ _ (ap not within))

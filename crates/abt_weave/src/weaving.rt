@@ -39,12 +39,12 @@ pub fn weave(
         ports: journals.ports.as_slice(),
         sources,
     };
-    let mut board = Board::new(alloc, given)?;
-    let marks = settle(alloc, given, &mut board)?;
+    let mut board = Board::new(alloc, &given)?;
+    let marks = settle(alloc, &given, &mut board)?;
     if let Some(Stuck { actor, place }) = first_marked(&board, &marks) {
         return Err(WeaveFault::Mismatch { actor, place });
     }
-    let stuck = stuck_actors(alloc, given, &board)?;
+    let stuck = stuck_actors(alloc, &given, &board)?;
     if !stuck.is_empty() {
         return Err(WeaveFault::NoOrder(stuck));
     }
