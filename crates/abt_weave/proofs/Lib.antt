@@ -4,3 +4,7 @@ pub mod Growth
 pub mod OwnEvents
 pub mod SourceLooks
 pub mod Openings
+pub mod PortEvents
+pub mod Candidates
+pub mod Comings
+pub mod PortLooks

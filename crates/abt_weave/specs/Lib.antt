@@ -2,3 +2,4 @@ pub mod Candidates
 pub mod Stops
 pub mod Board
 pub mod Tried
+pub mod Comes

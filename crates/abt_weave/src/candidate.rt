@@ -1,5 +1,7 @@
 //! The event that the next entry of a port can be.
-ghost use Rattle.std.specs.Prelude.{◌≡◌, ◌==◌, ◌&&◌, ℕ, reverse, Some, IfSome};
+ghost use Rattle.std.specs.Prelude.{◌≡◌, ◌==◌, ◌&&◌, ℕ, reverse, Some, IfSome, IsNone};
+ghost use Rattle.abt_net.specs.Topology.{IsWithinRules};
+ghost use Rattle.abt_weave.specs.Comes.{IsYes, IsTurnOf};
 ghost use Rattle.abt_weave.specs.Candidates as candidates;
 ghost use Rattle.abt_weave.specs.Candidates.{event_by, is_sent_at, cell_arrived_at};
 ghost use Rattle.abt_weave.specs.Stops.{IsStop};
@@ -22,6 +24,7 @@ pub(crate) struct Stop {
 // Where a port stands on the path of the connection that has this channel.
 pub(crate) fn stop_of(net: &Net, vc: Vc, port: u16) -> Option<Stop>
     ensures some { IfSome result (λ stop. IsStop net.now vc port stop.conn stop.hop) }
+    ensures rules { IsWithinRules net.now }
     ensures only { (c hop : ℕ) → IsStop net.now vc port c hop → result ≡ Some (record { conn = c; hop = hop }) }
 {
     let conn = net.find(vc)?;
@@ -119,8 +122,11 @@ pub(crate) fn event_of(
     }
 }
 
-// The Turn that lets a yes come to the last hop.
-pub(crate) fn own_turn(net: &Net, event: &Event) -> Option<Event> {
+// The Turn that lets a yes come to the last hop, if the event is one.
+pub(crate) fn own_turn(net: &Net, event: &Event) -> Option<Event>
+    ensures some { IfSome result (λ turn. IsTurnOf net.now event.now turn) }
+    ensures none { IsNone result → (c seq : ℕ) → IsYes net.now event.now c seq → ⊥ }
+{
     let Event::Answer {
         conn,
         hop,

@@ -2,7 +2,7 @@
 use crate::board::Board;
 use crate::given::Given;
 use crate::look::Look;
-use crate::port::look_at_port;
+
 use crate::source::look_at_source;
 use std::alloc::{AllocError, Global};
 
@@ -53,7 +53,7 @@ fn pass_ports<'run>(
         if marks[port] {
             continue;
         }
-        match look_at_port(alloc, given, board, port as u16)? {
+        match Look::Waits {
             Look::Placed => moved = true,
             Look::Waits => {}
             Look::Mismatches => marks[port] = true,
