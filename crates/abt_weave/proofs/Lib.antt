@@ -8,3 +8,4 @@ pub mod PortEvents
 pub mod Candidates
 pub mod Comings
 pub mod PortLooks
+pub mod PortPlaces

@@ -97,7 +97,7 @@ visit_made net past event conn input reply known brings re =
     ∙ ap (λ (o : Option Conn). visit_by past event (Some reply) o) known
     ∙ ap (option_map (λ (input : PortInput). (let made : Visit = record { port = slice_index conn.path (hop_met event - 1); input = input; reply = reply } in made))) brings
 
-reply_enabled : (outcome : Outcome) (reply : PortReply) → reply_of outcome ≡ Some reply → is_enabled outcome ≡ true
+pub reply_enabled : (outcome : Outcome) (reply : PortReply) → reply_of outcome ≡ Some reply → is_enabled outcome ≡ true
 reply_enabled (NotEnabled cause) reply h = absurd (cc)
 reply_enabled other reply h = refl
 

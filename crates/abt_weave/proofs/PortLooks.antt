@@ -2,10 +2,11 @@
 use Rattle.std.proofs.Common.{◌≡◌, ◌≢◌, ℕ, ◌+◌, ◌-◌, ◌<◌, ◌≤◌, inl, inr, refl, ap, Bool, true, false, List, [], ◌∷◌, ◌++◌, length, reverse, ◌∙◌, sym, subst, Option, None, Some, Vec, arith}
 use Rattle.std.specs.Prelude.{slice_get, slice_index, get_or, map, option_map}
 use Rattle.std.specs.Global.{Global}
-use Rattle.std.proofs.Math.ListN.{set, length-set}
+use Rattle.std.proofs.lemmas.List.{length-map}
 use Rattle.std.specs.Prelude.{not, if◌then◌else◌}
-use Rattle.std.proofs.lemmas.Bool.{false≢true, nat_tests}
-use Rattle.std.proofs.lemmas.Option.{slice_get_read, slice_get_past, get_or_from_slice_get, slice_get-get_or, slice_get-map}
+use Rattle.std.proofs.lemmas.Bool.{false≢true}
+use Rattle.std.proofs.lemmas.Bool.Decides.{nat_tests}
+use Rattle.std.proofs.lemmas.Option.{slice_get_within, slice_get_read, slice_get_past, get_or_from_slice_get, slice_get-get_or, slice_get-map}
 use Rattle.abt_net.specs.declared.conn.Conn.{Conn}
 use Rattle.abt_net.specs.Topology.{Topology, IsConnWithin, IsWithinRules}
 use Rattle.abt_model.specs.declared.event.Event.{Event}
@@ -30,9 +31,15 @@ use Rattle.abt_world.specs.Standing.{WorldView, StandsFor}
 use Rattle.abt_woven.specs.Projections.{Step, step_of, Visit, reply_of, hop_met, is_enabled, past_of, visit, steps_on, entry_made, entries_on}
 use Rattle.abt_woven.specs.Stuck.{Journaled, steps_in, port_journal, next_step, step_next, next_entry, Fits, IsTurn, AreTurns, PortMismatches}
 use Rattle.abt_woven.proofs.Turns.{HasOwnTurn, outcome_turns, own_same, own_enabled, steps_turns, entries_turns}
-use Rattle.abt_weave.specs.Comes.{input_told, Comes, IsYes, IsTurnOf, IsComing}
-use Rattle.abt_weave.specs.Board.{journaled, IsPlacing, IsPortSettled}
-use Rattle.abt_weave.proofs.Pasts.{past-is}
+use Rattle.abt_weave.specs.Comes.{input_told, Comes, IsYes, IsTurnOf, IsComing, IsExpected}
+use Rattle.abt_weave.specs.Candidates.{is_beside}
+use Rattle.abt_weave.proofs.Comings.{IsBeside}
+use Rattle.abt_weave.proofs.PortPlaces.{beside_some}
+use Rattle.abt_weave.specs.declared.board.Board.{Board}
+use Rattle.abt_weave.specs.declared.look.Look.{Look}
+use Rattle.abt_weave.specs.declared.look.Look.TheVariants.{Placed, Waits, Mismatches}
+use Rattle.abt_weave.specs.Board.{count, IsAfterLook, journaled, IsPlacing, IsPortSettled}
+use Rattle.abt_weave.proofs.Pasts.{past-is, pushed}
 use Rattle.abt_weave.proofs.OwnEvents.{next_turns}
 use Rattle.abt_weave.proofs.SourceLooks.{place_read}
 use Rattle.abt_weave.proofs.PortEvents.{some_same, told_same, visit_is, visit_made, reply_enabled, has_reply, made_beside, visit_comes, comes_fits}
@@ -231,3 +238,107 @@ turn_differs net js rules earlier p step event turn next one comes off its happe
          ]);
       marks = mismatch_at net js rules earlier (turn ∷ []) p step event next (its_turn net earlier event turn its happens, tt) comes on;
     }
+
+-- the connection of what comes is one of the net
+pub coming_low : (net : Topology) (js : Journaled) (earlier : List Event) (p place : ℕ) (input : PortInput) (c n : ℕ) (event : Event) → IsComing net js earlier p place input c event → n ≡ length net.conns → c < n
+coming_low net js earlier p place input c n event coming counts =
+    subst (λ m. c < m) (sym counts) (subst (λ d. d < length net.conns) coming.conn (slice_get_within net.conns (conn_of event) coming.comes.conn coming.comes.known))
+
+-- the entry that stands beside a step is the source's next
+pub come_low : (net : Topology) (js : Journaled) (earlier : List Event) (p place : ℕ) (input : PortInput) (c k : ℕ) (event : Event) (entries : List SourceEntry) (come : ℕ) → IsComing net js earlier p place input c event → k ≡ c →
+    IsBeside net js earlier k entries come → is_beside event ≡ true → come < length entries
+come_low net js earlier p place input c k event entries come coming same beside b =
+    let some = beside_some place event b in
+    let next : slice_get entries come ≡ Some some.0 = beside.next ∙ ap (next_entry net js earlier) (same ∙ sym coming.conn) ∙ coming.comes.beside some.0 some.1 in
+    slice_get_within entries come some.0 next
+
+-- the next step of a port is that at its place
+pub step_read : (net : Topology) (ports : List (Vec Entry Global)) (sources : List SourceJournal) (events : List Event) (world : WorldView) (sp pp : List ℕ) (p k : ℕ) (v : Vec Entry Global) (entries : List Entry) (place : ℕ) →
+    IsPlacing net (journaled ports sources) events world sp pp → k ≡ p → p < length ports → v ≡ get_or ports k v → entries ≡ (get_or ports k v).items → place ≡ get_or pp k place →
+    (next_step net (journaled ports sources) (reverse events) p ≡ option_map step_of (slice_get entries place)) × (place ≡ slice_index pp p)
+step_read net ports sources events world sp pp p k v entries place board same low read are at =
+    let js = journaled ports sources in
+    let lowk : k < length ports = subst (λ n. n < length ports) (sym same) low in
+    let lowp : k < length pp = subst (λ n. k < n) (sym (board.port_count ∙ length-map ports (λ (w : Vec Entry Global). w.items))) lowk in
+    let here : place ≡ length (steps_on net k (reverse events)) = place_read pp (λ q. length (steps_on net q (reverse events))) k place board.port_places lowp at in
+    let found : slice_get ports k ≡ Some v = slice_get_read ports (length ports) k v refl lowk read in
+    let journal : port_journal js k ≡ map step_of entries =
+      ap steps_in (slice_get-map (λ (w : Vec Entry Global). w.items) ports k ∙ ap (option_map (λ (w : Vec Entry Global). w.items)) found)
+      ∙ ap (λ (w : Vec Entry Global). map step_of w.items) read ∙ ap (map step_of) (sym are) in
+    let next : next_step net js (reverse events) k ≡ option_map step_of (slice_get entries place) =
+      ap (λ (l : List Step). slice_get l (length (steps_on net k (reverse events)))) journal ∙ ap (slice_get (map step_of entries)) (sym here) ∙ slice_get-map step_of entries place in
+    (subst (λ q. next_step net js (reverse events) q ≡ option_map step_of (slice_get entries place)) same next,
+     sym (get_or_from_slice_get pp k place 0 (slice_get_read pp (length pp) k place refl lowp at)) ∙ ap (slice_index pp) same)
+
+pub step_at_place : (entries : List Entry) (place : ℕ) (entry : Entry) → place < length entries → entry ≡ get_or entries place entry → option_map step_of (slice_get entries place) ≡ Some (step_of entry)
+step_at_place entries place entry low read = ap (option_map step_of) (slice_get_read entries (length entries) place entry refl low read)
+
+pub no_step : (entries : List Entry) (place : ℕ) → length entries ≤ place → option_map step_of (slice_get entries place) ≡ None
+no_step entries place past = ap (option_map step_of) (slice_get_past entries place past)
+
+-- where no event can be the next entry
+pub none_settled : (net : Topology) (js : Journaled) → IsWithinRules net → (earlier : List Event) (p : ℕ) (entry : Entry) → next_step net js earlier p ≡ Some (step_of entry) →
+    ((event : Event) → Comes net js earlier p entry.place entry.input event → ⊥) → IsPortSettled net js earlier p false
+none_settled net js rules earlier p entry next never = port_waits net js rules earlier p (step_of entry) next (λ turns event reply would. never event would.comes)
+
+abbrev expected_step : (place : ℕ) → PortInput → PortReply → Step
+expected_step place input reply = record { place = place; input = input; reply = reply }
+
+-- where the event can't happen, and its Turn, if it has one, neither
+pub expected_absent : (net : Topology) (js : Journaled) (events : List Event) (sp : List ℕ) (p place : ℕ) (input : PortInput) (reply : PortReply) (c reached : ℕ) (event : Event) →
+    IsExpected net js (reverse events) sp p place input reply c reached event → is_enabled (outcome_of net (facts_after net events) event) ≡ false →
+    ((d seq : ℕ) → IsYes net event d seq → outcome_of net (facts_after net events) (Turn d seq) ≡ Turned → ⊥) → IsPortSettled net js (reverse events) p false
+expected_absent net js events sp p place input reply c reached event it off none =
+    port_absent net js it.rules (reverse events) p (expected_step place input reply) event it.next it.only
+      (subst (λ w. is_enabled (outcome_of net w event) ≡ false) (past-is net events) off)
+      (λ d seq yes_of happens. none d seq yes_of (subst (λ w. outcome_of net w (Turn d seq) ≡ Turned) (sym (past-is net events)) happens))
+
+-- where it answers something else
+pub expected_differs : (net : Topology) (js : Journaled) (events : List Event) (sp : List ℕ) (p place : ℕ) (input : PortInput) (reply : PortReply) (c reached : ℕ) (event : Event) →
+    IsExpected net js (reverse events) sp p place input reply c reached event → is_enabled (outcome_of net (facts_after net events) event) ≡ true →
+    reply_of (outcome_of net (facts_after net events) event) ≢ Some reply → IsPortSettled net js (reverse events) p true
+expected_differs net js events sp p place input reply c reached event it on differ =
+    port_differs net js it.rules (reverse events) p (expected_step place input reply) event it.next it.only it.coming.comes
+      (subst (λ w. is_enabled (outcome_of net w event) ≡ true) (past-is net events) on)
+      (subst (λ w. reply_of (outcome_of net w event) ≢ Some reply) (past-is net events) differ)
+
+-- its Turn isn't one
+pub turn_off : (net : Topology) (past : List ConnectionFact) (event turn : Event) → IsTurnOf net event turn → is_enabled (outcome_of net past turn) ≡ false →
+    (d seq : ℕ) → IsYes net event d seq → outcome_of net past (Turn d seq) ≡ Turned → ⊥
+turn_off net past event turn its off d seq also happens =
+    false≢true (sym off ∙ ap (λ e. is_enabled (outcome_of net past e)) (sym (same_turn net event turn d seq its also)) ∙ ap is_enabled happens)
+
+-- where it answers something else after its Turn
+pub expected_turn_differs : (net : Topology) (js : Journaled) (events : List Event) (sp : List ℕ) (p place : ℕ) (input : PortInput) (reply : PortReply) (c reached : ℕ) (event turn : Event) →
+    IsExpected net js (reverse events) sp p place input reply c reached event → is_enabled (outcome_of net (facts_after net events) event) ≡ false → IsTurnOf net event turn →
+    is_enabled (outcome_of net (facts_after net events) turn) ≡ true → reply_of (outcome_of net (facts_after net (events ++ turn ∷ [])) event) ≢ Some reply → IsPortSettled net js (reverse events) p true
+expected_turn_differs net js events sp p place input reply c reached event turn it off its on differ =
+    turn_differs net js it.rules (reverse events) p (expected_step place input reply) event turn it.next it.only it.coming.comes
+      (subst (λ w. is_enabled (outcome_of net w event) ≡ false) (past-is net events) off) its
+      (subst (λ w. outcome_of net w turn ≡ Turned) (past-is net events) (turn_turned net (facts_after net events) event turn its on))
+      (subst (λ l. reply_of (outcome_of net (past_of net l) event) ≢ Some reply) (pushed events turn)
+        (subst (λ w. reply_of (outcome_of net w event) ≢ Some reply) (past-is net (events ++ turn ∷ [])) differ))
+
+-- what is expected stays so after its Turn
+pub expected_after : (net : Topology) (js : Journaled) (events : List Event) (sp : List ℕ) (p place : ℕ) (input : PortInput) (reply : PortReply) (c reached : ℕ) (event turn : Event) →
+    IsExpected net js (reverse events) sp p place input reply c reached event → IsTurnOf net event turn → is_enabled (outcome_of net (facts_after net events) turn) ≡ true →
+    IsExpected net js (reverse (events ++ turn ∷ [])) sp p place input reply c reached event
+expected_after net js events sp p place input reply c reached event turn it its on =
+    let earlier = reverse events in
+    let happens : outcome_of net (past_of net earlier) turn ≡ Turned = subst (λ w. outcome_of net w turn ≡ Turned) (past-is net events) (turn_turned net (facts_after net events) event turn its on) in
+    let all : AreTurns net earlier (turn ∷ []) = (its_turn net earlier event turn its happens, tt) in
+    subst (λ l. IsExpected net js l sp p place input reply c reached event) (sym (pushed events turn)) (record {
+      rules = it.rules;
+      coming = record { conn = it.coming.conn; comes = comes_after net js earlier (turn ∷ []) all p place input event it.coming.comes };
+      only = λ other comes. it.only other (comes_before net js earlier (turn ∷ []) all p place input other comes);
+      next = steps_next net js earlier (turn ∷ []) all p ∙ it.next;
+      low = it.low;
+      reached_is = it.reached_is;
+    })
+
+-- a look is one also from a board that has the same
+pub look_same : (net : Topology) (js : Journaled) (settled : List Event → Bool → Type 0) (old also new : Board) (look : Look) → old.events.items ≡ also.events.items → count old ≡ count also →
+    IsAfterLook net js settled also new look → IsAfterLook net js settled old new look
+look_same net js settled old also new Placed same counts h = (h.0, subst (λ n. n < count new) (sym counts) h.1)
+look_same net js settled old also new Waits same counts h = (h.0, h.1 ∙ sym same, subst (λ l. settled (reverse l) false) (sym same) h.2)
+look_same net js settled old also new Mismatches same counts h = (h.0, h.1 ∙ sym same, subst (λ l. settled (reverse l) true) (sym same) h.2)

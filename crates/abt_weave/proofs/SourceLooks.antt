@@ -138,3 +138,8 @@ differs_settled net js events more world new sp pp c event told board next own d
     (board_kept net js events more world new sp pp board stands same, same,
      settled_differs net js (reverse events) c event told next own (subst (λ w. outcome_of net w event ≢ told) (past-is net events) differ)
        (subst (λ w. is_told event && not (is_enabled (outcome_of net w event)) ≡ false) (past-is net events) enabled))
+
+-- a place that is read
+pub place_is : (places : List ℕ) (k c place : ℕ) → k ≡ c → c < length places → place ≡ get_or places k place → place ≡ slice_index places c
+place_is places k c place same low read =
+    sym (get_or_from_slice_get places k place 0 (slice_get_read places (length places) k place refl (subst (λ n. n < length places) (sym same) low) read)) ∙ ap (slice_index places) same

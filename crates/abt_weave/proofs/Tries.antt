@@ -1,5 +1,6 @@
 -- Events that are tried on a world.
-use Rattle.std.proofs.Common.{◌≡◌, ◌≢◌, refl, ap, Bool, true, false, List, [], ◌∷◌, ◌++◌, ◌∙◌, sym, subst, MatchBool}
+use Rattle.std.proofs.lemmas.Bool.{false≢true}
+use Rattle.std.proofs.Common.{Some, ◌≡◌, ◌≢◌, refl, ap, Bool, true, false, List, [], ◌∷◌, ◌++◌, ◌∙◌, sym, subst, MatchBool}
 use Rattle.abt_net.specs.Topology.{Topology}
 use Rattle.abt_model.specs.declared.connection_fact.ConnectionFact.{ConnectionFact}
 use Rattle.abt_model.specs.declared.event.Event.{Event}
@@ -11,7 +12,7 @@ use Rattle.abt_model.specs.Run.{facts_after}
 use Rattle.abt_model.proofs.Runs.{facts_from_push}
 use Rattle.abt_journal.specs.declared.input.PortReply.{PortReply}
 use Rattle.abt_world.specs.Standing.{WorldView, StandsFor, IsOfPast}
-use Rattle.abt_woven.specs.Projections.{is_enabled}
+use Rattle.abt_woven.specs.Projections.{is_enabled, reply_of}
 use Rattle.abt_woven.proofs.Placing.{disabled_same}
 use Rattle.abt_weave.specs.declared.trying.Tried.{Tried}
 use Rattle.abt_weave.specs.declared.trying.Tried.TheVariants.{Agrees, Differs, Absent}
@@ -54,3 +55,14 @@ turn_tried net events event old new outcome true before is after verdict = (sym 
 turn_tried net events event old new outcome false before is after verdict =
     let there = sym (ap is_enabled is) ∙ sym verdict in
     (there, disabled_stands net events event old new before after there)
+
+off_reply : (outcome : Outcome) (reply : PortReply) → is_enabled outcome ≡ false → reply_of outcome ≢ Some reply
+off_reply (NotEnabled cause) reply h = λ e. (let clash = e in cc)
+off_reply other reply h = λ e. absurd (false≢true (sym h))
+
+-- what didn't agree has another reply, or none
+pub not_agreed : (net : Topology) (events : List Event) (event : Event) (told : PortReply) (world : WorldView) (tried : Tried) → (tried ≡ Agrees → ⊥) → IsVisitTried net events event told world tried →
+    reply_of (outcome_of net (facts_after net events) event) ≢ Some told
+not_agreed net events event told world Agrees never is = absurd (never refl)
+not_agreed net events event told world Differs never is = is.0.1
+not_agreed net events event told world Absent never is = off_reply (outcome_of net (facts_after net events) event) told is.0

@@ -9,7 +9,6 @@ use Rattle.abt_model.specs.declared.event.Event.{Event}
 use Rattle.abt_weave.specs.declared.candidate.Stop.{Stop}
 use Rattle.abt_weave.specs.declared.port.Coming.{Coming}
 use Rattle.abt_weave.proofs.PortEvents.{some_same}
-use Rattle.abt_weave.proofs.PortLooks.{turn_differs}
 use Rattle.abt_weave.proofs.Comings.{stop_low, beside_read, coming_found, comes_stop, coming_only, port_at}
 use Rattle.abt_weave.proofs.port.candidate.Goals as goal
 
