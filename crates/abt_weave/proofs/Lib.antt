@@ -9,3 +9,4 @@ pub mod Candidates
 pub mod Comings
 pub mod PortLooks
 pub mod PortPlaces
+pub mod Passes

@@ -340,5 +340,5 @@ expected_after net js events sp p place input reply c reached event turn it its 
 pub look_same : (net : Topology) (js : Journaled) (settled : List Event → Bool → Type 0) (old also new : Board) (look : Look) → old.events.items ≡ also.events.items → count old ≡ count also →
     IsAfterLook net js settled also new look → IsAfterLook net js settled old new look
 look_same net js settled old also new Placed same counts h = (h.0, subst (λ n. n < count new) (sym counts) h.1)
-look_same net js settled old also new Waits same counts h = (h.0, h.1 ∙ sym same, subst (λ l. settled (reverse l) false) (sym same) h.2)
-look_same net js settled old also new Mismatches same counts h = (h.0, h.1 ∙ sym same, subst (λ l. settled (reverse l) true) (sym same) h.2)
+look_same net js settled old also new Waits same counts h = (h.0, h.1 ∙ sym same, h.2 ∙ sym counts, subst (λ l. settled (reverse l) false) (sym same) h.3)
+look_same net js settled old also new Mismatches same counts h = (h.0, h.1 ∙ sym same, h.2 ∙ sym counts, subst (λ l. settled (reverse l) true) (sym same) h.3)

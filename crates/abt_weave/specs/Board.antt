@@ -1,5 +1,5 @@
 -- What is placed so far.
-use Rattle.std.specs.Prelude.{◌≡◌, ℕ, ◌+◌, ◌<◌, Bool, true, false, List, ◌++◌, Some, length, reverse, slice_index, sum_by, MatchBool, Vec, map}
+use Rattle.std.specs.Prelude.{◌≡◌, ℕ, ◌+◌, ◌<◌, slice_get, Bool, true, false, List, ◌++◌, Some, length, reverse, slice_index, sum_by, MatchBool, Vec, map}
 use Rattle.std.specs.Global.{Global}
 use Rattle.abt_net.specs.Topology.{Topology}
 use Rattle.abt_model.specs.declared.event.Event.{Event}
@@ -12,6 +12,7 @@ use Rattle.abt_world.specs.Standing.{WorldView, StandsFor}
 use Rattle.abt_woven.specs.Projections.{Visit, past_of, visit, steps_on, entry_made, entries_on}
 use Rattle.abt_woven.specs.Stuck.{Journaled, ArePlaced, AreTurns, Fits, PortMismatches, SourceMismatches}
 use Rattle.abt_weave.specs.declared.board.Board.{Board}
+use Rattle.abt_weave.specs.declared.pass.Seen.{Seen}
 use Rattle.abt_weave.specs.declared.look.Look.{Look}
 use Rattle.abt_weave.specs.declared.look.Look.TheVariants.{Placed, Waits, Mismatches}
 
@@ -37,6 +38,10 @@ total places = sum_by (λ place. place) places
 abbrev pub count : Board → ℕ
 count board = total board.source_places.items + total board.port_places.items
 
+-- how many entries there are
+abbrev pub whole : List (Vec Entry Global) → List SourceJournal → ℕ
+whole ports sources = sum_by (λ (journal : SourceJournal). length journal.entries) sources + sum_by (λ (entries : Vec Entry Global). length entries.items) ports
+
 -- Nothing that fits behind the events is the next entry of a source, also after Turns, and whether that entry mismatches.
 pub record IsSourceSettled (net : Topology) (journals : Journaled) (earlier : List Event) (c : ℕ) (mismatches : Bool) : Type 0 where
   pub stuck : (turns : List Event) (event done : Event) (outcome : Outcome) → AreTurns net earlier turns → conn_of event ≡ c →
@@ -52,5 +57,33 @@ pub record IsPortSettled (net : Topology) (journals : Journaled) (earlier : List
 -- what a look at an actor does, where settled says whether its entry is stuck, and mismatches
 abbrev pub IsAfterLook : Topology → Journaled → (List Event → Bool → Type 0) → (old new : Board) → Look → Type 0
 IsAfterLook net journals settled old new Placed = IsBoard net journals new × (count old < count new)
-IsAfterLook net journals settled old new Waits = IsBoard net journals new × (new.events.items ≡ old.events.items) × settled (reverse old.events.items) false
-IsAfterLook net journals settled old new Mismatches = IsBoard net journals new × (new.events.items ≡ old.events.items) × settled (reverse old.events.items) true
+IsAfterLook net journals settled old new Waits = IsBoard net journals new × (new.events.items ≡ old.events.items) × (count new ≡ count old) × settled (reverse old.events.items) false
+IsAfterLook net journals settled old new Mismatches = IsBoard net journals new × (new.events.items ≡ old.events.items) × (count new ≡ count old) × settled (reverse old.events.items) true
+
+-- whether a look saw a mismatch, and whether something has been placed after it
+abbrev pub is_mismatch : Look → Bool
+is_mismatch Placed = false
+is_mismatch Waits = false
+is_mismatch Mismatches = true
+
+abbrev pub has_moved : Bool → Look → Bool
+has_moved moved Placed = true
+has_moved moved Waits = moved
+has_moved moved Mismatches = moved
+
+-- each of so many actors is settled, and its mark says whether its entry mismatches
+pub record AreSettled (settled : ℕ → Bool → Type 0) (n : ℕ) (marks : List Bool) : Type 0 where
+  pub count_is : length marks ≡ n
+  pub each : (i : ℕ) (b : Bool) → slice_get marks i ≡ Some b → settled i b
+
+-- what a pass has done after so many actors: it has placed something, or these are settled
+pub record IsPassing (net : Topology) (journals : Journaled) (settled : List Event → ℕ → Bool → Type 0) (old new : Board) (n : ℕ) (moved : Bool) (marks : List Bool) : Type 0 where
+  pub board : IsBoard net journals new
+  pub progress : MatchBool moved (count old < count new) ((new.events.items ≡ old.events.items) × (count new ≡ count old) × AreSettled (settled (reverse old.events.items)) n marks)
+
+-- what a pass over all actors has done
+pub record IsPass (net : Topology) (journals : Journaled) (old new : Board) (seen : Seen) : Type 0 where
+  pub board : IsBoard net journals new
+  pub progress : MatchBool seen.moved (count old < count new)
+    ((new.events.items ≡ old.events.items) × AreSettled (IsSourceSettled net journals (reverse new.events.items)) (length journals.sources) seen.sources.items
+      × AreSettled (IsPortSettled net journals (reverse new.events.items)) (length journals.ports) seen.ports.items)

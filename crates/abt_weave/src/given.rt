@@ -1,4 +1,6 @@
 //! What is to be woven.
+ghost use Rattle.std.specs.Prelude.{◌≡◌, length};
+
 use abt_journal::Entry;
 use abt_net::Net;
 use abt_source_journal::SourceJournal;
@@ -9,4 +11,18 @@ pub(crate) struct Given<'run> {
     pub net: &'run Net,
     pub ports: &'run [Vec<Entry>],
     pub sources: &'run [SourceJournal],
+}
+
+// How many connections a net has.
+pub(crate) fn conn_count(net: &Net) -> u16
+    ensures { result ≡ length net.now.conns }
+{
+    net.conns().len() as u16
+}
+
+// How many ports a net has.
+pub(crate) fn port_count(net: &Net) -> u16
+    ensures { result ≡ length net.now.capacities }
+{
+    net.capacities().len() as u16
 }

@@ -11,7 +11,6 @@ mod pass;
 mod port;
 mod same;
 mod source;
-mod stuck;
 #[cfg(test)]
 mod tests;
 mod trying;
@@ -20,4 +19,3 @@ mod weaving;
 pub use abt_list::Sequence;
 pub use abt_woven::{Actor, Stuck};
 pub use fault::WeaveFault;
-pub use weaving::weave;

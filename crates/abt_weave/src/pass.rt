@@ -1,94 +1,133 @@
 //! Passes over all actors.
-use crate::board::Board;
-use crate::given::Given;
-use crate::look::Look;
+ghost use Rattle.std.specs.Prelude.{◌≡◌, length, reverse, IfOk};
+ghost use Rattle.abt_weave.specs.Board as seen;
+ghost use Rattle.abt_weave.specs.Board.{journaled, IsBoard, IsSourceSettled, IsPortSettled, AreSettled, IsPassing, IsPass};
 
+use crate::board::Board;
+use crate::given::{Given, conn_count, port_count};
+use crate::look::Look;
+use crate::port::look_at_port;
 use crate::source::look_at_source;
 use std::alloc::{AllocError, Global};
 
-/// For each actor, whether its next entry was seen to mismatch. It isn't looked at then.
+/// What one look at each actor of a kind showed: whether an entry was placed, and if none was, whose next entry mismatches.
 #[derive(Drop)]
-pub(crate) struct Marks {
+struct Looks {
+    pub moved: bool,
+    pub marks: Vec<bool>,
+}
+
+/// The same of all actors.
+#[derive(Drop)]
+pub(crate) struct Seen {
+    pub moved: bool,
     pub sources: Vec<bool>,
     pub ports: Vec<bool>,
 }
 
-impl Marks {
-    pub(crate) fn new(alloc: Global, given: &Given) -> Result<Marks, AllocError> {
-        Ok(Marks {
-            sources: vec![in alloc; false; given.sources.len()]?,
-            ports: vec![in alloc; false; given.ports.len()]?,
-        })
+fn is_mismatch(look: Look) -> bool
+    ensures { result ≡ seen.is_mismatch look }
+{
+    match look {
+        Look::Mismatches => true,
+        Look::Placed | Look::Waits => false,
     }
 }
 
+fn has_moved(moved: bool, look: Look) -> bool
+    ensures { result ≡ seen.has_moved moved look }
+{
+    match look {
+        Look::Placed => true,
+        Look::Waits | Look::Mismatches => moved,
+    }
+}
+
+// Looks once at each source.
 fn pass_sources<'run>(
     alloc: Global,
     given: &Given<'run>,
     board: &mut Board<'run>,
-    marks: &mut [bool],
-) -> Result<bool, AllocError> {
+) -> Result<Looks, AllocError>
+    requires conns { length given.now.sources.now ≡ length given.now.net.now.conns }
+    requires ports { length given.now.ports.now ≡ length given.now.net.now.capacities }
+    requires board { IsBoard given.now.net.now (journaled given.now.ports.now given.now.sources.now) board.old }
+    ensures { let journals = journaled given.now.ports.now given.now.sources.now in
+        IfOk result (λ looks. IsPassing given.now.net.now journals (IsSourceSettled given.now.net.now journals) board.old board.new
+            (length given.now.sources.now) looks.moved looks.marks.items) }
+{
     let mut moved = false;
-    for conn in 0..given.sources.len() {
-        if marks[conn] {
-            continue;
-        }
-        match look_at_source(alloc, given, board, conn as u16)? {
-            Look::Placed => moved = true,
-            Look::Waits => {}
-            Look::Mismatches => marks[conn] = true,
-        }
+    let mut marks = Vec::new(alloc);
+    for conn in 0..conn_count(given.net) {
+        let look = look_at_source(alloc, given, board, conn)?;
+        marks.push(is_mismatch(look))?;
+        moved = has_moved(moved, look);
     }
-    Ok(moved)
+    Ok(Looks { moved, marks })
 }
 
+// Looks once at each port.
 fn pass_ports<'run>(
     alloc: Global,
     given: &Given<'run>,
     board: &mut Board<'run>,
-    marks: &mut [bool],
-) -> Result<bool, AllocError> {
+) -> Result<Looks, AllocError>
+    requires conns { length given.now.sources.now ≡ length given.now.net.now.conns }
+    requires ports { length given.now.ports.now ≡ length given.now.net.now.capacities }
+    requires board { IsBoard given.now.net.now (journaled given.now.ports.now given.now.sources.now) board.old }
+    ensures { let journals = journaled given.now.ports.now given.now.sources.now in
+        IfOk result (λ looks. IsPassing given.now.net.now journals (IsPortSettled given.now.net.now journals) board.old board.new
+            (length given.now.ports.now) looks.moved looks.marks.items) }
+{
     let mut moved = false;
-    for port in 0..given.ports.len() {
-        if marks[port] {
-            continue;
-        }
-        match Look::Waits {
-            Look::Placed => moved = true,
-            Look::Waits => {}
-            Look::Mismatches => marks[port] = true,
-        }
+    let mut marks = Vec::new(alloc);
+    for port in 0..port_count(given.net) {
+        let look = look_at_port(alloc, given, board, port)?;
+        marks.push(is_mismatch(look))?;
+        moved = has_moved(moved, look);
     }
-    Ok(moved)
+    Ok(Looks { moved, marks })
 }
 
-// Looks once at each actor that isn't marked.
-pub(crate) fn pass<'run>(
+// Looks once at each actor.
+fn pass<'run>(
     alloc: Global,
     given: &Given<'run>,
     board: &mut Board<'run>,
-    marks: &mut Marks,
-) -> Result<bool, AllocError> {
-    let by_source = pass_sources(alloc, given, board, marks.sources.as_mut_slice())?;
-    let by_port = pass_ports(alloc, given, board, marks.ports.as_mut_slice())?;
-    Ok(by_source || by_port)
+) -> Result<Seen, AllocError>
+    requires conns { length given.now.sources.now ≡ length given.now.net.now.conns }
+    requires ports { length given.now.ports.now ≡ length given.now.net.now.capacities }
+    requires board { IsBoard given.now.net.now (journaled given.now.ports.now given.now.sources.now) board.old }
+    ensures { IfOk result (IsPass given.now.net.now (journaled given.now.ports.now given.now.sources.now) board.old board.new) }
+{
+    let by_source = pass_sources(alloc, given, board)?;
+    let by_port = pass_ports(alloc, given, board)?;
+    Ok(Seen {
+        moved: by_source.moved || by_port.moved,
+        sources: by_source.marks,
+        ports: by_port.marks,
+    })
 }
 
-// Places entries while any can be placed. Actors that mismatched are looked at again when nothing else moves.
+/// Looks at all actors again and again, until a pass places nothing, and gives what that one showed.
 pub(crate) fn settle<'run>(
     alloc: Global,
     given: &Given<'run>,
     board: &mut Board<'run>,
-) -> Result<Marks, AllocError> {
-    let mut marks = Marks::new(alloc, given)?;
+) -> Result<Seen, AllocError>
+    requires conns { length given.now.sources.now ≡ length given.now.net.now.conns }
+    requires ports { length given.now.ports.now ≡ length given.now.net.now.capacities }
+    requires board { IsBoard given.now.net.now (journaled given.now.ports.now given.now.sources.now) board.old }
+    ensures board { IfOk result (λ _. IsBoard given.now.net.now (journaled given.now.ports.now given.now.sources.now) board.new) }
+    ensures sources { let journals = journaled given.now.ports.now given.now.sources.now in
+        IfOk result (λ seen. AreSettled (IsSourceSettled given.now.net.now journals (reverse board.new.events.items)) (length given.now.sources.now) seen.sources.items) }
+    ensures ports { let journals = journaled given.now.ports.now given.now.sources.now in
+        IfOk result (λ seen. AreSettled (IsPortSettled given.now.net.now journals (reverse board.new.events.items)) (length given.now.ports.now) seen.ports.items) }
+{
     loop {
-        if pass(alloc, given, board, &mut marks)? {
-            continue;
+        let seen = pass(alloc, given, board)?;
+        if !seen.moved {
+            return Ok(seen);
         }
-        let mut fresh = Marks::new(alloc, given)?;
-        if !pass(alloc, given, board, &mut fresh)? {
-            return Ok(fresh);
-        }
-        marks = fresh;
     }
 }

@@ -23,7 +23,7 @@ returns-in_default c =
     let events = c.args.board.now.events.items in
     let sp = c.args.board.now.source_places.items in
     let pp = c.args.board.now.port_places.items in
-    (c.requires.board, refl,
+    (c.requires.board, refl, refl,
      expected_absent net js events sp c.args.port c.args.entry.now.place c.args.entry.now.input c.args.entry.now.reply c.args.it.conn c.args.it.reached c.args.it.event c.requires.expected c.requires.absent
        (λ d seq yes_of happens. c.in_default.ensures.none refl d seq yes_of))
 
@@ -38,7 +38,7 @@ returns-then-not-branch c =
     let pp = c.args.board.now.port_places.items in
     let its = c.in-Some.ensures.some in
     let went = subst (λ b. IsTurnTried net events c.in-Some.turn c.try_turn.new.world b) c.if-not-branch.true (c.in_ok-try_turn.ensures net events c.requires.board.stands) in
-    (board_kept net js events events c.args.board.now.world c.try_turn.new.world sp pp c.requires.board went.1 refl, refl,
+    (board_kept net js events events c.args.board.now.world c.try_turn.new.world sp pp c.requires.board went.1 refl, refl, refl,
      expected_absent net js events sp c.args.port c.args.entry.now.place c.args.entry.now.input c.args.entry.now.reply c.args.it.conn c.args.it.reached c.args.it.event c.requires.expected c.requires.absent
        (turn_off net (facts_after net events) c.args.it.event c.in-Some.turn its went.0))
 
@@ -79,5 +79,5 @@ returns-in_ok-board-in_default-2 c =
     let differ : reply_of (outcome_of net (facts_after net (events ++ c.in-Some.turn ∷ [])) c.args.it.event) ≢ Some c.args.entry.now.reply =
       not_agreed net (events ++ c.in-Some.turn ∷ []) c.args.it.event c.args.entry.now.reply c.try_visit.new.world c.in_ok-try_visit.field-0 c.in_default-2.not-Agrees (c.in_ok-try_visit.ensures net (events ++ c.in-Some.turn ∷ []) later.stands) in
     let after : StandsFor net events c.in_ok-board-in_default-2.field-0 = subst (λ l. StandsFor net l c.in_ok-board-in_default-2.field-0) (c.deref.ensures.value ∙ same) c.in_ok-board-in_default-2.ensures in
-    (board_kept net js events c.reserve.new.self.items c.args.board.now.world c.in_ok-board-in_default-2.field-0 sp pp c.requires.board after same, same,
+    (board_kept net js events c.reserve.new.self.items c.args.board.now.world c.in_ok-board-in_default-2.field-0 sp pp c.requires.board after same, same, refl,
      expected_turn_differs net js events sp c.args.port c.args.entry.now.place c.args.entry.now.input c.args.entry.now.reply c.args.it.conn c.args.it.reached c.args.it.event c.in-Some.turn c.requires.expected c.requires.absent its went.0 differ)

@@ -25,7 +25,7 @@ returns-then-place-entries c =
     let pp = c.args.board.now.port_places.items in
     let read = step_read net ports sources events c.args.board.now.world sp pp c.args.port c.from-p.result c.index-given-p.result c.as_slice-entries.result.now c.index-place.result.now c.requires.board
       c.from-p.ensures c.requires.port c.index-given-p.is c.as_slice-entries.ensures.value c.index-place.ensures in
-    (c.requires.board, refl, port_done net js (reverse events) c.args.port (read.0 ∙ no_step c.as_slice-entries.result.now c.index-place.result.now c.if-place-entries.true))
+    (c.requires.board, refl, refl, port_done net js (reverse events) c.args.port (read.0 ∙ no_step c.as_slice-entries.result.now c.index-place.result.now c.if-place-entries.true))
 
 pub expect_event-requires-clause-next : goal.expect_event-requires-clause-next
 expect_event-requires-clause-next c =
@@ -54,7 +54,7 @@ returns-in_default c =
       c.from-p.ensures c.requires.port c.index-given-p.is c.as_slice-entries.ensures.value c.index-place.ensures in
     let low : c.index-place.result.now < length c.as_slice-entries.result.now = omega arith in
     let next = read.0 ∙ step_at_place c.as_slice-entries.result.now c.index-place.result.now c.index-entries-place.result low c.index-entries-place.is in
-    (c.requires.board, refl, none_settled net js c.in_default.ensures.rules (reverse events) c.args.port c.index-entries-place.result next (c.in_default.ensures.none refl))
+    (c.requires.board, refl, refl, none_settled net js c.in_default.ensures.rules (reverse events) c.args.port c.index-entries-place.result next (c.in_default.ensures.none refl))
 
 pub returns-in_ok-push-in-Agrees : goal.returns-in_ok-push-in-Agrees
 returns-in_ok-push-in-Agrees c =
@@ -89,7 +89,7 @@ returns-in_ok-board-in-Differs c =
     let tried = subst (λ t. IsVisitTried net events c.in-Some.it.event c.index-entries-place.result.reply c.try_visit.new.world t) is (c.in_ok-try_visit.ensures net events c.requires.board.stands) in
     let same = c.in_ok-reserve.ensures.items in
     let after : StandsFor net events c.in_ok-board-in-Differs.field-0 = subst (λ l. StandsFor net l c.in_ok-board-in-Differs.field-0) (c.deref.ensures.value ∙ same) c.in_ok-board-in-Differs.ensures in
-    (board_kept net js events c.reserve.new.self.items c.args.board.now.world c.in_ok-board-in-Differs.field-0 sp pp c.requires.board after same, same,
+    (board_kept net js events c.reserve.new.self.items c.args.board.now.world c.in_ok-board-in-Differs.field-0 sp pp c.requires.board after same, same, refl,
      expected_differs net js events sp c.args.port c.index-entries-place.result.place c.index-entries-place.result.input c.index-entries-place.result.reply c.in-Some.it.conn c.in-Some.it.reached c.in-Some.it.event
        c.in-Some.ensures.some tried.0.0 tried.0.1)
 

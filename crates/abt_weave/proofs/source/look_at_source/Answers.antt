@@ -16,7 +16,7 @@ returns-then-place-entries c =
     let js = journaled c.args.given.now.ports.now c.args.given.now.sources.now in
     let next = next_read net c.args.given.now.ports.now c.args.given.now.sources.now c.args.board.now.events.items c.args.board.now.world c.args.board.now.source_places.items c.args.board.now.port_places.items
       c.args.conn c.from-c.result c.index-given-c.result c.as_slice-entries.result.now c.index-place.result.now c.requires.board c.from-c.ensures c.requires.source c.index-given-c.is c.as_slice-entries.ensures c.index-place.ensures in
-    (c.requires.board, refl, past_settled net js (reverse c.args.board.now.events.items) c.args.conn c.as_slice-entries.result.now c.index-place.result.now next c.if-place-entries.true)
+    (c.requires.board, refl, refl, past_settled net js (reverse c.args.board.now.events.items) c.args.conn c.as_slice-entries.result.now c.index-place.result.now next c.if-place-entries.true)
 
 pub returns-in_default : goal.returns-in_default
 returns-in_default c =
@@ -24,7 +24,7 @@ returns-in_default c =
     let js = journaled c.args.given.now.ports.now c.args.given.now.sources.now in
     let next = next_read net c.args.given.now.ports.now c.args.given.now.sources.now c.args.board.now.events.items c.args.board.now.world c.args.board.now.source_places.items c.args.board.now.port_places.items
       c.args.conn c.from-c.result c.index-given-c.result c.as_slice-entries.result.now c.index-place.result.now c.requires.board c.from-c.ensures c.requires.source c.index-given-c.is c.as_slice-entries.ensures c.index-place.ensures in
-    (c.requires.board, refl, other_settled net js (reverse c.args.board.now.events.items) c.args.conn c.as_slice-entries.result.now c.index-place.result.now _ next c.in_default.not-Did)
+    (c.requires.board, refl, refl, other_settled net js (reverse c.args.board.now.events.items) c.args.conn c.as_slice-entries.result.now c.index-place.result.now _ next c.in_default.not-Did)
 
 pub returns-then-not-is_own_of : goal.returns-then-not-is_own_of
 returns-then-not-is_own_of c =
@@ -34,7 +34,7 @@ returns-then-not-is_own_of c =
       c.args.conn c.from-c.result c.index-given-c.result c.as_slice-entries.result.now c.index-place.result.now c.requires.board c.from-c.ensures c.requires.source c.index-given-c.is c.as_slice-entries.ensures c.index-place.ensures in
     let low : c.index-place.result.now < length c.as_slice-entries.result.now = omega arith in
     let at = stands_at c.as_slice-entries.result.now c.index-place.result.now _ (Did c.in-Did.event c.in-Did.told) low c.in-Did.is in
-    (c.requires.board, refl, foreign_settled net js (reverse c.args.board.now.events.items) c.args.conn c.in-Did.event c.in-Did.told (next ∙ at) (sym c.is_own_of.ensures ∙ c.if-not-is_own_of.true))
+    (c.requires.board, refl, refl, foreign_settled net js (reverse c.args.board.now.events.items) c.args.conn c.in-Did.event c.in-Did.told (next ∙ at) (sym c.is_own_of.ensures ∙ c.if-not-is_own_of.true))
 
 pub returns-in_ok-push-in-Agrees : goal.returns-in_ok-push-in-Agrees
 returns-in_ok-push-in-Agrees c =
@@ -68,7 +68,8 @@ returns-in_ok-board-in-Differs c =
     let tried = subst (λ t. IsOwnTried net events c.in-Did.event c.in-Did.told c.try_own.new.world t) is (c.in_ok-try_own.ensures net events c.requires.board.stands) in
     let same = c.in_ok-reserve.ensures.items in
     let after : StandsFor net events c.in_ok-board-in-Differs.field-0 = subst (λ l. StandsFor net l c.in_ok-board-in-Differs.field-0) (c.deref.ensures.value ∙ same) c.in_ok-board-in-Differs.ensures in
-    differs_settled net js events c.reserve.new.self.items c.args.board.now.world c.in_ok-board-in-Differs.field-0 sp pp c.args.conn c.in-Did.event c.in-Did.told c.requires.board (next ∙ at) (sym c.is_own_of.ensures ∙ c.if-not-is_own_of.false) tried.0.0 tried.0.1 after same
+    let whole = differs_settled net js events c.reserve.new.self.items c.args.board.now.world c.in_ok-board-in-Differs.field-0 sp pp c.args.conn c.in-Did.event c.in-Did.told c.requires.board (next ∙ at) (sym c.is_own_of.ensures ∙ c.if-not-is_own_of.false) tried.0.0 tried.0.1 after same in
+    (whole.0, whole.1, refl, whole.2)
 
 pub returns-in-Absent : goal.returns-in-Absent
 returns-in-Absent c =
@@ -84,4 +85,5 @@ returns-in-Absent c =
     let is : c.in_ok-try_own.field-0 ≡ Absent = c.in-Absent.is in
     let tried = subst (λ t. IsOwnTried net events c.in-Did.event c.in-Did.told c.try_own.new.world t) is (c.in_ok-try_own.ensures net events c.requires.board.stands) in
     let same = c.in_ok-reserve.ensures.items in
-    absent_settled net js events c.reserve.new.self.items c.args.board.now.world c.try_own.new.world sp pp c.args.conn c.in-Did.event c.in-Did.told c.requires.board (next ∙ at) tried.0.0 tried.0.1 tried.1 same
+    let whole = absent_settled net js events c.reserve.new.self.items c.args.board.now.world c.try_own.new.world sp pp c.args.conn c.in-Did.event c.in-Did.told c.requires.board (next ∙ at) tried.0.0 tried.0.1 tried.1 same in
+    (whole.0, whole.1, refl, whole.2)
