@@ -10,3 +10,5 @@ pub mod Comings
 pub mod PortLooks
 pub mod PortPlaces
 pub mod Passes
+pub mod Ends
+pub mod Whole

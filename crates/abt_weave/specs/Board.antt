@@ -81,9 +81,8 @@ pub record IsPassing (net : Topology) (journals : Journaled) (settled : List Eve
   pub board : IsBoard net journals new
   pub progress : MatchBool moved (count old < count new) ((new.events.items ≡ old.events.items) × (count new ≡ count old) × AreSettled (settled (reverse old.events.items)) n marks)
 
--- what a pass over all actors has done
-pub record IsPass (net : Topology) (journals : Journaled) (old new : Board) (seen : Seen) : Type 0 where
+-- what a pass over all actors, so many sources and ports, has done
+pub record IsPass (net : Topology) (journals : Journaled) (old new : Board) (n m : ℕ) (seen : Seen) : Type 0 where
   pub board : IsBoard net journals new
   pub progress : MatchBool seen.moved (count old < count new)
-    ((new.events.items ≡ old.events.items) × AreSettled (IsSourceSettled net journals (reverse new.events.items)) (length journals.sources) seen.sources.items
-      × AreSettled (IsPortSettled net journals (reverse new.events.items)) (length journals.ports) seen.ports.items)
+    (AreSettled (IsSourceSettled net journals (reverse new.events.items)) n seen.sources.items × AreSettled (IsPortSettled net journals (reverse new.events.items)) m seen.ports.items)

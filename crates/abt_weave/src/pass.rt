@@ -1,5 +1,5 @@
 //! Passes over all actors.
-ghost use Rattle.std.specs.Prelude.{◌≡◌, length, reverse, IfOk};
+ghost use Rattle.std.specs.Prelude.{◌≡◌, ◌||◌, length, reverse, IfOk};
 ghost use Rattle.abt_weave.specs.Board as seen;
 ghost use Rattle.abt_weave.specs.Board.{journaled, IsBoard, IsSourceSettled, IsPortSettled, AreSettled, IsPassing, IsPass};
 
@@ -89,6 +89,12 @@ fn pass_ports<'run>(
     Ok(Looks { moved, marks })
 }
 
+fn either(one: bool, other: bool) -> bool
+    ensures { result ≡ (one || other) }
+{
+    one || other
+}
+
 // Looks once at each actor.
 fn pass<'run>(
     alloc: Global,
@@ -98,12 +104,13 @@ fn pass<'run>(
     requires conns { length given.now.sources.now ≡ length given.now.net.now.conns }
     requires ports { length given.now.ports.now ≡ length given.now.net.now.capacities }
     requires board { IsBoard given.now.net.now (journaled given.now.ports.now given.now.sources.now) board.old }
-    ensures { IfOk result (IsPass given.now.net.now (journaled given.now.ports.now given.now.sources.now) board.old board.new) }
+    ensures { IfOk result (IsPass given.now.net.now (journaled given.now.ports.now given.now.sources.now) board.old board.new
+        (length given.now.sources.now) (length given.now.ports.now)) }
 {
     let by_source = pass_sources(alloc, given, board)?;
     let by_port = pass_ports(alloc, given, board)?;
     Ok(Seen {
-        moved: by_source.moved || by_port.moved,
+        moved: either(by_source.moved, by_port.moved),
         sources: by_source.marks,
         ports: by_port.marks,
     })
