@@ -12,3 +12,4 @@ pub mod PortPlaces
 pub mod Passes
 pub mod Ends
 pub mod Whole
+pub mod Lefts

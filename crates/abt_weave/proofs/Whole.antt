@@ -1,6 +1,6 @@
 -- No more entries are placed than there are.
 use Rattle.std.proofs.Common.{◌≡◌, ℕ, zero, suc, ◌+◌, ◌-◌, ◌<◌, ◌≤◌, refl, ap, Bool, true, false, List, [], ◌∷◌, ◌++◌, length, reverse, ◌∙◌, sym, subst, Option, None, Some, MatchBool, arith}
-use Rattle.std.specs.Prelude.{◌||◌, slice_get, slice_index, sum_by, map, option_map, Vec}
+use Rattle.std.specs.Prelude.{not, ◌||◌, slice_get, slice_index, sum_by, map, option_map, Vec}
 use Rattle.std.specs.Global.{Global}
 use Rattle.std.proofs.lemmas.List.{length-append, length-map}
 use Rattle.std.proofs.lemmas.List.Sums.{sum_by-cons}
@@ -72,3 +72,14 @@ passes_joined net js old mid new n m one other seen first last is = record {
 -- a measure falls
 pub falls : (ports : List (Vec Entry Global)) (sources : List SourceJournal) (old new : Board) → count old < count new → count new ≤ whole ports sources → whole ports sources - count new < whole ports sources - count old
 falls ports sources old new more low = omega (arith, more, low)
+
+pub moved_on : (net : Topology) (js : Journaled) (old new : Board) (n m : ℕ) (seen : Seen) → IsPass net js old new n m seen → seen.moved ≡ true → count old < count new
+moved_on net js old new n m seen is moved = subst (λ b. MatchBool b (count old < count new) (Ends net js new n m seen.sources.items seen.ports.items)) moved is.progress
+
+pub all_settled : (net : Topology) (js : Journaled) (old new : Board) (n m : ℕ) (seen : Seen) → IsPass net js old new n m seen → seen.moved ≡ false →
+    AreSettled (IsSourceSettled net js (reverse new.events.items)) n seen.sources.items × AreSettled (IsPortSettled net js (reverse new.events.items)) m seen.ports.items
+all_settled net js old new n m seen is moved = subst (λ b. MatchBool b (count old < count new) (Ends net js new n m seen.sources.items seen.ports.items)) moved is.progress
+
+pub not_not : (b : Bool) → not b ≡ false → b ≡ true
+not_not true h = refl
+not_not false h = sym h

@@ -3,3 +3,5 @@ pub mod Stops
 pub mod Board
 pub mod Tried
 pub mod Comes
+pub mod Marks
+pub mod Faults
