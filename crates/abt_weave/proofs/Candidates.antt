@@ -20,7 +20,7 @@ pub cond_some : {A : Type 0} → (b : Bool) (o : Option A) (y : A) → (if b the
 cond_some true o y h = (refl, h)
 cond_some false o y h = absurd (cc)
 
-and_both : (x y : Bool) → x && y ≡ true → (x ≡ true) × (y ≡ true)
+pub and_both : (x y : Bool) → x && y ≡ true → (x ≡ true) × (y ≡ true)
 and_both true y h = (refl, h)
 and_both false y h = absurd (false≢true h)
 

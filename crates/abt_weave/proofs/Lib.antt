@@ -13,3 +13,4 @@ pub mod Passes
 pub mod Ends
 pub mod Whole
 pub mod Lefts
+pub mod Wovens

@@ -1,5 +1,6 @@
 //! What is to be woven.
 ghost use Rattle.std.specs.Prelude.{◌≡◌, length};
+ghost use Rattle.abt_net.specs.Topology.{IsWithinRules};
 
 use abt_journal::Entry;
 use abt_net::Net;
@@ -15,7 +16,8 @@ pub(crate) struct Given<'run> {
 
 // How many connections a net has.
 pub(crate) fn conn_count(net: &Net) -> u16
-    ensures { result ≡ length net.now.conns }
+    ensures value { result ≡ length net.now.conns }
+    ensures rules { IsWithinRules net.now }
 {
     net.conns().len() as u16
 }

@@ -1,6 +1,7 @@
 //! The first entry that mismatches.
 ghost use Rattle.std.specs.Prelude.{◌≡◌, length, MatchOption};
 ghost use Rattle.abt_woven.specs.declared.actor.Actor.TheVariants.{Source, Port};
+ghost use Rattle.abt_net.specs.Topology.{IsWithinRules};
 ghost use Rattle.abt_weave.specs.Board.{journaled, IsBoard};
 ghost use Rattle.abt_weave.specs.Marks.{AreUnmarked, IsFirstMark};
 
@@ -14,7 +15,8 @@ pub(crate) fn first_source(given: &Given, board: &Board, marks: &[bool]) -> Opti
     requires ports { length given.now.ports.now ≡ length given.now.net.now.capacities }
     requires marks { length marks.now ≡ length given.now.sources.now }
     requires board { IsBoard given.now.net.now (journaled given.now.ports.now given.now.sources.now) board.now }
-    ensures { MatchOption result (AreUnmarked marks.now (length marks.now))
+    ensures rules { IsWithinRules given.now.net.now }
+    ensures first { MatchOption result (AreUnmarked marks.now (length marks.now))
         (λ stuck. IsFirstMark marks.now Source board.now.source_places.items stuck) }
 {
     for conn in 0..conn_count(given.net) {

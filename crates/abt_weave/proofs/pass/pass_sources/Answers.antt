@@ -7,7 +7,7 @@ pub loop-conn-init : goal.loop-conn-init
 loop-conn-init c =
     let net = c.args.given.now.net.now in
     let js = journaled c.args.given.now.ports.now c.args.given.now.sources.now in
-    (pass_begins net js (IsSourceSettled net js) c.args.board.now c.new-marks.result.items c.requires.board c.new-marks.ensures.items, c.conn_count-conn-end.ensures ∙ sym c.requires.conns)
+    (pass_begins net js (IsSourceSettled net js) c.args.board.now c.new-marks.result.items c.requires.board c.new-marks.ensures.items, c.conn_count-conn-end.ensures.value ∙ sym c.requires.conns)
 
 pub look_at_source-requires-clause-board : goal.look_at_source-requires-clause-board
 look_at_source-requires-clause-board c = c.loop-conn.invariant.0.board
