@@ -66,8 +66,8 @@ found c hop place (RequestIn q) placed next event h =
       conn = refl;
       hop_is = refl;
       brings =
-        ap (λ (n : ℕ). Some (RequestIn (record { vc = q.vc; seq = q.seq; floor = n; ask = ask_in placed q.seq }))) (sym (eqb-true q.floor (floor_in placed q.seq) rates.0))
-        ∙ ap (λ (n : ℕ). Some (RequestIn (record { vc = q.vc; seq = q.seq; floor = q.floor; ask = n }))) (sym (eqb-true q.ask (ask_in placed q.seq) rates.1));
+          ap (λ (n : ℕ). Some (RequestIn (record { vc = q.vc; seq = q.seq; floor = n; ask = ask_in placed q.seq }))) (sym (eqb-true q.floor (floor_in placed q.seq) rates.0))
+          ∙ ap (λ (n : ℕ). Some (RequestIn (record { vc = q.vc; seq = q.seq; floor = q.floor; ask = n }))) (sym (eqb-true q.ask (ask_in placed q.seq) rates.1));
       beside = sent_beside hop place next parts.1;
     })
 found c hop place (AnswerIn a) placed next event h =
@@ -80,8 +80,8 @@ found c hop place (AnswerIn a) placed next event h =
       conn = refl;
       hop_is = refl;
       brings =
-        ap (λ (n : ℕ). Some (AnswerIn (record { terms = record { vc = a.terms.vc; seq = s; floor = n; ask = ask_in placed s }; granted = a.granted }))) (sym (eqb-true a.terms.floor (floor_in placed s) rates.0))
-        ∙ ap (λ (n : ℕ). Some (AnswerIn (record { terms = record { vc = a.terms.vc; seq = s; floor = a.terms.floor; ask = n }; granted = a.granted }))) (sym (eqb-true a.terms.ask (ask_in placed s) rates.1));
+          ap (λ (n : ℕ). Some (AnswerIn (record { terms = record { vc = a.terms.vc; seq = s; floor = n; ask = ask_in placed s }; granted = a.granted }))) (sym (eqb-true a.terms.floor (floor_in placed s) rates.0))
+          ∙ ap (λ (n : ℕ). Some (AnswerIn (record { terms = record { vc = a.terms.vc; seq = s; floor = a.terms.floor; ask = n }; granted = a.granted }))) (sym (eqb-true a.terms.ask (ask_in placed s) rates.1));
       beside = λ x e. absurd (cc);
     })
 found c hop place (ArriveIn vc at) placed next event h =

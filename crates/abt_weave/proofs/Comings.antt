@@ -72,7 +72,7 @@ coming_found net js earlier p c hop k place input vc entries come event stop cha
         within = subst (λ j. is_hop (length stop.conn.path) j ≡ true) (sym its.hop_is) stop.within;
         port = ap (λ j. slice_index stop.conn.path (j - 1)) its.hop_is ∙ stop.port;
         brings = ap (λ (w : Channel). input_told w (reverse (entries_on net (conn_of event) earlier)) event) (stop.channel ∙ channel)
-          ∙ ap (λ (l : List SourceEntry). input_told (channel_of input) l event) (sym placed) ∙ its.brings;
+            ∙ ap (λ (l : List SourceEntry). input_told (channel_of input) l event) (sym placed) ∙ its.brings;
         at = at;
         beside = λ x e. ap (next_entry net js earlier) whose ∙ sym beside.next ∙ its.beside x e;
       };

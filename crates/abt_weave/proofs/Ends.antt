@@ -84,23 +84,23 @@ pub all_still : (net : Topology) (js : Journaled) → IsWithinRules net → (ear
 all_still net js rules earlier sources ports placed ss ps = record {
   placed = placed;
   still = λ turns all event fits.
-    (let after = turns ++ earlier in
-     let no_port : (v : Visit) → visit net (past_of net after) event ≡ Some v → ⊥ = λ v is.
-       (let low = steps_low js v.port (length (steps_on net v.port after)) (step_next net after v) (fits.step v is) in
-        let mark = mark_at ports v.port (subst (λ n. v.port < n) (sym ps.count_is) low) in
-        (ps.each v.port mark.0 mark.1).stuck turns event v all is refl fits) in
-     elim (cases_option (visit net (past_of net after) event)) [
-       | inr some ↦ no_port some.0 some.1
-       | inl none ↦ (elim (cases_option (entry_made net after event)) [
-           | inl nothing ↦ (elim fits.falls [ inl a ↦ a none | inr b ↦ b nothing ])
-           | inr entry ↦ (
-               let done = own_or_visit net rules after event entry.0 none entry.1 in
-               let c = conn_of event in
-               let low = entries_low js c (length (entries_on net c after)) entry.0 (fits.entry entry.0 entry.1) in
-               let mark = mark_at sources c (subst (λ n. c < n) (sym ss.count_is) low) in
-               (ss.each c mark.0 mark.1).stuck turns event event done.0 all refl (entry.1 ∙ ap (λ (y : SourceEntry). Some y) done.1) fits)
-         ])
-     ]);
+      (let after = turns ++ earlier in
+      let no_port : (v : Visit) → visit net (past_of net after) event ≡ Some v → ⊥ = λ v is.
+      (let low = steps_low js v.port (length (steps_on net v.port after)) (step_next net after v) (fits.step v is) in
+      let mark = mark_at ports v.port (subst (λ n. v.port < n) (sym ps.count_is) low) in
+      (ps.each v.port mark.0 mark.1).stuck turns event v all is refl fits) in
+      elim (cases_option (visit net (past_of net after) event)) [
+        | inr some ↦ no_port some.0 some.1
+        | inl none ↦ (elim (cases_option (entry_made net after event)) [
+          | inl nothing ↦ (elim fits.falls [ inl a ↦ a none | inr b ↦ b nothing ])
+          | inr entry ↦ (
+              let done = own_or_visit net rules after event entry.0 none entry.1 in
+              let c = conn_of event in
+              let low = entries_low js c (length (entries_on net c after)) entry.0 (fits.entry entry.0 entry.1) in
+              let mark = mark_at sources c (subst (λ n. c < n) (sym ss.count_is) low) in
+              (ss.each c mark.0 mark.1).stuck turns event event done.0 all refl (entry.1 ∙ ap (λ (y : SourceEntry). Some y) done.1) fits)
+        ])
+      ]);
 }
 
 -- an actor without entries left doesn't mismatch

@@ -48,8 +48,8 @@ port_left_read net ports sources events world sp pp p k v entries place board sa
     let here : place ≡ length (steps_on net k (reverse events)) = place_read pp (λ q. length (steps_on net q (reverse events))) k place board.port_places lowp at in
     let found : slice_get ports k ≡ Some v = slice_get_read ports (length ports) k v refl lowk read in
     let count : length (port_journal js k) ≡ length entries =
-      ap (λ o. length (steps_in o)) (slice_get-map (λ (w : Vec Entry Global). w.items) ports k ∙ ap (option_map (λ (w : Vec Entry Global). w.items)) found)
-      ∙ length-map v.items step_of ∙ ap (λ (w : Vec Entry Global). length w.items) read ∙ sym (ap (λ l. length l) are) in
+    ap (λ o. length (steps_in o)) (slice_get-map (λ (w : Vec Entry Global). w.items) ports k ∙ ap (option_map (λ (w : Vec Entry Global). w.items)) found)
+    ∙ length-map v.items step_of ∙ ap (λ (w : Vec Entry Global). length w.items) read ∙ sym (ap (λ l. length l) are) in
     ap (λ n. left_at (Port p) n (length entries)) (here ∙ ap (λ q. length (steps_on net q (reverse events))) same)
     ∙ ap (λ n. left_at (Port p) (length (steps_on net p (reverse events))) n) (sym count ∙ ap (λ q. length (port_journal js q)) same)
 

@@ -117,8 +117,8 @@ own_fits net journals earlier c event told own answers enabled next =
       falls = inr (λ none. let clash = sym none ∙ made in cc);
       step = λ v is. (let clash = sym nowhere ∙ is in absurd (cc));
       entry = λ x is.
-        (let same : Some (Did event (outcome_of net (past_of net earlier) event)) ≡ Some x = sym made ∙ is in
-         ap (next_entry net journals earlier) (own_conn c event own) ∙ next ∙ ap (λ o. Some (Did event o)) (sym answers) ∙ same);
+          (let same : Some (Did event (outcome_of net (past_of net earlier) event)) ≡ Some x = sym made ∙ is in
+          ap (next_entry net journals earlier) (own_conn c event own) ∙ next ∙ ap (λ o. Some (Did event o)) (sym answers) ∙ same);
     }
 
 -- where the next entry of a source is nothing that it does
@@ -126,12 +126,12 @@ pub settled_none : (net : Topology) (journals : Journaled) (earlier : List Event
     ((event : Event) (told : Outcome) → next_entry net journals earlier c ≡ Some (Did event told) → is_own_of c event ≡ true → ⊥) → IsSourceSettled net journals earlier c false
 settled_none net journals earlier c none = record {
   stuck = λ turns event done outcome all here made fits.
-    (let own = made_own (place_at_first net (turns ++ earlier) event) event (outcome_of net (past_of net (turns ++ earlier)) event) done outcome made in
-     none done outcome (sym (next_turns net journals earlier turns all c) ∙ ap (next_entry net journals (turns ++ earlier)) (sym here) ∙ fits.entry (Did done outcome) made)
-       (subst (λ d. is_own_of c d ≡ true) (sym own.event_is) (subst (λ d. is_own_of d event ≡ true) here own.own)));
+      (let own = made_own (place_at_first net (turns ++ earlier) event) event (outcome_of net (past_of net (turns ++ earlier)) event) done outcome made in
+      none done outcome (sym (next_turns net journals earlier turns all c) ∙ ap (next_entry net journals (turns ++ earlier)) (sym here) ∙ fits.entry (Did done outcome) made)
+      (subst (λ d. is_own_of c d ≡ true) (sym own.event_is) (subst (λ d. is_own_of d event ≡ true) here own.own)));
   marks = λ m.
-    (let own = made_own (place_at_first net (m.turns ++ earlier) m.event) m.event (outcome_of net (past_of net (m.turns ++ earlier)) m.event) m.event m.outcome m.does in
-     none m.event m.told (sym (next_turns net journals earlier m.turns m.turned c) ∙ m.next) (subst (λ d. is_own_of d m.event ≡ true) m.here own.own));
+      (let own = made_own (place_at_first net (m.turns ++ earlier) m.event) m.event (outcome_of net (past_of net (m.turns ++ earlier)) m.event) m.event m.outcome m.does in
+      none m.event m.told (sym (next_turns net journals earlier m.turns m.turned c) ∙ m.next) (subst (λ d. is_own_of d m.event ≡ true) m.here own.own));
 }
 
 -- where it is an answer that can't be told
@@ -139,22 +139,22 @@ pub settled_absent : (net : Topology) (journals : Journaled) (earlier : List Eve
     is_told event ≡ true → is_enabled (outcome_of net (past_of net earlier) event) ≡ false → IsSourceSettled net journals earlier c false
 settled_absent net journals earlier c event told next tells off =
     let never : (turns : List Event) (other : Event) (y : Outcome) → AreTurns net earlier turns → other ≡ event → entry_made net (turns ++ earlier) other ≡ Some (Did other y) → ⊥
-      = λ turns other y all same made.
-        (let own = made_own (place_at_first net (turns ++ earlier) other) other (outcome_of net (past_of net (turns ++ earlier)) other) other y made in
-         let answers = own_turns net earlier turns all (conn_of other) other own.own in
-         let silent : is_enabled (outcome_of net (past_of net (turns ++ earlier)) other) ≡ false = ap is_enabled answers ∙ ap (λ e. is_enabled (outcome_of net (past_of net earlier) e)) same ∙ off in
-         let yes : is_told other ≡ true = ap is_told same ∙ tells in
-         false≢true (sym own.enabled ∙ ap (λ b. b && not (is_enabled (outcome_of net (past_of net (turns ++ earlier)) other))) yes ∙ ap not silent)) in
+    = λ turns other y all same made.
+    (let own = made_own (place_at_first net (turns ++ earlier) other) other (outcome_of net (past_of net (turns ++ earlier)) other) other y made in
+    let answers = own_turns net earlier turns all (conn_of other) other own.own in
+    let silent : is_enabled (outcome_of net (past_of net (turns ++ earlier)) other) ≡ false = ap is_enabled answers ∙ ap (λ e. is_enabled (outcome_of net (past_of net earlier) e)) same ∙ off in
+    let yes : is_told other ≡ true = ap is_told same ∙ tells in
+    false≢true (sym own.enabled ∙ ap (λ b. b && not (is_enabled (outcome_of net (past_of net (turns ++ earlier)) other))) yes ∙ ap not silent)) in
     record {
       stuck = λ turns other done outcome all here made fits.
-        (let own = made_own (place_at_first net (turns ++ earlier) other) other (outcome_of net (past_of net (turns ++ earlier)) other) done outcome made in
-         let at : Some (Did event told) ≡ Some (Did done outcome) = sym next ∙ sym (next_turns net journals earlier turns all c) ∙ ap (next_entry net journals (turns ++ earlier)) (sym here) ∙ fits.entry (Did done outcome) made in
-         let same : done ≡ event = cc in
-         never turns other outcome all (sym own.event_is ∙ same) (made ∙ ap (λ d. Some (Did d outcome)) own.event_is));
+          (let own = made_own (place_at_first net (turns ++ earlier) other) other (outcome_of net (past_of net (turns ++ earlier)) other) done outcome made in
+          let at : Some (Did event told) ≡ Some (Did done outcome) = sym next ∙ sym (next_turns net journals earlier turns all c) ∙ ap (next_entry net journals (turns ++ earlier)) (sym here) ∙ fits.entry (Did done outcome) made in
+          let same : done ≡ event = cc in
+          never turns other outcome all (sym own.event_is ∙ same) (made ∙ ap (λ d. Some (Did d outcome)) own.event_is));
       marks = λ m.
-        (let at : Some (Did event told) ≡ Some (Did m.event m.told) = sym next ∙ sym (next_turns net journals earlier m.turns m.turned c) ∙ m.next in
-         let same : m.event ≡ event = cc in
-         never m.turns m.event m.outcome m.turned same m.does);
+          (let at : Some (Did event told) ≡ Some (Did m.event m.told) = sym next ∙ sym (next_turns net journals earlier m.turns m.turned c) ∙ m.next in
+          let same : m.event ≡ event = cc in
+          never m.turns m.event m.outcome m.turned same m.does);
     }
 
 -- where it has another outcome
@@ -162,11 +162,11 @@ pub settled_differs : (net : Topology) (journals : Journaled) (earlier : List Ev
     is_own_of c event ≡ true → outcome_of net (past_of net earlier) event ≢ told → is_told event && not (is_enabled (outcome_of net (past_of net earlier) event)) ≡ false → IsSourceSettled net journals earlier c true
 settled_differs net journals earlier c event told next own differ enabled = record {
   stuck = λ turns other done outcome all here made fits.
-    (let its = made_own (place_at_first net (turns ++ earlier) other) other (outcome_of net (past_of net (turns ++ earlier)) other) done outcome made in
-     let at : Some (Did event told) ≡ Some (Did done outcome) = sym next ∙ sym (next_turns net journals earlier turns all c) ∙ ap (next_entry net journals (turns ++ earlier)) (sym here) ∙ fits.entry (Did done outcome) made in
-     let same : other ≡ event = (let first : done ≡ event = cc in sym its.event_is ∙ first) in
-     let answers : told ≡ outcome = cc in
-     differ (ap (outcome_of net (past_of net earlier)) (sym same) ∙ sym (own_turns net earlier turns all (conn_of other) other its.own) ∙ sym its.outcome_is ∙ sym answers));
+      (let its = made_own (place_at_first net (turns ++ earlier) other) other (outcome_of net (past_of net (turns ++ earlier)) other) done outcome made in
+      let at : Some (Did event told) ≡ Some (Did done outcome) = sym next ∙ sym (next_turns net journals earlier turns all c) ∙ ap (next_entry net journals (turns ++ earlier)) (sym here) ∙ fits.entry (Did done outcome) made in
+      let same : other ≡ event = (let first : done ≡ event = cc in sym its.event_is ∙ first) in
+      let answers : told ≡ outcome = cc in
+      differ (ap (outcome_of net (past_of net earlier)) (sym same) ∙ sym (own_turns net earlier turns all (conn_of other) other its.own) ∙ sym its.outcome_is ∙ sym answers));
   marks = record {
     turns = [];
     turned = tt;

@@ -151,7 +151,7 @@ pub has_reply : (net : Topology) (past : List ConnectionFact) (event : Event) (c
 has_reply net past event conn input known one brings h =
     let is = outcome_of-known net past event conn known in
     subst (λ o. HasReply conn o event) (sym is)
-      (by_reply conn (reserved_on net past (port_of conn.path event)) (slice_index net.capacities (port_of conn.path event)) (facts_of (conn_of event) past) event input one brings (ap is_enabled (sym is) ∙ h))
+    (by_reply conn (reserved_on net past (port_of conn.path event)) (slice_index net.capacities (port_of conn.path event)) (facts_of (conn_of event) past) event input one brings (ap is_enabled (sym is) ∙ h))
 
 -- what an event that happens and comes to a port is to its source
 beside_request : (net : Topology) (earlier : List Event) (c hop seq p place : ℕ) (conn : Conn) (outcome : Outcome) → conn_at net c ≡ Some conn → slice_index conn.path (hop - 1) ≡ p → place ≡ length (steps_on net p earlier) →
@@ -160,21 +160,21 @@ beside_request net earlier c hop seq p place conn outcome known port at h =
     let first = place_at_first net earlier (Request c hop seq) in
     ap (λ (b : Bool). if b && hop == 1 then Some (Sent first) else None) h
     ∙ elim (cases_eq hop 1) as (λ _. (if hop == 1 then Some (Sent first) else None) ≡ (if hop == 1 then Some (Sent place) else None)) [
-        | inl one ↦ (
-            let here : first ≡ place =
-              ap (λ (o : Option Conn). length (steps_on net (first_port o) earlier)) known
-              ∙ ap (λ (j : ℕ). length (steps_on net (slice_index conn.path (j - 1)) earlier)) (sym one)
-              ∙ ap (λ (q : ℕ). length (steps_on net q earlier)) port ∙ sym at in
-            ap (λ (n : ℕ). if hop == 1 then Some (Sent n) else None) here)
-        | inr other ↦ cond-false _ _ _ (ne_eqb hop 1 other) ∙ sym (cond-false _ _ _ (ne_eqb hop 1 other))
-      ]
+      | inl one ↦ (
+          let here : first ≡ place =
+          ap (λ (o : Option Conn). length (steps_on net (first_port o) earlier)) known
+          ∙ ap (λ (j : ℕ). length (steps_on net (slice_index conn.path (j - 1)) earlier)) (sym one)
+          ∙ ap (λ (q : ℕ). length (steps_on net q earlier)) port ∙ sym at in
+          ap (λ (n : ℕ). if hop == 1 then Some (Sent n) else None) here)
+      | inr other ↦ cond-false _ _ _ (ne_eqb hop 1 other) ∙ sym (cond-false _ _ _ (ne_eqb hop 1 other))
+    ]
 
 beside_arrival : (net : Topology) (earlier : List Event) (c cell a p place : ℕ) (conn : Conn) (outcome : Outcome) → conn_at net c ≡ Some conn → slice_index conn.path (1 - 1) ≡ p → place ≡ length (steps_on net p earlier) →
     is_enabled outcome ≡ true → entry_of (place_at_first net earlier (Arrive c cell a)) (Arrive c cell a) outcome ≡ Some (ArrivedAt cell place)
 beside_arrival net earlier c cell a p place conn outcome known port at h =
     let first = place_at_first net earlier (Arrive c cell a) in
     let here : first ≡ place =
-      ap (λ (o : Option Conn). length (steps_on net (first_port o) earlier)) known ∙ ap (λ (q : ℕ). length (steps_on net q earlier)) port ∙ sym at in
+    ap (λ (o : Option Conn). length (steps_on net (first_port o) earlier)) known ∙ ap (λ (q : ℕ). length (steps_on net q earlier)) port ∙ sym at in
     cond-true _ _ _ h ∙ ap (λ (n : ℕ). Some (ArrivedAt cell n)) here
 
 pub made_beside : (net : Topology) (earlier : List Event) (event : Event) (p place : ℕ) (conn : Conn) (outcome : Outcome) (input : PortInput) (facts : List Fact) → conn_at net (conn_of event) ≡ Some conn → slice_index conn.path (hop_met event - 1) ≡ p →
@@ -221,11 +221,11 @@ comes_fits net journals earlier event p place input reply comes replies next =
     record {
       falls = inl (λ none. (let clash = sym none ∙ is in cc));
       step = λ v same.
-        (let made : Some (let w : Visit = record { port = slice_index comes.conn.path (hop_met event - 1); input = input; reply = reply } in w) ≡ Some v = sym is ∙ same in
-         let here : (record { port = slice_index comes.conn.path (hop_met event - 1); input = input; reply = reply }) ≡ v = some_same made in
-         subst (λ (w : Visit). next_step net journals earlier w.port ≡ Some (step_next net earlier w)) here
-           (subst (λ q. next_step net journals earlier q ≡ Some (record { place = length (steps_on net q earlier); input = input; reply = reply })) (sym comes.port)
-             (next ∙ ap (λ n. Some (record { place = n; input = input; reply = reply })) comes.at)));
+          (let made : Some (let w : Visit = record { port = slice_index comes.conn.path (hop_met event - 1); input = input; reply = reply } in w) ≡ Some v = sym is ∙ same in
+          let here : (record { port = slice_index comes.conn.path (hop_met event - 1); input = input; reply = reply }) ≡ v = some_same made in
+          subst (λ (w : Visit). next_step net journals earlier w.port ≡ Some (step_next net earlier w)) here
+          (subst (λ q. next_step net journals earlier q ≡ Some (record { place = length (steps_on net q earlier); input = input; reply = reply })) (sym comes.port)
+          (next ∙ ap (λ n. Some (record { place = n; input = input; reply = reply })) comes.at)));
       entry = λ x same.
-        comes.beside x (sym (made_beside net earlier event p place comes.conn (outcome_of net past event) input (facts_of (conn_of event) past) comes.known comes.port comes.at brings enabled) ∙ same);
+          comes.beside x (sym (made_beside net earlier event p place comes.conn (outcome_of net past event) input (facts_of (conn_of event) past) comes.known comes.port comes.at brings enabled) ∙ same);
     }

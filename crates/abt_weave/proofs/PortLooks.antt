@@ -88,16 +88,18 @@ would_fit : (net : Topology) (js : Journaled) → IsWithinRules net → (earlier
 would_fit net js rules earlier turns p step event v next all is here fits =
     let after = turns ++ earlier in
     let at : next_step net js after p ≡ Some (record { place = length (steps_on net p after); input = v.input; reply = v.reply }) =
-      subst (λ q. next_step net js after q ≡ Some (record { place = length (steps_on net q after); input = v.input; reply = v.reply })) here (fits.step v is) in
+    subst (λ q. next_step net js after q ≡ Some (record { place = length (steps_on net q after); input = v.input; reply = v.reply })) here (fits.step v is) in
     let same : step ≡ (record { place = length (steps_on net p after); input = v.input; reply = v.reply }) = some_same (sym next ∙ sym (steps_next net js earlier turns all p) ∙ at) in
     let place : step.place ≡ length (steps_on net p after) = ap (λ (s : Step). s.place) same in
-    let input : step.input ≡ v.input = ap (λ (s : Step). s.input) same in
-    (record {
-       turned = all;
-       comes = comes_before net js earlier turns all p step.place step.input event
-         (visit_comes net js after event v p step.place step.input (first_hop net rules (conn_of event)) is here place input (λ x e. fits.entry x e));
-       replies = (visit_is net (past_of net after) event v is).reply;
-     }, sym (ap (λ (s : Step). s.reply) same))
+    let input : step.input ≡ v.input = ap (λ (s : Step). s.input) same in (
+      record {
+        turned = all;
+        comes = comes_before net js earlier turns all p step.place step.input event
+            (visit_comes net js after event v p step.place step.input (first_hop net rules (conn_of event)) is here place input (λ x e. fits.entry x e));
+        replies = (visit_is net (past_of net after) event v is).reply;
+      },
+      sym (ap (λ (s : Step). s.reply) same),
+    )
 
 would_mismatch : (net : Topology) (js : Journaled) → IsWithinRules net → (earlier : List Event) (p : ℕ) (step : Step) → next_step net js earlier p ≡ Some step → (m : PortMismatches net js earlier p) →
     Would net js earlier m.turns p step m.event m.visits.reply
@@ -107,7 +109,7 @@ would_mismatch net js rules earlier p step next m =
     record {
       turned = m.turned;
       comes = comes_before net js earlier m.turns m.turned p step.place step.input m.event
-        (visit_comes net js after m.event m.visits p step.place step.input (first_hop net rules (conn_of m.event)) m.comes m.here (ap (λ (s : Step). s.place) same ∙ m.place) (ap (λ (s : Step). s.input) same ∙ m.input) m.beside);
+          (visit_comes net js after m.event m.visits p step.place step.input (first_hop net rules (conn_of m.event)) m.comes m.here (ap (λ (s : Step). s.place) same ∙ m.place) (ap (λ (s : Step). s.input) same ∙ m.input) m.beside);
       replies = (visit_is net (past_of net after) m.event m.visits m.comes).reply;
     }
 
@@ -122,7 +124,7 @@ port_waits net js rules earlier p step next never = record {
 pub port_done : (net : Topology) (js : Journaled) (earlier : List Event) (p : ℕ) → next_step net js earlier p ≡ None → IsPortSettled net js earlier p false
 port_done net js earlier p none = record {
   stuck = λ turns event v all is here fits.
-    (let clash : None ≡ Some (step_next net (turns ++ earlier) v) = sym none ∙ sym (steps_next net js earlier turns all p) ∙ ap (next_step net js (turns ++ earlier)) (sym here) ∙ fits.step v is in cc);
+      (let clash : None ≡ Some (step_next net (turns ++ earlier) v) = sym none ∙ sym (steps_next net js earlier turns all p) ∙ ap (next_step net js (turns ++ earlier)) (sym here) ∙ fits.step v is in cc);
   marks = λ m. (let clash : None ≡ Some m.step = sym none ∙ sym (steps_next net js earlier m.turns m.turned p) ∙ m.next in cc);
 }
 
@@ -135,14 +137,14 @@ pub port_absent : (net : Topology) (js : Journaled) → IsWithinRules net → (e
     is_enabled (outcome_of net (past_of net earlier) event) ≡ false → ((c seq : ℕ) → IsYes net event c seq → outcome_of net (past_of net earlier) (Turn c seq) ≡ Turned → ⊥) → IsPortSettled net js earlier p false
 port_absent net js rules earlier p step event next one off no_turn =
     port_waits net js rules earlier p step next (λ turns other reply would.
-      (let same = one other would.comes in
-       let after = past_of net (turns ++ earlier) in
-       let replies : reply_of (outcome_of net after event) ≡ Some reply = subst (λ e. reply_of (outcome_of net after e) ≡ Some reply) same would.replies in
-       let on = reply_enabled (outcome_of net after event) reply replies in
-       elim (outcome_turns net earlier turns would.turned event) [
-         | inl alike ↦ false≢true (sym off ∙ ap is_enabled (sym alike) ∙ on)
-         | inr own ↦ no_turn own.own.conn own.own.seq (record { conn = own.own.its.conn; known = own.own.its.known; is = own.own.its.is }) own.own.happens
-       ]))
+    (let same = one other would.comes in
+    let after = past_of net (turns ++ earlier) in
+    let replies : reply_of (outcome_of net after event) ≡ Some reply = subst (λ e. reply_of (outcome_of net after e) ≡ Some reply) same would.replies in
+    let on = reply_enabled (outcome_of net after event) reply replies in
+    elim (outcome_turns net earlier turns would.turned event) [
+      | inl alike ↦ false≢true (sym off ∙ ap is_enabled (sym alike) ∙ on)
+      | inr own ↦ no_turn own.own.conn own.own.seq (record { conn = own.own.its.conn; known = own.own.its.known; is = own.own.its.is }) own.own.happens
+    ]))
 
 -- an event that comes and answers something else than the next step says
 mismatch_at : (net : Topology) (js : Journaled) → IsWithinRules net → (earlier turns : List Event) (p : ℕ) (step : Step) (event : Event) → next_step net js earlier p ≡ Some step → AreTurns net earlier turns →
@@ -171,14 +173,14 @@ pub port_differs : (net : Topology) (js : Journaled) → IsWithinRules net → (
     Comes net js earlier p step.place step.input event → is_enabled (outcome_of net (past_of net earlier) event) ≡ true → reply_of (outcome_of net (past_of net earlier) event) ≢ Some step.reply → IsPortSettled net js earlier p true
 port_differs net js rules earlier p step event next one comes on differ = record {
   stuck = λ turns other v all is here fits.
-    (let would = would_fit net js rules earlier turns p step other v next all is here fits in
-     let same = one other would.0.comes in
-     let after = past_of net (turns ++ earlier) in
-     let replies : reply_of (outcome_of net after event) ≡ Some step.reply = subst (λ e. reply_of (outcome_of net after e) ≡ Some v.reply) same would.0.replies ∙ ap (λ r. Some r) would.1 in
-     elim (outcome_turns net earlier turns all event) [
-       | inl alike ↦ differ (ap reply_of (sym alike) ∙ replies)
-       | inr own ↦ differ (ap reply_of (sym (own.same ∙ own_same net earlier event own.own on)) ∙ replies)
-     ]);
+      (let would = would_fit net js rules earlier turns p step other v next all is here fits in
+      let same = one other would.0.comes in
+      let after = past_of net (turns ++ earlier) in
+      let replies : reply_of (outcome_of net after event) ≡ Some step.reply = subst (λ e. reply_of (outcome_of net after e) ≡ Some v.reply) same would.0.replies ∙ ap (λ r. Some r) would.1 in
+      elim (outcome_turns net earlier turns all event) [
+        | inl alike ↦ differ (ap reply_of (sym alike) ∙ replies)
+        | inr own ↦ differ (ap reply_of (sym (own.same ∙ own_same net earlier event own.own on)) ∙ replies)
+      ]);
   marks = mismatch_at net js rules earlier [] p step event next tt comes on;
 }
 
@@ -223,19 +225,19 @@ turn_differs net js rules earlier p step event turn next one comes off its happe
       happens = ap (outcome_of net (past_of net earlier)) (sym its.turn_is) ∙ happens;
     } in
     let on : is_enabled (outcome_of net (past_of net (turn ∷ earlier)) event) ≡ true =
-      subst (λ e. is_enabled (outcome_of net (past_of net (e ∷ earlier)) event) ≡ true) (sym its.turn_is) (own_enabled net earlier event own (last_hop net rules its.c its.yes_of.conn its.yes_of.known)) in
+    subst (λ e. is_enabled (outcome_of net (past_of net (e ∷ earlier)) event) ≡ true) (sym its.turn_is) (own_enabled net earlier event own (last_hop net rules its.c its.yes_of.conn its.yes_of.known)) in
     record {
       stuck = λ turns other v all is here fits.
-        (let would = would_fit net js rules earlier turns p step other v next all is here fits in
-         let same = one other would.0.comes in
-         let after = past_of net (turns ++ earlier) in
-         let replies : reply_of (outcome_of net after event) ≡ Some step.reply = subst (λ e. reply_of (outcome_of net after e) ≡ Some v.reply) same would.0.replies ∙ ap (λ r. Some r) would.1 in
-         elim (outcome_turns net earlier turns all event) [
-           | inl alike ↦ false≢true (sym off ∙ ap is_enabled (sym alike) ∙ reply_enabled (outcome_of net after event) step.reply replies)
-           | inr late ↦ (
-               let turn_is = same_turn net event turn late.own.conn late.own.seq its (record { conn = late.own.its.conn; known = late.own.its.known; is = late.own.its.is }) in
-               differ (ap (λ e. reply_of (outcome_of net (past_of net (e ∷ earlier)) event)) (sym turn_is) ∙ ap reply_of (sym late.same) ∙ replies))
-         ]);
+          (let would = would_fit net js rules earlier turns p step other v next all is here fits in
+          let same = one other would.0.comes in
+          let after = past_of net (turns ++ earlier) in
+          let replies : reply_of (outcome_of net after event) ≡ Some step.reply = subst (λ e. reply_of (outcome_of net after e) ≡ Some v.reply) same would.0.replies ∙ ap (λ r. Some r) would.1 in
+          elim (outcome_turns net earlier turns all event) [
+            | inl alike ↦ false≢true (sym off ∙ ap is_enabled (sym alike) ∙ reply_enabled (outcome_of net after event) step.reply replies)
+            | inr late ↦ (
+                let turn_is = same_turn net event turn late.own.conn late.own.seq its (record { conn = late.own.its.conn; known = late.own.its.known; is = late.own.its.is }) in
+                differ (ap (λ e. reply_of (outcome_of net (past_of net (e ∷ earlier)) event)) (sym turn_is) ∙ ap reply_of (sym late.same) ∙ replies))
+          ]);
       marks = mismatch_at net js rules earlier (turn ∷ []) p step event next (its_turn net earlier event turn its happens, tt) comes on;
     }
 
@@ -263,12 +265,13 @@ step_read net ports sources events world sp pp p k v entries place board same lo
     let here : place ≡ length (steps_on net k (reverse events)) = place_read pp (λ q. length (steps_on net q (reverse events))) k place board.port_places lowp at in
     let found : slice_get ports k ≡ Some v = slice_get_read ports (length ports) k v refl lowk read in
     let journal : port_journal js k ≡ map step_of entries =
-      ap steps_in (slice_get-map (λ (w : Vec Entry Global). w.items) ports k ∙ ap (option_map (λ (w : Vec Entry Global). w.items)) found)
-      ∙ ap (λ (w : Vec Entry Global). map step_of w.items) read ∙ ap (map step_of) (sym are) in
+    ap steps_in (slice_get-map (λ (w : Vec Entry Global). w.items) ports k ∙ ap (option_map (λ (w : Vec Entry Global). w.items)) found)
+    ∙ ap (λ (w : Vec Entry Global). map step_of w.items) read ∙ ap (map step_of) (sym are) in
     let next : next_step net js (reverse events) k ≡ option_map step_of (slice_get entries place) =
-      ap (λ (l : List Step). slice_get l (length (steps_on net k (reverse events)))) journal ∙ ap (slice_get (map step_of entries)) (sym here) ∙ slice_get-map step_of entries place in
-    (subst (λ q. next_step net js (reverse events) q ≡ option_map step_of (slice_get entries place)) same next,
-     sym (get_or_from_slice_get pp k place 0 (slice_get_read pp (length pp) k place refl lowp at)) ∙ ap (slice_index pp) same)
+    ap (λ (l : List Step). slice_get l (length (steps_on net k (reverse events)))) journal ∙ ap (slice_get (map step_of entries)) (sym here) ∙ slice_get-map step_of entries place in (
+      subst (λ q. next_step net js (reverse events) q ≡ option_map step_of (slice_get entries place)) same next,
+      sym (get_or_from_slice_get pp k place 0 (slice_get_read pp (length pp) k place refl lowp at)) ∙ ap (slice_index pp) same,
+    )
 
 pub step_at_place : (entries : List Entry) (place : ℕ) (entry : Entry) → place < length entries → entry ≡ get_or entries place entry → option_map step_of (slice_get entries place) ≡ Some (step_of entry)
 step_at_place entries place entry low read = ap (option_map step_of) (slice_get_read entries (length entries) place entry refl low read)
@@ -290,8 +293,8 @@ pub expected_absent : (net : Topology) (js : Journaled) (events : List Event) (s
     ((d seq : ℕ) → IsYes net event d seq → outcome_of net (facts_after net events) (Turn d seq) ≡ Turned → ⊥) → IsPortSettled net js (reverse events) p false
 expected_absent net js events sp p place input reply c reached event it off none =
     port_absent net js it.rules (reverse events) p (expected_step place input reply) event it.next it.only
-      (subst (λ w. is_enabled (outcome_of net w event) ≡ false) (past-is net events) off)
-      (λ d seq yes_of happens. none d seq yes_of (subst (λ w. outcome_of net w (Turn d seq) ≡ Turned) (sym (past-is net events)) happens))
+    (subst (λ w. is_enabled (outcome_of net w event) ≡ false) (past-is net events) off)
+    (λ d seq yes_of happens. none d seq yes_of (subst (λ w. outcome_of net w (Turn d seq) ≡ Turned) (sym (past-is net events)) happens))
 
 -- where it answers something else
 pub expected_differs : (net : Topology) (js : Journaled) (events : List Event) (sp : List ℕ) (p place : ℕ) (input : PortInput) (reply : PortReply) (c reached : ℕ) (event : Event) →
@@ -299,8 +302,8 @@ pub expected_differs : (net : Topology) (js : Journaled) (events : List Event) (
     reply_of (outcome_of net (facts_after net events) event) ≢ Some reply → IsPortSettled net js (reverse events) p true
 expected_differs net js events sp p place input reply c reached event it on differ =
     port_differs net js it.rules (reverse events) p (expected_step place input reply) event it.next it.only it.coming.comes
-      (subst (λ w. is_enabled (outcome_of net w event) ≡ true) (past-is net events) on)
-      (subst (λ w. reply_of (outcome_of net w event) ≢ Some reply) (past-is net events) differ)
+    (subst (λ w. is_enabled (outcome_of net w event) ≡ true) (past-is net events) on)
+    (subst (λ w. reply_of (outcome_of net w event) ≢ Some reply) (past-is net events) differ)
 
 -- its Turn isn't one
 pub turn_off : (net : Topology) (past : List ConnectionFact) (event turn : Event) → IsTurnOf net event turn → is_enabled (outcome_of net past turn) ≡ false →
@@ -314,10 +317,10 @@ pub expected_turn_differs : (net : Topology) (js : Journaled) (events : List Eve
     is_enabled (outcome_of net (facts_after net events) turn) ≡ true → reply_of (outcome_of net (facts_after net (events ++ turn ∷ [])) event) ≢ Some reply → IsPortSettled net js (reverse events) p true
 expected_turn_differs net js events sp p place input reply c reached event turn it off its on differ =
     turn_differs net js it.rules (reverse events) p (expected_step place input reply) event turn it.next it.only it.coming.comes
-      (subst (λ w. is_enabled (outcome_of net w event) ≡ false) (past-is net events) off) its
-      (subst (λ w. outcome_of net w turn ≡ Turned) (past-is net events) (turn_turned net (facts_after net events) event turn its on))
-      (subst (λ l. reply_of (outcome_of net (past_of net l) event) ≢ Some reply) (pushed events turn)
-        (subst (λ w. reply_of (outcome_of net w event) ≢ Some reply) (past-is net (events ++ turn ∷ [])) differ))
+    (subst (λ w. is_enabled (outcome_of net w event) ≡ false) (past-is net events) off) its
+    (subst (λ w. outcome_of net w turn ≡ Turned) (past-is net events) (turn_turned net (facts_after net events) event turn its on))
+    (subst (λ l. reply_of (outcome_of net (past_of net l) event) ≢ Some reply) (pushed events turn)
+    (subst (λ w. reply_of (outcome_of net w event) ≢ Some reply) (past-is net (events ++ turn ∷ [])) differ))
 
 -- what is expected stays so after its Turn
 pub expected_after : (net : Topology) (js : Journaled) (events : List Event) (sp : List ℕ) (p place : ℕ) (input : PortInput) (reply : PortReply) (c reached : ℕ) (event turn : Event) →

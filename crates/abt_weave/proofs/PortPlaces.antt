@@ -45,12 +45,12 @@ sources_placed : (net : Topology) (earlier : List Event) (event : Event) (sp : L
 sources_placed net earlier event sp c place made whose low are true beside =
     let some = beside_some place event beside in
     places_set sp c (λ d. length (entries_on net d earlier)) (λ d. length (entries_on net d (event ∷ earlier))) low
-      (entries_one net earlier event c some.0 (made ∙ some.1) whose)
-      (λ d differ. ap (λ (l : List SourceEntry). length l) (entries_other net earlier event d (λ e. differ (sym whose ∙ e)))) are
+    (entries_one net earlier event c some.0 (made ∙ some.1) whose)
+    (λ d differ. ap (λ (l : List SourceEntry). length l) (entries_other net earlier event d (λ e. differ (sym whose ∙ e)))) are
 sources_placed net earlier event sp c place made whose low are false beside =
     subst (λ l. ArePlaces l (λ d. length (entries_on net d (event ∷ earlier)))) (sym (set-get_or sp c 0))
-      (places_same sp (λ d. length (entries_on net d earlier)) (λ d. length (entries_on net d (event ∷ earlier)))
-        (λ d. ap (λ (l : List SourceEntry). length l) (entries_none net earlier event d (made ∙ beside_none place event beside))) are)
+    (places_same sp (λ d. length (entries_on net d earlier)) (λ d. length (entries_on net d (event ∷ earlier)))
+    (λ d. ap (λ (l : List SourceEntry). length l) (entries_none net earlier event d (made ∙ beside_none place event beside))) are)
 
 total_kept : (sp : List ℕ) (c : ℕ) → c < length sp → (b : Bool) → total sp ≤ total (set sp c (if b then slice_index sp c + 1 else slice_index sp c))
 total_kept sp c low true = omega (arith, sum-set_up sp c (slice_index sp c) low refl)
@@ -70,7 +70,7 @@ port_placed net js events world new sp pp p place c come event input reply board
     let is = visit_made net past event comes.conn input reply comes.known brings answers in
     let enabled = reply_enabled (outcome_of net past event) reply answers in
     let made : entry_made net earlier event ≡ entry_beside place event =
-      made_beside net earlier event p place comes.conn (outcome_of net past event) input (facts_of (conn_of event) past) comes.known comes.port comes.at brings enabled in
+    made_beside net earlier event p place comes.conn (outcome_of net past event) input (facts_of (conn_of event) past) comes.known comes.port comes.at brings enabled in
     let now = sym (pushed events event) in
     let v : Visit = record { port = slice_index comes.conn.path (hop_met event - 1); input = input; reply = reply } in
     let whole : IsPlacing net js (events ++ event ∷ []) new (set sp c (reached_by event (slice_index sp c))) (set pp p (slice_index pp p + 1)) = record {
@@ -79,18 +79,19 @@ port_placed net js events world new sp pp p place c come event input reply board
       source_count = length-set sp c (reached_by event (slice_index sp c)) ∙ board.source_count;
       port_count = length-set pp p (slice_index pp p + 1) ∙ board.port_count;
       source_places = subst (λ l. ArePlaces (set sp c (reached_by event (slice_index sp c))) (λ d. length (entries_on net d l))) now
-        (sources_placed net earlier event sp c place made coming.conn lowc board.source_places (is_beside event) refl);
+          (sources_placed net earlier event sp c place made coming.conn lowc board.source_places (is_beside event) refl);
       port_places = subst (λ l. ArePlaces (set pp p (slice_index pp p + 1)) (λ q. length (steps_on net q l))) now
-        (places_set pp p (λ q. length (steps_on net q earlier)) (λ q. length (steps_on net q (event ∷ earlier))) low
+          (places_set pp p (λ q. length (steps_on net q earlier)) (λ q. length (steps_on net q (event ∷ earlier))) low
           (steps_one net earlier event p v is comes.port)
           (λ q differ. ap (λ (l : List Step). length l) (steps_other net earlier event q v is (λ e. differ (sym comes.port ∙ e))))
           board.port_places);
-    } in
-    (subst (λ n. IsPlacing net js (events ++ event ∷ []) new (set sp c n) (set pp p (slice_index pp p + 1))) (sym reached) whole,
-     (let a = total_kept sp c lowc (is_beside event) in
-      let b = sum-set_up pp p (slice_index pp p) low refl in
-      let d = ap (λ n. total (set sp c n)) reached in
-      omega (arith, a, b, d)))
+    } in (
+      subst (λ n. IsPlacing net js (events ++ event ∷ []) new (set sp c n) (set pp p (slice_index pp p + 1))) (sym reached) whole,
+      (let a = total_kept sp c lowc (is_beside event) in
+          let b = sum-set_up pp p (slice_index pp p) low refl in
+          let d = ap (λ n. total (set sp c n)) reached in
+          omega (arith, a, b, d)),
+    )
 
 -- a Turn stands in no journal
 pub turn_placed : (net : Topology) (js : Journaled) (events : List Event) (world new : WorldView) (sp pp : List ℕ) (event turn : Event) → IsPlacing net js events world sp pp → IsTurnOf net event turn →
@@ -109,9 +110,9 @@ turn_placed net js events world new sp pp event turn board its stands =
       source_count = board.source_count;
       port_count = board.port_count;
       source_places = subst (λ l. ArePlaces sp (λ d. length (entries_on net d l))) now
-        (places_same sp (λ d. length (entries_on net d earlier)) (λ d. length (entries_on net d (turn ∷ earlier))) (λ d. ap (λ (l : List SourceEntry). length l) (entries d)) board.source_places);
+          (places_same sp (λ d. length (entries_on net d earlier)) (λ d. length (entries_on net d (turn ∷ earlier))) (λ d. ap (λ (l : List SourceEntry). length l) (entries d)) board.source_places);
       port_places = subst (λ l. ArePlaces pp (λ q. length (steps_on net q l))) now
-        (places_same pp (λ q. length (steps_on net q earlier)) (λ q. length (steps_on net q (turn ∷ earlier))) (λ q. ap (λ (l : List Step). length l) (steps q)) board.port_places);
+          (places_same pp (λ q. length (steps_on net q earlier)) (λ q. length (steps_on net q (turn ∷ earlier))) (λ q. ap (λ (l : List Step). length l) (steps q)) board.port_places);
     }
 
 -- the expected event is placed
@@ -122,6 +123,6 @@ pub expected_placed : (net : Topology) (js : Journaled) (events more : List Even
 expected_placed net js events more world new sp pp p kp at place c kc reached event input reply board it replies stands sp_is sc_is low at_is is =
     let whole = port_placed net js events world new sp pp p place c reached event input reply board low it.low it.coming replies it.next stands it.reached_is in
     subst (λ l. IsPlacing net js l new (set sp kc reached) (set pp kp (at + 1)) × (total sp + total pp < total (set sp kc reached) + total (set pp kp (at + 1)))) (sym is)
-      (subst (λ n. IsPlacing net js (events ++ event ∷ []) new (set sp n reached) (set pp kp (at + 1)) × (total sp + total pp < total (set sp n reached) + total (set pp kp (at + 1)))) (sym sc_is)
-        (subst (λ n. IsPlacing net js (events ++ event ∷ []) new (set sp c reached) (set pp n (at + 1)) × (total sp + total pp < total (set sp c reached) + total (set pp n (at + 1)))) (sym sp_is)
-          (subst (λ n. IsPlacing net js (events ++ event ∷ []) new (set sp c reached) (set pp p (n + 1)) × (total sp + total pp < total (set sp c reached) + total (set pp p (n + 1)))) (sym at_is) whole)))
+    (subst (λ n. IsPlacing net js (events ++ event ∷ []) new (set sp n reached) (set pp kp (at + 1)) × (total sp + total pp < total (set sp n reached) + total (set pp kp (at + 1)))) (sym sc_is)
+    (subst (λ n. IsPlacing net js (events ++ event ∷ []) new (set sp c reached) (set pp n (at + 1)) × (total sp + total pp < total (set sp c reached) + total (set pp n (at + 1)))) (sym sp_is)
+    (subst (λ n. IsPlacing net js (events ++ event ∷ []) new (set sp c reached) (set pp p (n + 1)) × (total sp + total pp < total (set sp c reached) + total (set pp p (n + 1)))) (sym at_is) whole)))

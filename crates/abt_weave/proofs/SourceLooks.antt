@@ -44,7 +44,7 @@ next_read net ports sources events world sp pp c k j entries place board same lo
     let here : place ≡ length (entries_on net k (reverse events)) = place_read sp (λ d. length (entries_on net d (reverse events))) k place board.source_places lowp at in
     let journal : source_journal js k ≡ entries = ap entries_in (source_read ports sources k j lowk read) ∙ ap (λ (x : SourceJournal). x.entries) read ∙ sym are in
     subst (λ d. next_entry net js (reverse events) d ≡ slice_get entries place) same
-      (ap (λ (l : List SourceEntry). slice_get l (length (entries_on net k (reverse events)))) journal ∙ ap (slice_get entries) (sym here))
+    (ap (λ (l : List SourceEntry). slice_get l (length (entries_on net k (reverse events)))) journal ∙ ap (slice_get entries) (sym here))
 
 pub past_settled : (net : Topology) (js : Journaled) (earlier : List Event) (c : ℕ) (entries : List SourceEntry) (place : ℕ) → next_entry net js earlier c ≡ slice_get entries place → length entries ≤ place → IsSourceSettled net js earlier c false
 past_settled net js earlier c entries place next past =
@@ -83,12 +83,12 @@ own_placed net js events world new sp pp c event told board low next own answers
       source_count = length-set sp c (slice_index sp c + 1) ∙ board.source_count;
       port_count = board.port_count;
       source_places = subst (λ l. ArePlaces (set sp c (slice_index sp c + 1)) (λ d. length (entries_on net d l))) now
-        (places_set sp c (λ d. length (entries_on net d earlier)) (λ d. length (entries_on net d (event ∷ earlier))) low
+          (places_set sp c (λ d. length (entries_on net d earlier)) (λ d. length (entries_on net d (event ∷ earlier))) low
           (entries_one net earlier event c (Did event (outcome_of net (past_of net earlier) event)) made whose)
           (λ d differ. ap (λ (l : List SourceEntry). length l) (entries_other net earlier event d (λ e. differ (sym whose ∙ e))))
           board.source_places);
       port_places = subst (λ l. ArePlaces pp (λ p. length (steps_on net p l))) now
-        (places_same pp (λ p. length (steps_on net p earlier)) (λ p. length (steps_on net p (event ∷ earlier)))
+          (places_same pp (λ p. length (steps_on net p earlier)) (λ p. length (steps_on net p (event ∷ earlier)))
           (λ p. ap (λ l. length l) (steps_none net earlier event p (own_visit net (past_of net earlier) c event own)))
           board.port_places);
     }
@@ -117,27 +117,32 @@ pub placed_more : (net : Topology) (js : Journaled) (events more : List Event) (
 placed_more net js events more world new sp pp c k place event told board same low read next own answers enabled stands is =
     let lowk : k < length sp = subst (λ n. n < length sp) (sym same) low in
     let at : place ≡ slice_index sp k = sym (get_or_from_slice_get sp k place 0 (slice_get_read sp (length sp) k place refl lowk read)) in
-    let whole = own_placed net js events world new sp pp c event told board low next own answers enabled stands in
-    (subst (λ l. IsPlacing net js l new (set sp k (place + 1)) pp) (sym is)
-       (subst (λ n. IsPlacing net js (events ++ event ∷ []) new (set sp k (n + 1)) pp) (sym at)
-         (subst (λ n. IsPlacing net js (events ++ event ∷ []) new (set sp n (slice_index sp n + 1)) pp) (sym same) whole)),
-     omega (arith, sum-set_up sp k place lowk at))
+    let whole = own_placed net js events world new sp pp c event told board low next own answers enabled stands in (
+      subst (λ l. IsPlacing net js l new (set sp k (place + 1)) pp) (sym is)
+          (subst (λ n. IsPlacing net js (events ++ event ∷ []) new (set sp k (n + 1)) pp) (sym at)
+          (subst (λ n. IsPlacing net js (events ++ event ∷ []) new (set sp n (slice_index sp n + 1)) pp) (sym same) whole)),
+      omega (arith, sum-set_up sp k place lowk at),
+    )
 
 pub absent_settled : (net : Topology) (js : Journaled) (events more : List Event) (world new : WorldView) (sp pp : List ℕ) (c : ℕ) (event : Event) (told : Outcome) →
     IsPlacing net js events world sp pp → next_entry net js (reverse events) c ≡ Some (Did event told) → is_told event ≡ true → is_enabled (outcome_of net (facts_after net events) event) ≡ false → StandsFor net events new →
     more ≡ events → IsPlacing net js more new sp pp × (more ≡ events) × IsSourceSettled net js (reverse events) c false
-absent_settled net js events more world new sp pp c event told board next tells off stands same =
-    (board_kept net js events more world new sp pp board stands same, same,
-     settled_absent net js (reverse events) c event told next tells (subst (λ w. is_enabled (outcome_of net w event) ≡ false) (past-is net events) off))
+absent_settled net js events more world new sp pp c event told board next tells off stands same = (
+  board_kept net js events more world new sp pp board stands same,
+  same,
+  settled_absent net js (reverse events) c event told next tells (subst (λ w. is_enabled (outcome_of net w event) ≡ false) (past-is net events) off),
+)
 
 pub differs_settled : (net : Topology) (js : Journaled) (events more : List Event) (world new : WorldView) (sp pp : List ℕ) (c : ℕ) (event : Event) (told : Outcome) →
     IsPlacing net js events world sp pp → next_entry net js (reverse events) c ≡ Some (Did event told) → is_own_of c event ≡ true → outcome_of net (facts_after net events) event ≢ told →
     is_told event && not (is_enabled (outcome_of net (facts_after net events) event)) ≡ false → StandsFor net events new →
     more ≡ events → IsPlacing net js more new sp pp × (more ≡ events) × IsSourceSettled net js (reverse events) c true
-differs_settled net js events more world new sp pp c event told board next own differ enabled stands same =
-    (board_kept net js events more world new sp pp board stands same, same,
-     settled_differs net js (reverse events) c event told next own (subst (λ w. outcome_of net w event ≢ told) (past-is net events) differ)
-       (subst (λ w. is_told event && not (is_enabled (outcome_of net w event)) ≡ false) (past-is net events) enabled))
+differs_settled net js events more world new sp pp c event told board next own differ enabled stands same = (
+  board_kept net js events more world new sp pp board stands same,
+  same,
+  settled_differs net js (reverse events) c event told next own (subst (λ w. outcome_of net w event ≢ told) (past-is net events) differ)
+      (subst (λ w. is_told event && not (is_enabled (outcome_of net w event)) ≡ false) (past-is net events) enabled),
+)
 
 -- a place that is read
 pub place_is : (places : List ℕ) (k c place : ℕ) → k ≡ c → c < length places → place ≡ get_or places k place → place ≡ slice_index places c

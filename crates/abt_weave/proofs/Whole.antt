@@ -35,18 +35,17 @@ count_low net ports sources board is =
     let sp = board.source_places.items in
     let pp = board.port_places.items in
     let a = total_low (λ (journal : SourceJournal). length journal.entries) sources sp is.source_count (λ i x e.
-      (let low : i < length sp = subst (λ n. i < n) (sym is.source_count) (slice_get_within sources i x e) in
-       let b = begun_low (entries_on net i earlier) (source_journal js i) (is.placed.conns i) in
-       let l : length (source_journal js i) ≡ length x.entries = ap (λ (o : Option SourceJournal). length (entries_in o)) e in
-       omega (arith, is.source_places i low, b, l))) in
+    (let low : i < length sp = subst (λ n. i < n) (sym is.source_count) (slice_get_within sources i x e) in
+    let b = begun_low (entries_on net i earlier) (source_journal js i) (is.placed.conns i) in
+    let l : length (source_journal js i) ≡ length x.entries = ap (λ (o : Option SourceJournal). length (entries_in o)) e in
+    omega (arith, is.source_places i low, b, l))) in
     let b = total_low (λ (entries : Vec Entry Global). length entries.items) ports pp (is.port_count ∙ length-map ports (λ (entries : Vec Entry Global). entries.items)) (λ i x e.
-      (let low : i < length pp = subst (λ n. i < n) (sym (is.port_count ∙ length-map ports (λ (entries : Vec Entry Global). entries.items))) (slice_get_within ports i x e) in
-       let d = begun_low (steps_on net i earlier) (port_journal js i) (is.placed.ports i) in
-       let l : length (port_journal js i) ≡ length x.items =
-         ap (λ o. length (steps_in o)) (slice_get-map (λ (entries : Vec Entry Global). entries.items) ports i ∙ ap (option_map (λ (entries : Vec Entry Global). entries.items)) e) ∙ length-map x.items step_of in
-       omega (arith, is.port_places i low, d, l))) in
+    (let low : i < length pp = subst (λ n. i < n) (sym (is.port_count ∙ length-map ports (λ (entries : Vec Entry Global). entries.items))) (slice_get_within ports i x e) in
+    let d = begun_low (steps_on net i earlier) (port_journal js i) (is.placed.ports i) in
+    let l : length (port_journal js i) ≡ length x.items =
+    ap (λ o. length (steps_in o)) (slice_get-map (λ (entries : Vec Entry Global). entries.items) ports i ∙ ap (option_map (λ (entries : Vec Entry Global). entries.items)) e) ∙ length-map x.items step_of in
+    omega (arith, is.port_places i low, d, l))) in
     omega (arith, a, b)
-
 
 abbrev Ends : Topology → Journaled → Board → ℕ → ℕ → List Bool → List Bool → Type 0
 Ends net js new n m sources ports = AreSettled (IsSourceSettled net js (reverse new.events.items)) n sources × AreSettled (IsPortSettled net js (reverse new.events.items)) m ports
@@ -66,7 +65,7 @@ pub passes_joined : (net : Topology) (js : Journaled) (old mid new : Board) (n m
 passes_joined net js old mid new n m one other seen first last is = record {
   board = last.board;
   progress = subst (λ b. MatchBool b (count old < count new) (Ends net js new n m seen.sources.items seen.ports.items)) (sym is)
-    (joined net js old mid new n m seen.sources.items seen.ports.items one other first.progress last.progress);
+      (joined net js old mid new n m seen.sources.items seen.ports.items one other first.progress last.progress);
 }
 
 -- a measure falls

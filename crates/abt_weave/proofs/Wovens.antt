@@ -27,7 +27,7 @@ source_first net js events world sp pp marks stuck board ss first =
     let c = first.number in
     let low : c < length sp = subst (λ n. c < n) (ss.count_is ∙ sym board.source_count) (slice_get_within marks c true first.marked) in
     subst (λ a. IsFirstMismatch net js (reverse events) a stuck.place) (sym first.actor_is)
-      (first.place_is ∙ board.source_places c low, (ss.each c true first.marked).marks, λ d less m. (ss.each d false (first.before d less)).marks m)
+    (first.place_is ∙ board.source_places c low, (ss.each c true first.marked).marks, λ d less m. (ss.each d false (first.before d less)).marks m)
 
 unmarked_source : (net : Topology) (js : Journaled) (earlier : List Event) (marks : List Bool) → AreSettled (IsSourceSettled net js earlier) (length js.sources) marks → AreUnmarked marks (length marks) →
     (c : ℕ) → SourceMismatches net js earlier c → ⊥
@@ -39,9 +39,12 @@ pub port_first : (net : Topology) (js : Journaled) (events : List Event) (world 
 port_first net js events world sp pp sources marks stuck board ss none ps first =
     let p = first.number in
     let low : p < length pp = subst (λ n. p < n) (ps.count_is ∙ sym board.port_count) (slice_get_within marks p true first.marked) in
-    subst (λ a. IsFirstMismatch net js (reverse events) a stuck.place) (sym first.actor_is)
-      (first.place_is ∙ board.port_places p low, (ps.each p true first.marked).marks, unmarked_source net js (reverse events) sources ss none,
-       λ q less m. (ps.each q false (first.before q less)).marks m)
+    subst (λ a. IsFirstMismatch net js (reverse events) a stuck.place) (sym first.actor_is) (
+      first.place_is ∙ board.port_places p low,
+      (ps.each p true first.marked).marks,
+      unmarked_source net js (reverse events) sources ss none,
+      λ q less m. (ps.each q false (first.before q less)).marks m,
+    )
 
 pub none_mismatch : (net : Topology) (js : Journaled) (earlier : List Event) (sources ports : List Bool) → AreSettled (IsSourceSettled net js earlier) (length js.sources) sources → AreUnmarked sources (length sources) →
     AreSettled (IsPortSettled net js earlier) (length js.ports) ports → AreUnmarked ports (length ports) → NoneMismatches net js earlier
@@ -56,13 +59,13 @@ all_woven net js events world sp pp board none =
     let ends = all_at_end (source_left net js earlier) (port_left net js earlier) (length js.sources) (length js.ports) none in
     record {
       ports = λ p entries is.
-        (let low = slice_get_within js.ports p entries is in
-         let last = at_end (Port p) (length (steps_on net p earlier)) (length (port_journal js p)) (ends.1 p low) in
-         whole_beginning (steps_on net p earlier) (port_journal js p) (board.placed.ports p) last ∙ ap steps_in is);
+          (let low = slice_get_within js.ports p entries is in
+          let last = at_end (Port p) (length (steps_on net p earlier)) (length (port_journal js p)) (ends.1 p low) in
+          whole_beginning (steps_on net p earlier) (port_journal js p) (board.placed.ports p) last ∙ ap steps_in is);
       conns = λ c journal is.
-        (let low = slice_get_within js.sources c journal is in
-         let last = at_end (Source c) (length (entries_on net c earlier)) (length (source_journal js c)) (ends.0 c low) in
-         whole_beginning (entries_on net c earlier) (source_journal js c) (board.placed.conns c) last ∙ ap entries_in is);
+          (let low = slice_get_within js.sources c journal is in
+          let last = at_end (Source c) (length (entries_on net c earlier)) (length (source_journal js c)) (ends.0 c low) in
+          whole_beginning (entries_on net c earlier) (source_journal js c) (board.placed.conns c) last ∙ ap entries_in is);
     }
 
 pub empty_is : (left : List Stuck) → (length left == 0) ≡ true → left ≡ []

@@ -45,13 +45,13 @@ whole ports sources = sum_by (λ (journal : SourceJournal). length journal.entri
 -- Nothing that fits behind the events is the next entry of a source, also after Turns, and whether that entry mismatches.
 pub record IsSourceSettled (net : Topology) (journals : Journaled) (earlier : List Event) (c : ℕ) (mismatches : Bool) : Type 0 where
   pub stuck : (turns : List Event) (event done : Event) (outcome : Outcome) → AreTurns net earlier turns → conn_of event ≡ c →
-    entry_made net (turns ++ earlier) event ≡ Some (Did done outcome) → Fits net journals (turns ++ earlier) event → ⊥
+      entry_made net (turns ++ earlier) event ≡ Some (Did done outcome) → Fits net journals (turns ++ earlier) event → ⊥
   pub marks : MatchBool mismatches (SourceMismatches net journals earlier c) (SourceMismatches net journals earlier c → ⊥)
 
 -- the same of a port
 pub record IsPortSettled (net : Topology) (journals : Journaled) (earlier : List Event) (p : ℕ) (mismatches : Bool) : Type 0 where
   pub stuck : (turns : List Event) (event : Event) (v : Visit) → AreTurns net earlier turns → visit net (past_of net (turns ++ earlier)) event ≡ Some v → v.port ≡ p →
-    Fits net journals (turns ++ earlier) event → ⊥
+      Fits net journals (turns ++ earlier) event → ⊥
   pub marks : MatchBool mismatches (PortMismatches net journals earlier p) (PortMismatches net journals earlier p → ⊥)
 
 -- what a look at an actor does, where settled says whether its entry is stuck, and mismatches
@@ -85,4 +85,4 @@ pub record IsPassing (net : Topology) (journals : Journaled) (settled : List Eve
 pub record IsPass (net : Topology) (journals : Journaled) (old new : Board) (n m : ℕ) (seen : Seen) : Type 0 where
   pub board : IsBoard net journals new
   pub progress : MatchBool seen.moved (count old < count new)
-    (AreSettled (IsSourceSettled net journals (reverse new.events.items)) n seen.sources.items × AreSettled (IsPortSettled net journals (reverse new.events.items)) m seen.ports.items)
+      (AreSettled (IsSourceSettled net journals (reverse new.events.items)) n seen.sources.items × AreSettled (IsPortSettled net journals (reverse new.events.items)) m seen.ports.items)

@@ -132,7 +132,8 @@ pub(crate) fn own_turn(net: &Net, event: &Event) -> Option<Event>
         hop,
         seq,
         granted: true,
-    } = *event else {
+    } = *event
+    else {
         return None;
     };
     let conns = net.conns();

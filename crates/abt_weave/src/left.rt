@@ -10,7 +10,12 @@ use abt_woven::{Actor, Stuck};
 use std::alloc::{AllocError, Global};
 
 // Adds an actor at its place, if it has entries left.
-fn push_left(left: &mut Sequence<Stuck>, actor: Actor, place: usize, entries: usize) -> Result<(), AllocError>
+fn push_left(
+    left: &mut Sequence<Stuck>,
+    actor: Actor,
+    place: usize,
+    entries: usize,
+) -> Result<(), AllocError>
     ensures { OnOk result (left.new ≡ left.old ++ left_at actor place entries) }
 {
     if place < entries {
@@ -55,7 +60,11 @@ fn push_ports(given: &Given, board: &Board, left: &mut Sequence<Stuck>) -> Resul
 }
 
 /// All actors that have entries left, sources by number and then ports by number.
-pub(crate) fn actors_left(alloc: Global, given: &Given, board: &Board) -> Result<Sequence<Stuck>, AllocError>
+pub(crate) fn actors_left(
+    alloc: Global,
+    given: &Given,
+    board: &Board,
+) -> Result<Sequence<Stuck>, AllocError>
     requires conns { length given.now.sources.now ≡ length given.now.net.now.conns }
     requires ports { length given.now.ports.now ≡ length given.now.net.now.capacities }
     requires board { IsBoard given.now.net.now (journaled given.now.ports.now given.now.sources.now) board.now }

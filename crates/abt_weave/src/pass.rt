@@ -54,7 +54,7 @@ fn pass_sources<'run>(
     requires board { IsBoard given.now.net.now (journaled given.now.ports.now given.now.sources.now) board.old }
     ensures { let journals = journaled given.now.ports.now given.now.sources.now in
         IfOk result (λ looks. IsPassing given.now.net.now journals (IsSourceSettled given.now.net.now journals) board.old board.new
-            (length given.now.sources.now) looks.moved looks.marks.items) }
+        (length given.now.sources.now) looks.moved looks.marks.items) }
 {
     let mut moved = false;
     let mut marks = Vec::new(alloc);
@@ -77,7 +77,7 @@ fn pass_ports<'run>(
     requires board { IsBoard given.now.net.now (journaled given.now.ports.now given.now.sources.now) board.old }
     ensures { let journals = journaled given.now.ports.now given.now.sources.now in
         IfOk result (λ looks. IsPassing given.now.net.now journals (IsPortSettled given.now.net.now journals) board.old board.new
-            (length given.now.ports.now) looks.moved looks.marks.items) }
+        (length given.now.ports.now) looks.moved looks.marks.items) }
 {
     let mut moved = false;
     let mut marks = Vec::new(alloc);

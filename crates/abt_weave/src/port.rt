@@ -95,7 +95,13 @@ pub(crate) struct Expected {
 }
 
 // The event that the next entry of a port can be, if there is one.
-fn expect_event(given: &Given, board: &Board, port: u16, place: usize, entry: &Entry) -> Option<Expected>
+fn expect_event(
+    given: &Given,
+    board: &Board,
+    port: u16,
+    place: usize,
+    entry: &Entry,
+) -> Option<Expected>
     requires conns { length given.now.sources.now ≡ length given.now.net.now.conns }
     requires port { port < length given.now.ports.now }
     requires place { place ≡ slice_index board.now.port_places.items port }
@@ -136,7 +142,7 @@ pub(crate) fn look_at_port<'run>(
     requires board { IsBoard given.now.net.now (journaled given.now.ports.now given.now.sources.now) board.old }
     ensures { let journals = journaled given.now.ports.now given.now.sources.now in
         IfOk result (IsAfterLook given.now.net.now journals
-            (λ earlier mismatches. IsPortSettled given.now.net.now journals earlier port mismatches) board.old board.new) }
+        (λ earlier mismatches. IsPortSettled given.now.net.now journals earlier port mismatches) board.old board.new) }
 {
     let p = usize::from(port);
     let entries = given.ports[p].as_slice();
@@ -181,7 +187,7 @@ fn look_after_turn<'run>(
     requires absent { woven.is_enabled (outcome_of given.now.net.now (facts_after given.now.net.now board.old.events.items) it.event) ≡ false }
     ensures { let journals = journaled given.now.ports.now given.now.sources.now in
         IfOk result (IsAfterLook given.now.net.now journals
-            (λ earlier mismatches. IsPortSettled given.now.net.now journals earlier port mismatches) board.old board.new) }
+        (λ earlier mismatches. IsPortSettled given.now.net.now journals earlier port mismatches) board.old board.new) }
 {
     let Some(turn) = own_turn(given.net, &it.event) else {
         return Ok(Look::Waits);

@@ -37,7 +37,7 @@ pub(crate) fn look_at_source<'run>(
     requires board { IsBoard given.now.net.now (journaled given.now.ports.now given.now.sources.now) board.old }
     ensures { let journals = journaled given.now.ports.now given.now.sources.now in
         IfOk result (IsAfterLook given.now.net.now journals
-            (λ earlier mismatches. IsSourceSettled given.now.net.now journals earlier conn mismatches) board.old board.new) }
+        (λ earlier mismatches. IsSourceSettled given.now.net.now journals earlier conn mismatches) board.old board.new) }
 {
     let c = usize::from(conn);
     let entries = given.sources[c].entries.as_slice();

@@ -67,9 +67,7 @@ fn rate(code: u16) -> Rate {
 
 fn request(vci: u16, seq: u32, floor: u16, ask: u16) -> Result<Request, Fail> {
     let vc = Vc::new(1, vci).unwrap();
-    Ok(Request::new(vc, seq, rate(floor), rate(ask)).ok_or(
-        "no such request",
-    )?)
+    Ok(Request::new(vc, seq, rate(floor), rate(ask)).ok_or("no such request")?)
 }
 
 /// What a source did.
@@ -89,14 +87,7 @@ fn asked(conn: u16, request: Request) -> SourceEntry {
 }
 
 fn told(conn: u16, seq: u32, granted: bool, heard: Heard) -> SourceEntry {
-    did(
-        Event::Told {
-            conn,
-            seq,
-            granted,
-        },
-        Outcome::Told(heard),
-    )
+    did(Event::Told { conn, seq, granted }, Outcome::Told(heard))
 }
 
 fn sent(place: u64) -> SourceEntry {
@@ -120,7 +111,11 @@ struct Run {
     sources: Vec<SourceJournal>,
 }
 
-fn run_of(alloc: Global, ports: &[&[Entry]], sources: &[&[SourceEntry]]) -> Result<Run, AllocError> {
+fn run_of(
+    alloc: Global,
+    ports: &[&[Entry]],
+    sources: &[&[SourceEntry]],
+) -> Result<Run, AllocError> {
     let mut listed = Vec::new(alloc);
     for entries in ports {
         listed.push(entries.to_vec(alloc)?)?;

@@ -97,7 +97,7 @@ floor_told net c s [] = refl
 floor_told net c s (event ∷ earlier) = elim (cases_eq (conn_of event) c) [
   | inl same ↦ (
       let is : (d : ℕ) → conn_of event ≡ d → facts_of d (after_event net (past_of net earlier) event) ≡ facts_added (facts_of d (past_of net earlier)) event (outcome_of net (past_of net earlier) event) ++ facts_of d (past_of net earlier)
-        = λ d e. subst (λ d. facts_of d (after_event net (past_of net earlier) event) ≡ facts_added (facts_of d (past_of net earlier)) event (outcome_of net (past_of net earlier) event) ++ facts_of d (past_of net earlier)) e (facts_of-own net (past_of net earlier) event) in
+      = λ d e. subst (λ d. facts_of d (after_event net (past_of net earlier) event) ≡ facts_added (facts_of d (past_of net earlier)) event (outcome_of net (past_of net earlier) event) ++ facts_of d (past_of net earlier)) e (facts_of-own net (past_of net earlier) event) in
       ap (λ (l : List Fact). floor_of l s) (is c same)
       ∙ floor_alike (facts_of c (past_of net earlier)) (reverse (entries_on net c earlier)) (place_at_first net earlier event) s (floor_told net c s earlier) event (outcome_of net (past_of net earlier) event)
       ∙ ap (λ (l : List SourceEntry). floor_in l s) (sym (reversed (conn_of event) c (entries_on net c earlier) same (entry_made net earlier event))))
@@ -161,7 +161,7 @@ ask_told net c s [] = refl
 ask_told net c s (event ∷ earlier) = elim (cases_eq (conn_of event) c) [
   | inl same ↦ (
       let is : (d : ℕ) → conn_of event ≡ d → facts_of d (after_event net (past_of net earlier) event) ≡ facts_added (facts_of d (past_of net earlier)) event (outcome_of net (past_of net earlier) event) ++ facts_of d (past_of net earlier)
-        = λ d e. subst (λ d. facts_of d (after_event net (past_of net earlier) event) ≡ facts_added (facts_of d (past_of net earlier)) event (outcome_of net (past_of net earlier) event) ++ facts_of d (past_of net earlier)) e (facts_of-own net (past_of net earlier) event) in
+      = λ d e. subst (λ d. facts_of d (after_event net (past_of net earlier) event) ≡ facts_added (facts_of d (past_of net earlier)) event (outcome_of net (past_of net earlier) event) ++ facts_of d (past_of net earlier)) e (facts_of-own net (past_of net earlier) event) in
       ap (λ (l : List Fact). ask_of l s) (is c same)
       ∙ ask_alike (facts_of c (past_of net earlier)) (reverse (entries_on net c earlier)) (place_at_first net earlier event) s (ask_told net c s earlier) event (outcome_of net (past_of net earlier) event)
       ∙ ap (λ (l : List SourceEntry). ask_in l s) (sym (reversed (conn_of event) c (entries_on net c earlier) same (entry_made net earlier event))))

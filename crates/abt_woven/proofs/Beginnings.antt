@@ -19,7 +19,7 @@ begun xs (y ∷ rest) z next =
 pub beginning_more : {A : Type 0} → (xs ys : List A) (z : A) → IsBeginning xs ys → slice_get ys (length xs) ≡ Some z → IsBeginning (xs ++ z ∷ []) ys
 beginning_more xs ys z begins next =
     subst (IsBeginning (xs ++ z ∷ [])) (sym begins.1)
-      (begun xs begins.0 z (sym (seam xs begins.0) ∙ ap (λ l. slice_get l (length xs)) (sym begins.1) ∙ next))
+    (begun xs begins.0 z (sym (seam xs begins.0) ∙ ap (λ l. slice_get l (length xs)) (sym begins.1) ∙ next))
 
 pub beginning_nil : {A : Type 0} → (xs ys : List A) → IsBeginning xs ys → IsBeginning (xs ++ []) ys
 beginning_nil xs ys begins = subst (λ l. IsBeginning l ys) (sym (append-nil xs)) begins

@@ -30,11 +30,11 @@ port_placed net journals earlier p begins None fits = beginning_nil (steps_on ne
 port_placed net journals earlier p begins (Some v) fits = elim (cases_eq v.port p) [
   | inl same ↦ (
       let next : next_step net journals earlier p ≡ Some (record { place = length (steps_on net p earlier); input = v.input; reply = v.reply }) =
-        subst (λ q. next_step net journals earlier q ≡ Some (record { place = length (steps_on net q earlier); input = v.input; reply = v.reply })) same (fits v refl) in
+      subst (λ q. next_step net journals earlier q ≡ Some (record { place = length (steps_on net q earlier); input = v.input; reply = v.reply })) same (fits v refl) in
       subst (λ (l : List Step). IsBeginning (steps_on net p earlier ++ l) (port_journal journals p)) (sym (cond-true _ _ _ (eq-eqb v.port p same)))
-        (beginning_more (steps_on net p earlier) (port_journal journals p) _ begins next))
+      (beginning_more (steps_on net p earlier) (port_journal journals p) _ begins next))
   | inr differ ↦ subst (λ (l : List Step). IsBeginning (steps_on net p earlier ++ l) (port_journal journals p)) (sym (cond-false _ _ _ (ne_eqb v.port p differ)))
-        (beginning_nil (steps_on net p earlier) (port_journal journals p) begins)
+      (beginning_nil (steps_on net p earlier) (port_journal journals p) begins)
 ]
 
 source_placed : (net : Topology) (journals : Journaled) (earlier : List Event) (d c : ℕ) → IsBeginning (entries_on net c earlier) (source_journal journals c) →
@@ -44,9 +44,9 @@ source_placed net journals earlier d c begins None fits = beginning_nil (entries
 source_placed net journals earlier d c begins (Some x) fits = elim (cases_eq d c) [
   | inl same ↦
       subst (λ (l : List SourceEntry). IsBeginning (entries_on net c earlier ++ l) (source_journal journals c)) (sym (cond-true _ _ _ (eq-eqb d c same)))
-        (beginning_more (entries_on net c earlier) (source_journal journals c) x begins (subst (λ q. next_entry net journals earlier q ≡ Some x) same (fits x refl)))
+      (beginning_more (entries_on net c earlier) (source_journal journals c) x begins (subst (λ q. next_entry net journals earlier q ≡ Some x) same (fits x refl)))
   | inr differ ↦ subst (λ (l : List SourceEntry). IsBeginning (entries_on net c earlier ++ l) (source_journal journals c)) (sym (cond-false _ _ _ (ne_eqb d c differ)))
-        (beginning_nil (entries_on net c earlier) (source_journal journals c) begins)
+      (beginning_nil (entries_on net c earlier) (source_journal journals c) begins)
 ]
 
 pub fits_placed : (net : Topology) (journals : Journaled) (earlier : List Event) (event : Event) → ArePlaced net journals earlier → Fits net journals earlier event → ArePlaced net journals (event ∷ earlier)

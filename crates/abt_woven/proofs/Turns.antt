@@ -81,12 +81,12 @@ blind : {A : Type 0} → (view : List Fact → A) → ((t : ℕ) (facts : List F
     (d c t : ℕ) (past : List ConnectionFact) → view (facts_of d (turned c t past)) ≡ view (facts_of d past)
 blind view sees d c t past =
     cond_both (c == d) (FactTurned t ∷ facts_of d past) (facts_of d past) (λ (facts : List Fact). view facts ≡ view (facts_of d past))
-      (λ e. sees t (facts_of d past)) (λ e. refl)
+    (λ e. sees t (facts_of d past)) (λ e. refl)
 
 reserved_turned : (net : Topology) (c t : ℕ) (past : List ConnectionFact) (p : ℕ) → reserved_on net (turned c t past) p ≡ reserved_on net past p
 reserved_turned net c t past p =
     numbered_same (λ numbered. held_on (facts_of numbered.0 past) numbered.1.path p) (λ numbered. held_on (facts_of numbered.0 (turned c t past)) numbered.1.path p) 0 net.conns
-      (λ d conn low. blind (λ (facts : List Fact). held_on facts conn.path p) (λ s facts. refl) d c t past)
+    (λ d conn low. blind (λ (facts : List Fact). held_on facts conn.path p) (λ s facts. refl) d c t past)
 
 -- the outcome after a past, where an answer was sent or not as is said
 abbrev pub outcome_at_if : Bool → Topology → List ConnectionFact → Option Conn → Event → Outcome
@@ -119,7 +119,7 @@ outcome_at_if-turned sent net c t past event (Some conn) =
     let port = port_of conn.path event in
     ap (λ (r : ℕ). answer_if sent conn r (slice_index net.capacities port) (facts_of (conn_of event) (turned c t past)) event) (reserved_turned net c t past port)
     ∙ blind (λ (facts : List Fact). answer_if sent conn (reserved_on net past port) (slice_index net.capacities port) facts event)
-        (λ s facts. answer_if-turned sent conn (reserved_on net past port) (slice_index net.capacities port) s facts event) (conn_of event) c t past
+    (λ s facts. answer_if-turned sent conn (reserved_on net past port) (slice_index net.capacities port) s facts event) (conn_of event) c t past
 
 pub outcome_if-turned : (sent : Bool) (net : Topology) (c t : ℕ) (past : List ConnectionFact) (event : Event) → outcome_if sent net (turned c t past) event ≡ outcome_if sent net past event
 outcome_if-turned sent net c t past event = outcome_at_if-turned sent net c t past event (conn_at net (conn_of event))
@@ -134,9 +134,9 @@ yes_turned : (conn : Conn) (facts : List Fact) (t hop seq : ℕ) →
     (answer_is_at (length conn.path) (FactTurned t ∷ facts) seq hop true ≡ answer_is_at (length conn.path) facts seq hop true) ⊎ ((hop ≡ length conn.path) × (t ≡ seq))
 yes_turned conn facts t hop seq = elim (cases_eq t seq) [
   | inl own ↦ (elim (cases_eq hop (length conn.path)) [
-      | inl last ↦ inr (last, own)
-      | inr earlier ↦ inl (cond-false _ _ _ (ne_eqb hop (length conn.path) earlier) ∙ sym (cond-false _ _ _ (ne_eqb hop (length conn.path) earlier)))
-    ])
+    | inl last ↦ inr (last, own)
+    | inr earlier ↦ inl (cond-false _ _ _ (ne_eqb hop (length conn.path) earlier) ∙ sym (cond-false _ _ _ (ne_eqb hop (length conn.path) earlier)))
+  ])
   | inr other ↦ inl (ap (λ (b : Bool). if hop == length conn.path then (b || was_turned facts seq) else was_back facts seq (hop + 1)) (ne_eqb t seq other))
 ]
 
@@ -148,10 +148,10 @@ answer_turned net c t d hop seq past conn known = elim (cases_eq c d) [
       elim (yes_turned conn (facts_of d past) t hop seq) [
         | inl alike ↦ inl (ap (λ (l : List Fact). answer_is_at (length conn.path) l seq hop true) facts ∙ alike)
         | inr own ↦ inr (record {
-            conn = conn;
-            known = ap (conn_at net) same ∙ known;
-            is = ap (λ e. Answer e hop seq true) (sym same) ∙ ap (λ j. Answer c j seq true) own.0 ∙ ap (λ s. Answer c (length conn.path) s true) (sym own.1);
-          })
+          conn = conn;
+          known = ap (conn_at net) same ∙ known;
+          is = ap (λ e. Answer e hop seq true) (sym same) ∙ ap (λ j. Answer c j seq true) own.0 ∙ ap (λ s. Answer c (length conn.path) s true) (sym own.1);
+        })
       ])
   | inr differ ↦ inl (ap (λ (l : List Fact). answer_is_at (length conn.path) l seq hop true) (cond-false _ _ _ (ne_eqb c d differ)))
 ]
@@ -222,17 +222,18 @@ sent_turns net earlier (turn ∷ turns) all event =
     let now = ap (λ (past : List ConnectionFact). is_sent net past event) (turn-past net (turns ++ earlier) turn all.0) in
     elim (is_sent-turned net all.0.conn all.0.seq (past_of net (turns ++ earlier)) event) [
       | inl same ↦ (elim (sent_turns net earlier turns all.1 event) [
-          | inl alike ↦ inl (now ∙ same ∙ alike)
-          | inr own ↦ inr (own.0, now ∙ same ∙ own.1)
-        ])
+        | inl alike ↦ inl (now ∙ same ∙ alike)
+        | inr own ↦ inr (own.0, now ∙ same ∙ own.1)
+      ])
       | inr its ↦ inr (
-          record {
-            conn = all.0.conn;
-            seq = all.0.seq;
-            its = its;
-            happens = sym (turn_same net earlier turns all.1 all.0.conn all.0.seq) ∙ ap (outcome_of net (past_of net (turns ++ earlier))) (sym all.0.is) ∙ all.0.happens;
-          },
-          now ∙ yes_sent net all.0.conn all.0.seq (past_of net (turns ++ earlier)) event its)
+        record {
+          conn = all.0.conn;
+          seq = all.0.seq;
+          its = its;
+          happens = sym (turn_same net earlier turns all.1 all.0.conn all.0.seq) ∙ ap (outcome_of net (past_of net (turns ++ earlier))) (sym all.0.is) ∙ all.0.happens;
+        },
+        now ∙ yes_sent net all.0.conn all.0.seq (past_of net (turns ++ earlier)) event its,
+      )
     ]
 
 -- what a yes answers right after its own Turn
@@ -256,7 +257,7 @@ outcome_turns net earlier turns all event =
     let past = past_of net earlier in
     let after = past_of net (turns ++ earlier) in
     let law : (x : Bool) → is_sent net after event ≡ x → outcome_of net after event ≡ outcome_if x net past event
-      = λ x e. outcome-if net after event ∙ ap (λ (y : Bool). outcome_if y net after event) e ∙ outcome_if-turns x net earlier turns all event in
+    = λ x e. outcome-if net after event ∙ ap (λ (y : Bool). outcome_if y net after event) e ∙ outcome_if-turns x net earlier turns all event in
     elim (sent_turns net earlier turns all event) [
       | inl alike ↦ inl (law (is_sent net past event) alike ∙ sym (outcome-if net past event))
       | inr own ↦ inr (record { own = own.0; same = law true own.1 ∙ sym (own_after net earlier event own.0) })
@@ -301,14 +302,14 @@ pub own_same : (net : Topology) (earlier : List Event) (event : Event) → (own 
 own_same net earlier event own enabled =
     let past = past_of net earlier in
     let sent : is_sent net past event ≡ true = elim (cases_Bool (is_sent net past event)) [
-        | inl yes_it_was ↦ yes_it_was
-        | inr it_was_not ↦ (
-            let off : is_enabled (outcome_if false net past event) ≡ false =
-              ap (λ e. is_enabled (outcome_if false net past e)) own.its.is
-              ∙ ap (λ (o : Option Conn). is_enabled (outcome_at_if false net past o (Answer own.conn (length own.its.conn.path) own.seq true))) own.its.known
-              ∙ unsent_off own.its.conn (facts_of own.conn past) (length own.its.conn.path) own.seq true in
-            absurd (false≢true (sym off ∙ sym (ap is_enabled (outcome-if net past event ∙ ap (λ (x : Bool). outcome_if x net past event) it_was_not)) ∙ enabled)))
-      ] in
+      | inl yes_it_was ↦ yes_it_was
+      | inr it_was_not ↦ (
+          let off : is_enabled (outcome_if false net past event) ≡ false =
+          ap (λ e. is_enabled (outcome_if false net past e)) own.its.is
+          ∙ ap (λ (o : Option Conn). is_enabled (outcome_at_if false net past o (Answer own.conn (length own.its.conn.path) own.seq true))) own.its.known
+          ∙ unsent_off own.its.conn (facts_of own.conn past) (length own.its.conn.path) own.seq true in
+          absurd (false≢true (sym off ∙ sym (ap is_enabled (outcome-if net past event ∙ ap (λ (x : Bool). outcome_if x net past event) it_was_not)) ∙ enabled)))
+    ] in
     own_after net earlier event own
     ∙ sym (outcome-if net past event ∙ ap (λ (x : Bool). outcome_if x net past event) sent)
 

@@ -67,7 +67,7 @@ visit_by past event reply None = None
 visit_by past event None (Some conn) = None
 visit_by past event (Some reply) (Some conn) =
     option_map (λ (input : PortInput). record { port = slice_index conn.path (hop_met event - 1); input = input; reply = reply })
-      (input_of conn.vc (facts_of (conn_of event) past) event)
+    (input_of conn.vc (facts_of (conn_of event) past) event)
 
 -- the visit that an event is after a past, if it happens and comes to a port
 abbrev pub visit : Topology → List ConnectionFact → Event → Option Visit

@@ -75,7 +75,11 @@ fn a_source_that_never_asked_hears_nothing(rt: HostRuntime) -> Result<(), Fail> 
     let port = [served(0, 0, first, Onward::Pass)];
     let source = [started(0, 0), told(0, 1, true, Heard::Raised)];
     let answer = woven(rt.alloc(), &net, &[&port], &[&source])?;
-    is_stuck(&rt, answer, &[at(Actor::Source(0), 1), at(Actor::Port(0), 0)]);
+    is_stuck(
+        &rt,
+        answer,
+        &[at(Actor::Source(0), 1), at(Actor::Port(0), 0)],
+    );
     Ok(())
 }
 
@@ -90,7 +94,11 @@ fn a_yes_is_turned_once_however_often_it_comes(rt: HostRuntime) -> Result<(), Fa
         input: PortInput::Answer(Answer::of(&first, true)),
         reply: PortReply::Answered(Back::Pass),
     };
-    let port = [served(0, 0, first, Onward::Pass), yes, Entry { place: 2, ..yes }];
+    let port = [
+        served(0, 0, first, Onward::Pass),
+        yes,
+        Entry { place: 2, ..yes },
+    ];
     let source = [
         started(0, 0),
         asked(0, first),

@@ -9,4 +9,4 @@ loop-event-preserved c =
     let more = take_more c.args.events.now c.loop-event.event-index c.event-item.result low in
     let is = more ∙ ap (λ e. take c.loop-event.event-index c.args.events.now ++ e ∷ []) (sym c.event-item.is) in
     subst (λ l. StandsFor c.args.given.now.net.now l c.carry_on.new.world) (sym is)
-      (c.in_ok-carry_on.ensures c.args.given.now.net.now (take c.loop-event.event-index c.args.events.now) c.loop-event.invariant)
+    (c.in_ok-carry_on.ensures c.args.given.now.net.now (take c.loop-event.event-index c.args.events.now) c.loop-event.invariant)

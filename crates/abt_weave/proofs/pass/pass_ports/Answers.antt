@@ -21,9 +21,11 @@ loop-port-preserved c =
     let n = c.loop-port.port in
     let look = c.in_ok-look.look in
     let step = pass_step net js (IsPortSettled net js) old c.loop-port.board new n c.loop-port.moved c.loop-port.marks.items look c.loop-port.invariant.0 c.in_ok-look.ensures in
-    let marks = c.in_ok-push.ensures.items ∙ ap (λ b. c.loop-port.marks.items ++ b ∷ []) c.is_mismatch.ensures in
-    (subst (λ m. IsPassing net js (IsPortSettled net js) old new (n + 1) m c.push.new.self.items) (sym c.has_moved-moved.ensures)
-      (subst (λ l. IsPassing net js (IsPortSettled net js) old new (n + 1) (has_moved c.loop-port.moved look) l) (sym marks) step), c.loop-port.invariant.1)
+    let marks = c.in_ok-push.ensures.items ∙ ap (λ b. c.loop-port.marks.items ++ b ∷ []) c.is_mismatch.ensures in (
+      subst (λ m. IsPassing net js (IsPortSettled net js) old new (n + 1) m c.push.new.self.items) (sym c.has_moved-moved.ensures)
+          (subst (λ l. IsPassing net js (IsPortSettled net js) old new (n + 1) (has_moved c.loop-port.moved look) l) (sym marks) step),
+      c.loop-port.invariant.1,
+    )
 
 pub returns : goal.returns
 returns c =

@@ -21,9 +21,11 @@ loop-conn-preserved c =
     let n = c.loop-conn.conn in
     let look = c.in_ok-look.look in
     let step = pass_step net js (IsSourceSettled net js) old c.loop-conn.board new n c.loop-conn.moved c.loop-conn.marks.items look c.loop-conn.invariant.0 c.in_ok-look.ensures in
-    let marks = c.in_ok-push.ensures.items ∙ ap (λ b. c.loop-conn.marks.items ++ b ∷ []) c.is_mismatch.ensures in
-    (subst (λ m. IsPassing net js (IsSourceSettled net js) old new (n + 1) m c.push.new.self.items) (sym c.has_moved-moved.ensures)
-      (subst (λ l. IsPassing net js (IsSourceSettled net js) old new (n + 1) (has_moved c.loop-conn.moved look) l) (sym marks) step), c.loop-conn.invariant.1)
+    let marks = c.in_ok-push.ensures.items ∙ ap (λ b. c.loop-conn.marks.items ++ b ∷ []) c.is_mismatch.ensures in (
+      subst (λ m. IsPassing net js (IsSourceSettled net js) old new (n + 1) m c.push.new.self.items) (sym c.has_moved-moved.ensures)
+          (subst (λ l. IsPassing net js (IsSourceSettled net js) old new (n + 1) (has_moved c.loop-conn.moved look) l) (sym marks) step),
+      c.loop-conn.invariant.1,
+    )
 
 pub returns : goal.returns
 returns c =

@@ -16,14 +16,14 @@ use Rattle.abt_weave.proofs.port.expect_event.Goals.{then-is_beside, else-is_bes
 pub bounds-given-c : goal.bounds-given-c
 bounds-given-c c =
     subst (λ n. n < length c.args.given.now.sources.now) (sym c.from-c.ensures)
-      (coming_low c.args.given.now.net.now (journaled c.args.given.now.ports.now c.args.given.now.sources.now) (reverse c.args.board.now.events.items) c.args.port c.args.entry.now.place c.args.entry.now.input
-        c.in_ok-conn.field-0.conn (length c.args.given.now.sources.now) c.in_ok-conn.field-0.event c.in_ok-conn.ensures.some c.requires.conns)
+    (coming_low c.args.given.now.net.now (journaled c.args.given.now.ports.now c.args.given.now.sources.now) (reverse c.args.board.now.events.items) c.args.port c.args.entry.now.place c.args.entry.now.input
+    c.in_ok-conn.field-0.conn (length c.args.given.now.sources.now) c.in_ok-conn.field-0.event c.in_ok-conn.ensures.some c.requires.conns)
 
 pub index-come-requires : goal.index-come-requires
 index-come-requires c =
     let low : c.from-c.result < length c.args.given.now.sources.now = subst (λ n. n < length c.args.given.now.sources.now) (sym c.from-c.ensures)
-      (coming_low c.args.given.now.net.now (journaled c.args.given.now.ports.now c.args.given.now.sources.now) (reverse c.args.board.now.events.items) c.args.port c.args.entry.now.place c.args.entry.now.input
-        c.in_ok-conn.field-0.conn (length c.args.given.now.sources.now) c.in_ok-conn.field-0.event c.in_ok-conn.ensures.some c.requires.conns) in
+    (coming_low c.args.given.now.net.now (journaled c.args.given.now.ports.now c.args.given.now.sources.now) (reverse c.args.board.now.events.items) c.args.port c.args.entry.now.place c.args.entry.now.input
+    c.in_ok-conn.field-0.conn (length c.args.given.now.sources.now) c.in_ok-conn.field-0.event c.in_ok-conn.ensures.some c.requires.conns) in
     let there : c.from-c.result < length c.args.board.now.source_places.items = subst (λ n. c.from-c.result < n) (sym c.requires.board.source_count) low in
     search rules
 
@@ -32,12 +32,12 @@ behind-reached-requires c =
     let net = c.args.given.now.net.now in
     let js = journaled c.args.given.now.ports.now c.args.given.now.sources.now in
     let low : c.from-c.result < length c.args.given.now.sources.now = subst (λ n. n < length c.args.given.now.sources.now) (sym c.from-c.ensures)
-      (coming_low net js (reverse c.args.board.now.events.items) c.args.port c.args.entry.now.place c.args.entry.now.input
-        c.in_ok-conn.field-0.conn (length c.args.given.now.sources.now) c.in_ok-conn.field-0.event c.in_ok-conn.ensures.some c.requires.conns) in
+    (coming_low net js (reverse c.args.board.now.events.items) c.args.port c.args.entry.now.place c.args.entry.now.input
+    c.in_ok-conn.field-0.conn (length c.args.given.now.sources.now) c.in_ok-conn.field-0.event c.in_ok-conn.ensures.some c.requires.conns) in
     let beside = beside_read net c.args.given.now.ports.now c.args.given.now.sources.now c.args.board.now.events.items c.args.board.now.world c.args.board.now.source_places.items c.args.board.now.port_places.items
-      c.from-c.result c.index-given-c.result c.as_slice-entries.result.now c.index-come.result.now c.requires.board low c.index-given-c.is c.as_slice-entries.ensures c.index-come.ensures in
+    c.from-c.result c.index-given-c.result c.as_slice-entries.result.now c.index-come.result.now c.requires.board low c.index-given-c.is c.as_slice-entries.ensures c.index-come.ensures in
     let less = come_low net js (reverse c.args.board.now.events.items) c.args.port c.args.entry.now.place c.args.entry.now.input c.in_ok-conn.field-0.conn c.from-c.result c.in_ok-conn.field-0.event
-      c.as_slice-entries.result.now c.index-come.result.now c.in_ok-conn.ensures.some c.from-c.ensures beside (sym c.is_beside.ensures ∙ c.if-is_beside.true) in
+    c.as_slice-entries.result.now c.index-come.result.now c.in_ok-conn.ensures.some c.from-c.ensures beside (sym c.is_beside.ensures ∙ c.if-is_beside.true) in
     search rules
 
 pub returns-clause-some : goal.returns-clause-some
@@ -47,7 +47,7 @@ returns-clause-some c =
     let earlier = reverse c.args.board.now.events.items in
     let sp = c.args.board.now.source_places.items in
     let lows : c.in_ok-conn.field-0.conn < length c.args.given.now.sources.now = coming_low net js earlier c.args.port c.args.entry.now.place c.args.entry.now.input
-        c.in_ok-conn.field-0.conn (length c.args.given.now.sources.now) c.in_ok-conn.field-0.event c.in_ok-conn.ensures.some c.requires.conns in
+    c.in_ok-conn.field-0.conn (length c.args.given.now.sources.now) c.in_ok-conn.field-0.event c.in_ok-conn.ensures.some c.requires.conns in
     let low : c.in_ok-conn.field-0.conn < length sp = subst (λ n. c.in_ok-conn.field-0.conn < n) (sym c.requires.board.source_count) lows in
     let come : c.index-come.result.now ≡ slice_index sp c.in_ok-conn.field-0.conn = place_is sp c.from-c.result c.in_ok-conn.field-0.conn c.index-come.result.now c.from-c.ensures low c.index-come.ensures in
     record {

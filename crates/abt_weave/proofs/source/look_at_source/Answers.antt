@@ -15,7 +15,7 @@ returns-then-place-entries c =
     let net = c.args.given.now.net.now in
     let js = journaled c.args.given.now.ports.now c.args.given.now.sources.now in
     let next = next_read net c.args.given.now.ports.now c.args.given.now.sources.now c.args.board.now.events.items c.args.board.now.world c.args.board.now.source_places.items c.args.board.now.port_places.items
-      c.args.conn c.from-c.result c.index-given-c.result c.as_slice-entries.result.now c.index-place.result.now c.requires.board c.from-c.ensures c.requires.source c.index-given-c.is c.as_slice-entries.ensures c.index-place.ensures in
+    c.args.conn c.from-c.result c.index-given-c.result c.as_slice-entries.result.now c.index-place.result.now c.requires.board c.from-c.ensures c.requires.source c.index-given-c.is c.as_slice-entries.ensures c.index-place.ensures in
     (c.requires.board, refl, refl, past_settled net js (reverse c.args.board.now.events.items) c.args.conn c.as_slice-entries.result.now c.index-place.result.now next c.if-place-entries.true)
 
 pub returns-in_default : goal.returns-in_default
@@ -23,7 +23,7 @@ returns-in_default c =
     let net = c.args.given.now.net.now in
     let js = journaled c.args.given.now.ports.now c.args.given.now.sources.now in
     let next = next_read net c.args.given.now.ports.now c.args.given.now.sources.now c.args.board.now.events.items c.args.board.now.world c.args.board.now.source_places.items c.args.board.now.port_places.items
-      c.args.conn c.from-c.result c.index-given-c.result c.as_slice-entries.result.now c.index-place.result.now c.requires.board c.from-c.ensures c.requires.source c.index-given-c.is c.as_slice-entries.ensures c.index-place.ensures in
+    c.args.conn c.from-c.result c.index-given-c.result c.as_slice-entries.result.now c.index-place.result.now c.requires.board c.from-c.ensures c.requires.source c.index-given-c.is c.as_slice-entries.ensures c.index-place.ensures in
     (c.requires.board, refl, refl, other_settled net js (reverse c.args.board.now.events.items) c.args.conn c.as_slice-entries.result.now c.index-place.result.now _ next c.in_default.not-Did)
 
 pub returns-then-not-is_own_of : goal.returns-then-not-is_own_of
@@ -31,7 +31,7 @@ returns-then-not-is_own_of c =
     let net = c.args.given.now.net.now in
     let js = journaled c.args.given.now.ports.now c.args.given.now.sources.now in
     let next = next_read net c.args.given.now.ports.now c.args.given.now.sources.now c.args.board.now.events.items c.args.board.now.world c.args.board.now.source_places.items c.args.board.now.port_places.items
-      c.args.conn c.from-c.result c.index-given-c.result c.as_slice-entries.result.now c.index-place.result.now c.requires.board c.from-c.ensures c.requires.source c.index-given-c.is c.as_slice-entries.ensures c.index-place.ensures in
+    c.args.conn c.from-c.result c.index-given-c.result c.as_slice-entries.result.now c.index-place.result.now c.requires.board c.from-c.ensures c.requires.source c.index-given-c.is c.as_slice-entries.ensures c.index-place.ensures in
     let low : c.index-place.result.now < length c.as_slice-entries.result.now = omega arith in
     let at = stands_at c.as_slice-entries.result.now c.index-place.result.now _ (Did c.in-Did.event c.in-Did.told) low c.in-Did.is in
     (c.requires.board, refl, refl, foreign_settled net js (reverse c.args.board.now.events.items) c.args.conn c.in-Did.event c.in-Did.told (next ∙ at) (sym c.is_own_of.ensures ∙ c.if-not-is_own_of.true))
@@ -44,14 +44,14 @@ returns-in_ok-push-in-Agrees c =
     let sp = c.args.board.now.source_places.items in
     let pp = c.args.board.now.port_places.items in
     let next = next_read net c.args.given.now.ports.now c.args.given.now.sources.now events c.args.board.now.world sp pp
-      c.args.conn c.from-c.result c.index-given-c.result c.as_slice-entries.result.now c.index-place.result.now c.requires.board c.from-c.ensures c.requires.source c.index-given-c.is c.as_slice-entries.ensures c.index-place.ensures in
+    c.args.conn c.from-c.result c.index-given-c.result c.as_slice-entries.result.now c.index-place.result.now c.requires.board c.from-c.ensures c.requires.source c.index-given-c.is c.as_slice-entries.ensures c.index-place.ensures in
     let low : c.index-place.result.now < length c.as_slice-entries.result.now = omega arith in
     let at = stands_at c.as_slice-entries.result.now c.index-place.result.now _ (Did c.in-Did.event c.in-Did.told) low c.in-Did.is in
     let is : c.in_ok-try_own.field-0 ≡ Agrees = c.in-Agrees.is in
     let tried = subst (λ t. IsOwnTried net events c.in-Did.event c.in-Did.told c.try_own.new.world t) is (c.in_ok-try_own.ensures net events c.requires.board.stands) in
     let pushed = c.in_ok-push-in-Agrees.ensures.items ∙ ap (λ l. l ++ c.in-Did.event ∷ []) c.in_ok-reserve.ensures.items in
     placed_more net js events c.push.new.self.items c.args.board.now.world c.try_own.new.world sp pp c.args.conn c.from-c.result c.index-place.result.now c.in-Did.event c.in-Did.told
-      c.requires.board c.from-c.ensures (subst (λ n. c.args.conn < n) (sym c.requires.board.source_count) c.requires.source) c.index-place.ensures (next ∙ at) (sym c.is_own_of.ensures ∙ c.if-not-is_own_of.false) tried.0.0 tried.0.1 tried.1 pushed
+    c.requires.board c.from-c.ensures (subst (λ n. c.args.conn < n) (sym c.requires.board.source_count) c.requires.source) c.index-place.ensures (next ∙ at) (sym c.is_own_of.ensures ∙ c.if-not-is_own_of.false) tried.0.0 tried.0.1 tried.1 pushed
 
 pub returns-in_ok-board-in-Differs : goal.returns-in_ok-board-in-Differs
 returns-in_ok-board-in-Differs c =
@@ -61,7 +61,7 @@ returns-in_ok-board-in-Differs c =
     let sp = c.args.board.now.source_places.items in
     let pp = c.args.board.now.port_places.items in
     let next = next_read net c.args.given.now.ports.now c.args.given.now.sources.now events c.args.board.now.world sp pp
-      c.args.conn c.from-c.result c.index-given-c.result c.as_slice-entries.result.now c.index-place.result.now c.requires.board c.from-c.ensures c.requires.source c.index-given-c.is c.as_slice-entries.ensures c.index-place.ensures in
+    c.args.conn c.from-c.result c.index-given-c.result c.as_slice-entries.result.now c.index-place.result.now c.requires.board c.from-c.ensures c.requires.source c.index-given-c.is c.as_slice-entries.ensures c.index-place.ensures in
     let low : c.index-place.result.now < length c.as_slice-entries.result.now = omega arith in
     let at = stands_at c.as_slice-entries.result.now c.index-place.result.now _ (Did c.in-Did.event c.in-Did.told) low c.in-Did.is in
     let is : c.in_ok-try_own.field-0 ≡ Differs = c.in-Differs.is in
@@ -79,7 +79,7 @@ returns-in-Absent c =
     let sp = c.args.board.now.source_places.items in
     let pp = c.args.board.now.port_places.items in
     let next = next_read net c.args.given.now.ports.now c.args.given.now.sources.now events c.args.board.now.world sp pp
-      c.args.conn c.from-c.result c.index-given-c.result c.as_slice-entries.result.now c.index-place.result.now c.requires.board c.from-c.ensures c.requires.source c.index-given-c.is c.as_slice-entries.ensures c.index-place.ensures in
+    c.args.conn c.from-c.result c.index-given-c.result c.as_slice-entries.result.now c.index-place.result.now c.requires.board c.from-c.ensures c.requires.source c.index-given-c.is c.as_slice-entries.ensures c.index-place.ensures in
     let low : c.index-place.result.now < length c.as_slice-entries.result.now = omega arith in
     let at = stands_at c.as_slice-entries.result.now c.index-place.result.now _ (Did c.in-Did.event c.in-Did.told) low c.in-Did.is in
     let is : c.in_ok-try_own.field-0 ≡ Absent = c.in-Absent.is in

@@ -64,9 +64,15 @@ returns-then-not-is_empty-clause-err c =
     let ss = c.in_ok-seen.ensures.sources in
     let ps = subst (λ n. AreSettled (IsPortSettled net js (reverse events)) n mp) (sym (length-map ports (λ (entries : Vec Entry Global). entries.items))) c.in_ok-seen.ensures.ports in
     let no_source : AreUnmarked ms (length ms) = subst (λ m. AreUnmarked m (length m)) c.deref.ensures.value c.in_default.ensures.first in
-    let no_port : AreUnmarked mp (length mp) = subst (λ m. AreUnmarked m (length m)) c.deref-2.ensures.value c.in_default-first_port.ensures in
-    (events, (all_still net js c.in_default.ensures.rules (reverse events) ms mp board.placed ss ps, none_mismatch net js (reverse events) ms mp ss no_source ps no_port, c.in_ok-left.ensures,
-      some_left c.in_ok-left.left (sym c.is_empty.ensures ∙ c.if-not-is_empty.true)))
+    let no_port : AreUnmarked mp (length mp) = subst (λ m. AreUnmarked m (length m)) c.deref-2.ensures.value c.in_default-first_port.ensures in (
+      events,
+      (
+        all_still net js c.in_default.ensures.rules (reverse events) ms mp board.placed ss ps,
+        none_mismatch net js (reverse events) ms mp ss no_source ps no_port,
+        c.in_ok-left.ensures,
+        some_left c.in_ok-left.left (sym c.is_empty.ensures ∙ c.if-not-is_empty.true),
+      ),
+    )
 
 pub returns-clause-ok : goal.returns-clause-ok
 returns-clause-ok c =
