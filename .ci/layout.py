@@ -28,6 +28,7 @@ WITHOUT_BODIES = {
     "abt_source_journal",
     "abt_trace",
     "abt_walk",
+    "abt_woven",
 }
 
 

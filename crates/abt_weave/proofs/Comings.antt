@@ -1,0 +1,105 @@
+-- What is read for a port's next entry.
+use Rattle.std.proofs.Common.{◌≡◌, ◌≢◌, ℕ, ◌+◌, ◌-◌, ◌<◌, ◌≤◌, refl, ap, Bool, true, false, List, [], ◌∷◌, ◌++◌, length, reverse, take, ◌∙◌, sym, subst, Option, None, Some, Vec, arith}
+use Rattle.std.specs.Prelude.{slice_get, slice_index, get_or}
+use Rattle.std.specs.Global.{Global}
+use Rattle.std.proofs.Math.Seq.{take-append_seam}
+use Rattle.std.proofs.lemmas.List.{length-append, length-map}
+use Rattle.std.proofs.lemmas.Option.{slice_get_within, slice_get_read}
+use Rattle.abt_cell.specs.Channel.{Channel}
+use Rattle.abt_net.specs.Topology.{Topology}
+use Rattle.abt_model.specs.declared.event.Event.{Event}
+use Rattle.abt_model.specs.Answers.{is_hop}
+use Rattle.abt_model.specs.Conns.{conn_at}
+use Rattle.abt_model.specs.Outcomes.{conn_of}
+use Rattle.abt_journal.specs.declared.entry.Entry.{Entry}
+use Rattle.abt_journal.specs.declared.input.PortInput.{PortInput}
+use Rattle.abt_source_journal.specs.declared.entry.SourceEntry.{SourceEntry}
+use Rattle.abt_source_journal.specs.declared.journal.SourceJournal.{SourceJournal}
+use Rattle.abt_world.specs.Standing.{WorldView}
+use Rattle.abt_woven.specs.Projections.{hop_met, steps_on, entries_on}
+use Rattle.abt_woven.specs.Stuck.{Journaled, source_journal, entries_in, next_entry, IsBeginning}
+use Rattle.abt_weave.specs.Candidates.{event_by, channel_of}
+use Rattle.abt_weave.specs.Stops.{IsStop}
+use Rattle.abt_weave.specs.Comes.{input_told, entry_beside, Comes, IsComing}
+use Rattle.abt_weave.specs.Board.{journaled, IsPlacing}
+use Rattle.abt_weave.proofs.SourceLooks.{place_read, source_read, next_read}
+use Rattle.abt_weave.proofs.Candidates.{found, IsOnly, only}
+use Rattle.abt_weave.proofs.PortEvents.{some_same}
+
+pub stop_low : (net : Topology) (vc : Channel) (p c hop : ℕ) → IsStop net vc p c hop → c < length net.conns
+stop_low net vc p c hop stop = slice_get_within net.conns c stop.conn stop.known
+
+-- how far a source has come
+pub record IsBeside (net : Topology) (js : Journaled) (earlier : List Event) (c : ℕ) (entries : List SourceEntry) (come : ℕ) : Type 0 where
+  pub within : come ≤ length entries
+  pub placed : take come entries ≡ entries_on net c earlier
+  pub next : slice_get entries come ≡ next_entry net js earlier c
+
+taken : (xs ys : List SourceEntry) (n : ℕ) → IsBeginning xs ys → n ≡ length xs → take n ys ≡ xs
+taken xs ys n begins is = ap (λ m. take m ys) is ∙ ap (take (length xs)) begins.1 ∙ take-append_seam xs begins.0
+
+taken_low : (xs ys : List SourceEntry) (n : ℕ) → IsBeginning xs ys → n ≡ length xs → n ≤ length ys
+taken_low xs ys n begins is = let e = ap (λ l. length l) begins.1 ∙ length-append xs begins.0 in omega (arith, e, is)
+
+pub beside_read : (net : Topology) (ports : List (Vec Entry Global)) (sources : List SourceJournal) (events : List Event) (world : WorldView) (sp pp : List ℕ) (k : ℕ) (j : SourceJournal) (entries : List SourceEntry) (come : ℕ) →
+    IsPlacing net (journaled ports sources) events world sp pp → k < length sources → j ≡ get_or sources k j → entries ≡ (get_or sources k j).entries → come ≡ get_or sp k come →
+    IsBeside net (journaled ports sources) (reverse events) k entries come
+beside_read net ports sources events world sp pp k j entries come board low read are at =
+    let js = journaled ports sources in
+    let lowp : k < length sp = subst (λ n. k < n) (sym board.source_count) low in
+    let here : come ≡ length (entries_on net k (reverse events)) = place_read sp (λ d. length (entries_on net d (reverse events))) k come board.source_places lowp at in
+    let journal : source_journal js k ≡ entries = ap entries_in (source_read ports sources k j low read) ∙ ap (λ (x : SourceJournal). x.entries) read ∙ sym are in
+    let begins : IsBeginning (entries_on net k (reverse events)) entries = subst (IsBeginning (entries_on net k (reverse events))) journal (board.placed.conns k) in
+    record {
+      within = taken_low (entries_on net k (reverse events)) entries come begins here;
+      placed = taken (entries_on net k (reverse events)) entries come begins here;
+      next = sym (next_read net ports sources events world sp pp k k j entries come board refl low read are at);
+    }
+
+-- the candidate that is found comes
+pub coming_found : (net : Topology) (js : Journaled) (earlier : List Event) (p c hop k place : ℕ) (input : PortInput) (vc : Channel) (entries : List SourceEntry) (come : ℕ) (event : Event) →
+    IsStop net vc p c hop → vc ≡ channel_of input → k ≡ c → IsBeside net js earlier k entries come → place ≡ length (steps_on net p earlier) →
+    Some event ≡ event_by c hop place input (reverse (take come entries)) (slice_get entries come) → IsComing net js earlier p place input c event
+coming_found net js earlier p c hop k place input vc entries come event stop channel same beside at is =
+    let its = found c hop place input (reverse (take come entries)) (slice_get entries come) event (sym is) in
+    let whose : conn_of event ≡ k = its.conn ∙ sym same in
+    let placed : reverse (take come entries) ≡ reverse (entries_on net (conn_of event) earlier) = ap (λ l. reverse l) beside.placed ∙ ap (λ n. reverse (entries_on net n earlier)) (sym whose) in
+    record {
+      conn = its.conn;
+      comes = record {
+        conn = stop.conn;
+        known = ap (conn_at net) its.conn ∙ stop.known;
+        within = subst (λ j. is_hop (length stop.conn.path) j ≡ true) (sym its.hop_is) stop.within;
+        port = ap (λ j. slice_index stop.conn.path (j - 1)) its.hop_is ∙ stop.port;
+        brings = ap (λ (w : Channel). input_told w (reverse (entries_on net (conn_of event) earlier)) event) (stop.channel ∙ channel)
+            ∙ ap (λ (l : List SourceEntry). input_told (channel_of input) l event) (sym placed) ∙ its.brings;
+        at = at;
+        beside = λ x e. ap (next_entry net js earlier) whose ∙ sym beside.next ∙ its.beside x e;
+      };
+    }
+
+-- what comes stops at the port
+pub comes_stop : (net : Topology) (js : Journaled) (earlier : List Event) (p place : ℕ) (input : PortInput) (vc : Channel) (event : Event) → vc ≡ channel_of input → Comes net js earlier p place input event →
+    IsStop net vc p (conn_of event) (hop_met event)
+comes_stop net js earlier p place input vc event channel comes =
+    let its = only place comes.conn.vc input (reverse (entries_on net (conn_of event) earlier)) (next_entry net js earlier (conn_of event)) event comes.brings comes.beside in
+    record { conn = comes.conn; known = comes.known; channel = sym its.channel ∙ sym channel; within = comes.within; port = comes.port }
+
+-- and is the candidate
+pub coming_only : (net : Topology) (js : Journaled) (earlier : List Event) (p c hop k place : ℕ) (input : PortInput) (entries : List SourceEntry) (come : ℕ) (event : Event) →
+    c ≡ conn_of event → hop ≡ hop_met event → k ≡ c → IsBeside net js earlier k entries come → Comes net js earlier p place input event →
+    event_by c hop place input (reverse (take come entries)) (slice_get entries come) ≡ Some event
+coming_only net js earlier p c hop k place input entries come event whose hops same beside comes =
+    let its = only place comes.conn.vc input (reverse (entries_on net (conn_of event) earlier)) (next_entry net js earlier (conn_of event)) event comes.brings comes.beside in
+    let here : k ≡ conn_of event = same ∙ whose in
+    ap (λ n. event_by n hop place input (reverse (take come entries)) (slice_get entries come)) whose
+    ∙ ap (λ n. event_by (conn_of event) n place input (reverse (take come entries)) (slice_get entries come)) hops
+    ∙ ap (λ l. event_by (conn_of event) (hop_met event) place input (reverse l) (slice_get entries come)) (beside.placed ∙ ap (λ n. entries_on net n earlier) here)
+    ∙ ap (λ o. event_by (conn_of event) (hop_met event) place input (reverse (entries_on net (conn_of event) earlier)) o) (beside.next ∙ ap (next_entry net js earlier) here)
+    ∙ its.is
+
+-- the place of a port is how many steps it has had
+pub port_at : (net : Topology) (ports : List (Vec Entry Global)) (sources : List SourceJournal) (events : List Event) (world : WorldView) (sp pp : List ℕ) (p : ℕ) →
+    IsPlacing net (journaled ports sources) events world sp pp → p < length ports → slice_index pp p ≡ length (steps_on net p (reverse events))
+port_at net ports sources events world sp pp p board low =
+    board.port_places p (subst (λ n. p < n) (sym (board.port_count ∙ length-map ports (λ (entries : Vec Entry Global). entries.items))) low)

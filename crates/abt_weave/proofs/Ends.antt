@@ -1,0 +1,123 @@
+-- Where a pass places nothing, the events stand still.
+use Rattle.std.proofs.Common.{◌≡◌, ◌≢◌, ℕ, zero, suc, ◌+◌, ◌<◌, ◌≤◌, ◌⊎◌, inl, inr, refl, ap, Bool, true, false, List, [], ◌∷◌, ◌++◌, length, reverse, ◌∙◌, sym, subst, Option, None, Some, MatchBool, arith}
+use Rattle.std.specs.Prelude.{◌==◌, ◌&&◌, slice_get, get_or, map, if◌then◌else◌}
+use Rattle.std.proofs.lemmas.Bool.{false≢true}
+use Rattle.std.proofs.lemmas.List.{length-append, append-nil}
+use Rattle.std.proofs.lemmas.Option.{slice_get_within, slice_get-get_or, slice_get_past}
+use Rattle.abt_net.specs.declared.conn.Conn.{Conn}
+use Rattle.abt_net.specs.Topology.{Topology, IsWithinRules}
+use Rattle.abt_model.specs.declared.connection_fact.ConnectionFact.{ConnectionFact}
+use Rattle.abt_model.specs.declared.event.Event.{Event}
+use Rattle.abt_model.specs.declared.event.Event.TheVariants.{Start, Ask, Again, Crash, Emit, Arrive, Request, Turn, Answer, Told}
+use Rattle.abt_model.specs.declared.outcome.Outcome.{Outcome}
+use Rattle.abt_model.specs.Conns.{conn_at}
+use Rattle.abt_model.specs.Outcomes.{conn_of, outcome_at, outcome_of}
+use Rattle.abt_model.specs.Past.{facts_of}
+use Rattle.abt_model.proofs.Worlds.{cases_option}
+use Rattle.abt_journal.specs.declared.entry.Entry.{Entry}
+use Rattle.abt_journal.specs.declared.input.PortInput.{PortInput}
+use Rattle.abt_source_journal.specs.declared.entry.SourceEntry.{SourceEntry}
+use Rattle.abt_source_journal.specs.declared.entry.SourceEntry.TheVariants.{Did, Sent, Arrived as ArrivedAt}
+use Rattle.abt_source_journal.specs.declared.journal.SourceJournal.{SourceJournal}
+use Rattle.abt_woven.specs.Projections.{Step, step_of, Visit, is_enabled, input_of, entry_of, place_at_first, past_of, visit, entry_made, steps_on, entries_on}
+use Rattle.abt_woven.specs.Stuck.{Journaled, steps_in, entries_in, port_journal, source_journal, next_step, next_entry, step_next, Fits, AreTurns, ArePlaced, IsBeginning, StandsStill, PortMismatches, SourceMismatches}
+use Rattle.abt_weave.specs.Board.{IsSourceSettled, IsPortSettled, AreSettled}
+use Rattle.abt_weave.proofs.Candidates.{cond_some, and_both}
+use Rattle.abt_weave.proofs.OwnEvents.{next_turns}
+use Rattle.abt_weave.proofs.PortEvents.{some_same, visit_made, has_reply}
+use Rattle.abt_weave.proofs.PortLooks.{first_hop, steps_next}
+
+conn_known : (net : Topology) (past : List ConnectionFact) (event : Event) → is_enabled (outcome_of net past event) ≡ true → (conn : Conn) × (conn_at net (conn_of event) ≡ Some conn)
+conn_known net past event on = elim (cases_option (conn_at net (conn_of event))) [
+  | inl unknown ↦ absurd (false≢true (sym (ap (λ (o : Option Conn). is_enabled (outcome_at net past o event)) unknown) ∙ on))
+  | inr known ↦ known
+]
+
+seen_visit : (net : Topology) → IsWithinRules net → (past : List ConnectionFact) (event : Event) → ((conn : Conn) → (input : PortInput) × (input_of conn.vc (facts_of (conn_of event) past) event ≡ Some input)) →
+    is_enabled (outcome_of net past event) ≡ true → visit net past event ≡ None → ⊥
+seen_visit net rules past event brings on none =
+    let known = conn_known net past event on in
+    let input = brings known.0 in
+    let reply = has_reply net past event known.0 input.0 known.1 (first_hop net rules (conn_of event) known.0 known.1) input.1 on in
+    let made = visit_made net past event known.0 input.0 reply.reply known.1 input.1 reply.is in
+    let clash = sym none ∙ made in cc
+
+-- what comes to no port is something that its source did
+own_or_visit : (net : Topology) → IsWithinRules net → (earlier : List Event) (event : Event) (x : SourceEntry) → visit net (past_of net earlier) event ≡ None →
+    entry_of (place_at_first net earlier event) event (outcome_of net (past_of net earlier) event) ≡ Some x → (y : Outcome) × (x ≡ Did event y)
+own_or_visit net rules earlier (Start c now) x none h = (outcome_of net (past_of net earlier) (Start c now), sym (some_same h))
+own_or_visit net rules earlier (Ask c rate plan) x none h = (outcome_of net (past_of net earlier) (Ask c rate plan), sym (some_same h))
+own_or_visit net rules earlier (Again c) x none h = (outcome_of net (past_of net earlier) (Again c), sym (some_same h))
+own_or_visit net rules earlier (Crash c) x none h = (outcome_of net (past_of net earlier) (Crash c), sym (some_same h))
+own_or_visit net rules earlier (Emit c now) x none h = (outcome_of net (past_of net earlier) (Emit c now), sym (some_same h))
+own_or_visit net rules earlier (Told c seq granted) x none h =
+    let o = outcome_of net (past_of net earlier) (Told c seq granted) in
+    (o, sym (some_same (cond_some (is_enabled o) (Some (Did (Told c seq granted) o)) x h).1))
+own_or_visit net rules earlier (Request c hop seq) x none h =
+    let o = outcome_of net (past_of net earlier) (Request c hop seq) in
+    let both = cond_some (is_enabled o && hop == 1) (Some (Sent (place_at_first net earlier (Request c hop seq)))) x h in
+    absurd (seen_visit net rules (past_of net earlier) (Request c hop seq) (λ conn. (_, refl)) (and_both (is_enabled o) (hop == 1) both.0).0 none)
+own_or_visit net rules earlier (Arrive c cell at) x none h =
+    let o = outcome_of net (past_of net earlier) (Arrive c cell at) in
+    let both = cond_some (is_enabled o) (Some (ArrivedAt cell (place_at_first net earlier (Arrive c cell at)))) x h in
+    absurd (seen_visit net rules (past_of net earlier) (Arrive c cell at) (λ conn. (_, refl)) both.0 none)
+own_or_visit net rules earlier (Turn c seq) x none h = absurd (cc)
+own_or_visit net rules earlier (Answer c hop seq granted) x none h = absurd (cc)
+
+mark_at : (marks : List Bool) (i : ℕ) → i < length marks → (b : Bool) × (slice_get marks i ≡ Some b)
+mark_at marks i low = (get_or marks i false, slice_get-get_or marks i false low)
+
+entries_low : (js : Journaled) (c n : ℕ) (x : SourceEntry) → slice_get (source_journal js c) n ≡ Some x → c < length js.sources
+entries_low js c n x h = elim (cases_option (slice_get js.sources c)) [
+  | inl none ↦ (let clash = ap (λ (o : Option SourceJournal). slice_get (entries_in o) n) (sym none) ∙ h in absurd (cc))
+  | inr some ↦ slice_get_within js.sources c some.0 some.1
+]
+
+steps_low : (js : Journaled) (p n : ℕ) (s : Step) → slice_get (port_journal js p) n ≡ Some s → p < length js.ports
+steps_low js p n s h = elim (cases_option (slice_get js.ports p)) [
+  | inl none ↦ (let clash = ap (λ (o : Option (List Entry)). slice_get (steps_in o) n) (sym none) ∙ h in absurd (cc))
+  | inr some ↦ slice_get_within js.ports p some.0 some.1
+]
+
+pub all_still : (net : Topology) (js : Journaled) → IsWithinRules net → (earlier : List Event) (sources ports : List Bool) → ArePlaced net js earlier →
+    AreSettled (IsSourceSettled net js earlier) (length js.sources) sources → AreSettled (IsPortSettled net js earlier) (length js.ports) ports → StandsStill net js earlier
+all_still net js rules earlier sources ports placed ss ps = record {
+  placed = placed;
+  still = λ turns all event fits.
+      (let after = turns ++ earlier in
+      let no_port : (v : Visit) → visit net (past_of net after) event ≡ Some v → ⊥ = λ v is.
+      (let low = steps_low js v.port (length (steps_on net v.port after)) (step_next net after v) (fits.step v is) in
+      let mark = mark_at ports v.port (subst (λ n. v.port < n) (sym ps.count_is) low) in
+      (ps.each v.port mark.0 mark.1).stuck turns event v all is refl fits) in
+      elim (cases_option (visit net (past_of net after) event)) [
+        | inr some ↦ no_port some.0 some.1
+        | inl none ↦ (elim (cases_option (entry_made net after event)) [
+          | inl nothing ↦ (elim fits.falls [ inl a ↦ a none | inr b ↦ b nothing ])
+          | inr entry ↦ (
+              let done = own_or_visit net rules after event entry.0 none entry.1 in
+              let c = conn_of event in
+              let low = entries_low js c (length (entries_on net c after)) entry.0 (fits.entry entry.0 entry.1) in
+              let mark = mark_at sources c (subst (λ n. c < n) (sym ss.count_is) low) in
+              (ss.each c mark.0 mark.1).stuck turns event event done.0 all refl (entry.1 ∙ ap (λ (y : SourceEntry). Some y) done.1) fits)
+        ])
+      ]);
+}
+
+-- an actor without entries left doesn't mismatch
+pub beyond_source : (net : Topology) (js : Journaled) (earlier : List Event) (sources : List Bool) → AreSettled (IsSourceSettled net js earlier) (length js.sources) sources → (c : ℕ) → (c < length js.sources → slice_get sources c ≡ Some false) → SourceMismatches net js earlier c → ⊥
+beyond_source net js earlier sources ss c unmarked m =
+    let low = entries_low js c (length (entries_on net c (m.turns ++ earlier))) (Did m.event m.told) m.next in
+    (ss.each c false (unmarked low)).marks m
+
+pub beyond_port : (net : Topology) (js : Journaled) (earlier : List Event) (ports : List Bool) → AreSettled (IsPortSettled net js earlier) (length js.ports) ports → (p : ℕ) → (p < length js.ports → slice_get ports p ≡ Some false) → PortMismatches net js earlier p → ⊥
+beyond_port net js earlier ports ps p unmarked m =
+    let low = steps_low js p (length (steps_on net p (m.turns ++ earlier))) m.step m.next in
+    (ps.each p false (unmarked low)).marks m
+
+go : {A : Type 0} → (xs ys rest : List A) → ys ≡ xs ++ rest → length ys ≤ length xs → xs ≡ ys
+go xs ys [] is long = sym (is ∙ append-nil xs)
+go xs ys (z ∷ rest) is long = (let e = ap (λ l. length l) is ∙ length-append xs (z ∷ rest) in absurd (omega (arith, e)))
+
+-- a beginning that is as long is the whole
+pub whole_beginning : {A : Type 0} → (xs ys : List A) → IsBeginning xs ys → length ys ≤ length xs → xs ≡ ys
+whole_beginning xs ys begins long = go xs ys begins.0 begins.1 long

@@ -1,0 +1,16 @@
+pub mod Tries
+pub mod Pasts
+pub mod Growth
+pub mod OwnEvents
+pub mod SourceLooks
+pub mod Openings
+pub mod PortEvents
+pub mod Candidates
+pub mod Comings
+pub mod PortLooks
+pub mod PortPlaces
+pub mod Passes
+pub mod Ends
+pub mod Whole
+pub mod Lefts
+pub mod Wovens

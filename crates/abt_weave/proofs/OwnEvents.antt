@@ -1,0 +1,180 @@
+-- What a source does, and is told.
+use Rattle.std.proofs.Common.{◌≡◌, ◌≢◌, ℕ, ◌<◌, inl, inr, refl, ap, Bool, true, false, List, [], ◌∷◌, ◌++◌, length, ◌∙◌, sym, subst, Option, None, Some, IsTrue}
+use Rattle.std.specs.Prelude.{◌==◌, ◌&&◌, ◌-◌, not, if◌then◌else◌, slice_get, slice_index, option_map}
+use Rattle.std.proofs.lemmas.Bool.{cond-false, cond-true, cases_Bool, cases_eq, eq-eqb, eqb-true, false≢true}
+use Rattle.abt_net.specs.declared.conn.Conn.{Conn}
+use Rattle.abt_net.specs.Topology.{Topology}
+use Rattle.abt_facts.specs.declared.fact.Fact.{Fact}
+use Rattle.abt_model.specs.declared.connection_fact.ConnectionFact.{ConnectionFact}
+use Rattle.abt_model.specs.declared.event.Event.{Event}
+use Rattle.abt_model.specs.declared.event.Event.TheVariants.{Start, Ask, Again, Crash, Emit, Arrive, Request, Turn, Answer, Told}
+use Rattle.abt_model.specs.declared.outcome.Outcome.{Outcome}
+use Rattle.abt_model.specs.Outcomes.{conn_of, outcome_of}
+use Rattle.abt_journal.specs.declared.input.PortInput.{PortInput}
+use Rattle.abt_journal.specs.declared.input.PortReply.{PortReply}
+use Rattle.abt_source_journal.specs.declared.entry.SourceEntry.{SourceEntry}
+use Rattle.abt_source_journal.specs.declared.entry.SourceEntry.TheVariants.{Did, Sent, Arrived as ArrivedAt}
+use Rattle.abt_model.specs.Conns.{conn_at}
+use Rattle.abt_model.specs.Past.{facts_of}
+use Rattle.abt_woven.specs.Projections.{Visit, reply_of, hop_met, is_enabled, input_of, visit_by, visit, entry_of, place_at_first, past_of, entry_made, entries_on}
+use Rattle.abt_woven.specs.Stuck.{Journaled, source_journal, next_entry, Fits, AreTurns, SourceMismatches}
+use Rattle.abt_woven.proofs.Turns.{outcome_turns, entries_turns}
+use Rattle.abt_weave.specs.Candidates.{is_own_of, is_told}
+use Rattle.abt_weave.specs.Board.{IsSourceSettled}
+
+no_visit : (past : List ConnectionFact) (event : Event) → ((conn : Conn) (facts : List Fact) → input_of conn.vc facts event ≡ None) → (r : Option PortReply) (o : Option Conn) → visit_by past event r o ≡ None
+no_visit past event none r None = refl
+no_visit past event none None (Some conn) = refl
+no_visit past event none (Some reply) (Some conn) =
+    ap (option_map (λ (input : PortInput). let v : Visit = record { port = slice_index conn.path (hop_met event - 1); input = input; reply = reply } in v)) (none conn (facts_of (conn_of event) past))
+
+own_input : (c : ℕ) (event : Event) → is_own_of c event ≡ true → (conn : Conn) (facts : List Fact) → input_of conn.vc facts event ≡ None
+own_input c (Start d now) h conn facts = refl
+own_input c (Ask d rate plan) h conn facts = refl
+own_input c (Again d) h conn facts = refl
+own_input c (Crash d) h conn facts = refl
+own_input c (Emit d now) h conn facts = refl
+own_input c (Told d seq granted) h conn facts = refl
+own_input c other h conn facts = absurd (false≢true h)
+
+-- it comes to no port
+pub own_visit : (net : Topology) (past : List ConnectionFact) (c : ℕ) (event : Event) → is_own_of c event ≡ true → visit net past event ≡ None
+own_visit net past c event own = no_visit past event (own_input c event own) (reply_of (outcome_of net past event)) (conn_at net (conn_of event))
+
+pub own_conn : (c : ℕ) (event : Event) → is_own_of c event ≡ true → conn_of event ≡ c
+own_conn c (Start d now) h = eqb-true d c h
+own_conn c (Ask d rate plan) h = eqb-true d c h
+own_conn c (Again d) h = eqb-true d c h
+own_conn c (Crash d) h = eqb-true d c h
+own_conn c (Emit d now) h = eqb-true d c h
+own_conn c (Told d seq granted) h = eqb-true d c h
+own_conn c other h = absurd (false≢true h)
+
+enabled_told : (b : Bool) → true && not b ≡ false → b ≡ true
+enabled_told true h = refl
+enabled_told false h = sym h
+
+-- what it is to its source
+pub own_made : (place c : ℕ) (event : Event) (outcome : Outcome) → is_own_of c event ≡ true → is_told event && not (is_enabled outcome) ≡ false → entry_of place event outcome ≡ Some (Did event outcome)
+own_made place c (Start d now) outcome own h = refl
+own_made place c (Ask d rate plan) outcome own h = refl
+own_made place c (Again d) outcome own h = refl
+own_made place c (Crash d) outcome own h = refl
+own_made place c (Emit d now) outcome own h = refl
+own_made place c (Told d seq granted) outcome own h = cond-true _ _ _ (enabled_told (is_enabled outcome) h)
+own_made place c other outcome own h = absurd (false≢true own)
+
+-- An entry that says what a source did is of an event of its own.
+pub record IsDone (event : Event) (outcome : Outcome) (done : Event) (told : Outcome) : Type 0 where
+  pub event_is : done ≡ event
+  pub outcome_is : told ≡ outcome
+  pub own : is_own_of (conn_of event) event ≡ true
+  pub enabled : is_told event && not (is_enabled outcome) ≡ false
+
+done_told : (d seq : ℕ) (granted : Bool) (outcome : Outcome) (done : Event) (told : Outcome) → (b : Bool) → is_enabled outcome ≡ b →
+    (if b then Some (Did (Told d seq granted) outcome) else None) ≡ Some (Did done told) → IsDone (Told d seq granted) outcome done told
+done_told d seq granted outcome done told true is h = record { event_is = cc; outcome_is = cc; own = eq-eqb d d refl; enabled = ap not is }
+done_told d seq granted outcome done told false is h = absurd (cc)
+
+done_sent : (place : ℕ) (event : Event) (outcome : Outcome) (done : Event) (told : Outcome) (b : Bool) → (if b then Some (Sent place) else None) ≡ Some (Did done told) → IsDone event outcome done told
+done_sent place event outcome done told true h = absurd (cc)
+done_sent place event outcome done told false h = absurd (cc)
+
+done_arrived : (cell place : ℕ) (event : Event) (outcome : Outcome) (done : Event) (told : Outcome) (b : Bool) → (if b then Some (ArrivedAt cell place) else None) ≡ Some (Did done told) → IsDone event outcome done told
+done_arrived cell place event outcome done told true h = absurd (cc)
+done_arrived cell place event outcome done told false h = absurd (cc)
+
+pub made_own : (place : ℕ) (event : Event) (outcome : Outcome) (done : Event) (told : Outcome) → entry_of place event outcome ≡ Some (Did done told) → IsDone event outcome done told
+made_own place (Start d now) outcome done told h = record { event_is = cc; outcome_is = cc; own = eq-eqb d d refl; enabled = refl }
+made_own place (Ask d rate plan) outcome done told h = record { event_is = cc; outcome_is = cc; own = eq-eqb d d refl; enabled = refl }
+made_own place (Again d) outcome done told h = record { event_is = cc; outcome_is = cc; own = eq-eqb d d refl; enabled = refl }
+made_own place (Crash d) outcome done told h = record { event_is = cc; outcome_is = cc; own = eq-eqb d d refl; enabled = refl }
+made_own place (Emit d now) outcome done told h = record { event_is = cc; outcome_is = cc; own = eq-eqb d d refl; enabled = refl }
+made_own place (Told d seq granted) outcome done told h = done_told d seq granted outcome done told (is_enabled outcome) refl h
+made_own place (Request d hop seq) outcome done told h = done_sent place (Request d hop seq) outcome done told (is_enabled outcome && hop == 1) h
+made_own place (Arrive d cell at) outcome done told h = done_arrived cell place (Arrive d cell at) outcome done told (is_enabled outcome) h
+made_own place (Turn d seq) outcome done told h = absurd (cc)
+made_own place (Answer d hop seq granted) outcome done told h = absurd (cc)
+
+-- Turns change nothing of it
+pub own_turns : (net : Topology) (earlier turns : List Event) → AreTurns net earlier turns → (c : ℕ) (event : Event) → is_own_of c event ≡ true →
+    outcome_of net (past_of net (turns ++ earlier)) event ≡ outcome_of net (past_of net earlier) event
+own_turns net earlier turns all c event own = elim (outcome_turns net earlier turns all event) [
+  | inl same ↦ same
+  | inr after ↦ absurd (false≢true (ap (is_own_of c) (sym after.own.its.is) ∙ own))
+]
+
+pub next_turns : (net : Topology) (journals : Journaled) (earlier turns : List Event) → AreTurns net earlier turns → (c : ℕ) → next_entry net journals (turns ++ earlier) c ≡ next_entry net journals earlier c
+next_turns net journals earlier turns all c = ap (λ (l : List SourceEntry). slice_get (source_journal journals c) (length l)) (entries_turns net earlier turns all c)
+
+pub own_fits : (net : Topology) (journals : Journaled) (earlier : List Event) (c : ℕ) (event : Event) (told : Outcome) → is_own_of c event ≡ true →
+    outcome_of net (past_of net earlier) event ≡ told → is_told event && not (is_enabled (outcome_of net (past_of net earlier) event)) ≡ false →
+    next_entry net journals earlier c ≡ Some (Did event told) → Fits net journals earlier event
+own_fits net journals earlier c event told own answers enabled next =
+    let made : entry_made net earlier event ≡ Some (Did event (outcome_of net (past_of net earlier) event)) = own_made (place_at_first net earlier event) c event (outcome_of net (past_of net earlier) event) own enabled in
+    let nowhere = own_visit net (past_of net earlier) c event own in
+    record {
+      falls = inr (λ none. let clash = sym none ∙ made in cc);
+      step = λ v is. (let clash = sym nowhere ∙ is in absurd (cc));
+      entry = λ x is.
+          (let same : Some (Did event (outcome_of net (past_of net earlier) event)) ≡ Some x = sym made ∙ is in
+          ap (next_entry net journals earlier) (own_conn c event own) ∙ next ∙ ap (λ o. Some (Did event o)) (sym answers) ∙ same);
+    }
+
+-- where the next entry of a source is nothing that it does
+pub settled_none : (net : Topology) (journals : Journaled) (earlier : List Event) (c : ℕ) →
+    ((event : Event) (told : Outcome) → next_entry net journals earlier c ≡ Some (Did event told) → is_own_of c event ≡ true → ⊥) → IsSourceSettled net journals earlier c false
+settled_none net journals earlier c none = record {
+  stuck = λ turns event done outcome all here made fits.
+      (let own = made_own (place_at_first net (turns ++ earlier) event) event (outcome_of net (past_of net (turns ++ earlier)) event) done outcome made in
+      none done outcome (sym (next_turns net journals earlier turns all c) ∙ ap (next_entry net journals (turns ++ earlier)) (sym here) ∙ fits.entry (Did done outcome) made)
+      (subst (λ d. is_own_of c d ≡ true) (sym own.event_is) (subst (λ d. is_own_of d event ≡ true) here own.own)));
+  marks = λ m.
+      (let own = made_own (place_at_first net (m.turns ++ earlier) m.event) m.event (outcome_of net (past_of net (m.turns ++ earlier)) m.event) m.event m.outcome m.does in
+      none m.event m.told (sym (next_turns net journals earlier m.turns m.turned c) ∙ m.next) (subst (λ d. is_own_of d m.event ≡ true) m.here own.own));
+}
+
+-- where it is an answer that can't be told
+pub settled_absent : (net : Topology) (journals : Journaled) (earlier : List Event) (c : ℕ) (event : Event) (told : Outcome) → next_entry net journals earlier c ≡ Some (Did event told) →
+    is_told event ≡ true → is_enabled (outcome_of net (past_of net earlier) event) ≡ false → IsSourceSettled net journals earlier c false
+settled_absent net journals earlier c event told next tells off =
+    let never : (turns : List Event) (other : Event) (y : Outcome) → AreTurns net earlier turns → other ≡ event → entry_made net (turns ++ earlier) other ≡ Some (Did other y) → ⊥
+    = λ turns other y all same made.
+    (let own = made_own (place_at_first net (turns ++ earlier) other) other (outcome_of net (past_of net (turns ++ earlier)) other) other y made in
+    let answers = own_turns net earlier turns all (conn_of other) other own.own in
+    let silent : is_enabled (outcome_of net (past_of net (turns ++ earlier)) other) ≡ false = ap is_enabled answers ∙ ap (λ e. is_enabled (outcome_of net (past_of net earlier) e)) same ∙ off in
+    let yes : is_told other ≡ true = ap is_told same ∙ tells in
+    false≢true (sym own.enabled ∙ ap (λ b. b && not (is_enabled (outcome_of net (past_of net (turns ++ earlier)) other))) yes ∙ ap not silent)) in
+    record {
+      stuck = λ turns other done outcome all here made fits.
+          (let own = made_own (place_at_first net (turns ++ earlier) other) other (outcome_of net (past_of net (turns ++ earlier)) other) done outcome made in
+          let at : Some (Did event told) ≡ Some (Did done outcome) = sym next ∙ sym (next_turns net journals earlier turns all c) ∙ ap (next_entry net journals (turns ++ earlier)) (sym here) ∙ fits.entry (Did done outcome) made in
+          let same : done ≡ event = cc in
+          never turns other outcome all (sym own.event_is ∙ same) (made ∙ ap (λ d. Some (Did d outcome)) own.event_is));
+      marks = λ m.
+          (let at : Some (Did event told) ≡ Some (Did m.event m.told) = sym next ∙ sym (next_turns net journals earlier m.turns m.turned c) ∙ m.next in
+          let same : m.event ≡ event = cc in
+          never m.turns m.event m.outcome m.turned same m.does);
+    }
+
+-- where it has another outcome
+pub settled_differs : (net : Topology) (journals : Journaled) (earlier : List Event) (c : ℕ) (event : Event) (told : Outcome) → next_entry net journals earlier c ≡ Some (Did event told) →
+    is_own_of c event ≡ true → outcome_of net (past_of net earlier) event ≢ told → is_told event && not (is_enabled (outcome_of net (past_of net earlier) event)) ≡ false → IsSourceSettled net journals earlier c true
+settled_differs net journals earlier c event told next own differ enabled = record {
+  stuck = λ turns other done outcome all here made fits.
+      (let its = made_own (place_at_first net (turns ++ earlier) other) other (outcome_of net (past_of net (turns ++ earlier)) other) done outcome made in
+      let at : Some (Did event told) ≡ Some (Did done outcome) = sym next ∙ sym (next_turns net journals earlier turns all c) ∙ ap (next_entry net journals (turns ++ earlier)) (sym here) ∙ fits.entry (Did done outcome) made in
+      let same : other ≡ event = (let first : done ≡ event = cc in sym its.event_is ∙ first) in
+      let answers : told ≡ outcome = cc in
+      differ (ap (outcome_of net (past_of net earlier)) (sym same) ∙ sym (own_turns net earlier turns all (conn_of other) other its.own) ∙ sym its.outcome_is ∙ sym answers));
+  marks = record {
+    turns = [];
+    turned = tt;
+    event = event;
+    here = own_conn c event own;
+    outcome = outcome_of net (past_of net earlier) event;
+    does = own_made (place_at_first net earlier event) c event (outcome_of net (past_of net earlier) event) own enabled;
+    told = told;
+    next = next;
+  };
+}

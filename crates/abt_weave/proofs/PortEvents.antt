@@ -1,0 +1,231 @@
+-- What comes to a port.
+use Rattle.std.proofs.Common.{◌≡◌, ◌≢◌, ℕ, ◌+◌, ◌-◌, ◌<◌, inl, inr, refl, ap, Bool, true, false, List, [], ◌∷◌, ◌++◌, length, reverse, ◌∙◌, sym, subst, Option, None, Some}
+use Rattle.std.specs.Prelude.{◌==◌, ◌&&◌, not, nat_lt, nat_le, if◌then◌else◌, Ok, slice_get, slice_index, option_map}
+use Rattle.std.proofs.lemmas.Bool.{false≢true, cond-false, cond-true, cases_Bool, cases_eq, eq-eqb, ne_eqb, eqb-true}
+use Rattle.abt_cell.specs.Channel.{Channel}
+use Rattle.abt_cell.specs.Message.{Terms}
+use Rattle.abt_net.specs.declared.conn.Conn.{Conn}
+use Rattle.abt_net.specs.Topology.{Topology}
+use Rattle.abt_facts.specs.declared.fact.Fact.{Fact}
+use Rattle.abt_facts.specs.Requests.{floor_of, ask_of}
+use Rattle.abt_facts.specs.Sent.{request_is_at, answer_is_at}
+use Rattle.abt_model.specs.declared.connection_fact.ConnectionFact.{ConnectionFact}
+use Rattle.abt_model.specs.declared.event.Event.{Event}
+use Rattle.abt_model.specs.declared.event.Event.TheVariants.{Start, Ask, Again, Crash, Emit, Arrive, Request, Turn, Answer, Told}
+use Rattle.abt_gcra.specs.declared.verdict.Verdict.{Verdict}
+use Rattle.abt_facts.specs.Cells.{emitted_of, fence_of, is_in_time, last_arrival_of, verdict_at}
+use Rattle.abt_facts.specs.Hop.{held_of}
+use Rattle.abt_model.specs.declared.outcome.Cause.TheVariants.{NotSent, Unknown, Fenced, Delay, ClockBack}
+use Rattle.abt_model.specs.declared.outcome.Outcome.{Outcome}
+use Rattle.abt_model.specs.declared.outcome.Outcome.TheVariants.{Requested, Answered, Arrived, NotEnabled}
+use Rattle.abt_model.specs.Answers.{is_hop, answer_by, arrive_answer}
+use Rattle.abt_model.specs.Conns.{conn_at}
+use Rattle.abt_model.specs.Decision.{request_of, answer_to, request_decision, answer_decision}
+use Rattle.abt_model.specs.Outcomes.{conn_of, port_of, outcome_at, outcome_of}
+use Rattle.abt_model.specs.Past.{facts_of}
+use Rattle.abt_model.specs.Reserved.{reserved_on}
+use Rattle.abt_model.proofs.Worlds.{outcome_of-known}
+use Rattle.abt_journal.specs.declared.input.PortInput.{PortInput}
+use Rattle.abt_journal.specs.declared.input.PortInput.TheVariants.{Request as RequestIn, Answer as AnswerIn, Arrive as ArriveIn}
+use Rattle.abt_journal.specs.declared.input.PortReply.{PortReply}
+use Rattle.abt_journal.specs.declared.input.PortReply.TheVariants.{Arrived as ArrivedOut}
+use Rattle.abt_source_journal.specs.declared.entry.SourceEntry.{SourceEntry}
+use Rattle.abt_source_journal.specs.declared.entry.SourceEntry.TheVariants.{Sent, Arrived as ArrivedAt}
+use Rattle.abt_woven.specs.Asked.{floor_in, ask_in}
+use Rattle.abt_woven.specs.Projections.{Step, Visit, reply_of, hop_met, is_enabled, input_of, visit_by, visit, entry_of, first_port, place_at_first, past_of, entry_made, steps_on, entries_on}
+use Rattle.abt_woven.specs.Stuck.{Journaled, next_step, step_next, next_entry, Fits}
+use Rattle.abt_woven.proofs.Asked.{floor_told, ask_told}
+use Rattle.abt_weave.specs.Comes.{input_told, entry_beside, Comes}
+
+-- what the facts bring to a port is what the source's projection does
+pub told_same : (net : Topology) (earlier : List Event) (vc : Channel) (event : Event) →
+    input_of vc (facts_of (conn_of event) (past_of net earlier)) event ≡ input_told vc (reverse (entries_on net (conn_of event) earlier)) event
+told_same net earlier vc (Request c hop seq) =
+    ap (λ (n : ℕ). Some (RequestIn (record { vc = vc; seq = seq; floor = n; ask = ask_of (facts_of c (past_of net earlier)) seq }))) (floor_told net c seq earlier)
+    ∙ ap (λ (n : ℕ). Some (RequestIn (record { vc = vc; seq = seq; floor = floor_in (reverse (entries_on net c earlier)) seq; ask = n }))) (ask_told net c seq earlier)
+told_same net earlier vc (Answer c hop seq granted) =
+    ap (λ (n : ℕ). Some (AnswerIn (record { terms = record { vc = vc; seq = seq; floor = n; ask = ask_of (facts_of c (past_of net earlier)) seq }; granted = granted }))) (floor_told net c seq earlier)
+    ∙ ap (λ (n : ℕ). Some (AnswerIn (record { terms = record { vc = vc; seq = seq; floor = floor_in (reverse (entries_on net c earlier)) seq; ask = n }; granted = granted }))) (ask_told net c seq earlier)
+told_same net earlier vc (Arrive c cell at) = refl
+told_same net earlier vc (Start c now) = refl
+told_same net earlier vc (Ask c rate plan) = refl
+told_same net earlier vc (Again c) = refl
+told_same net earlier vc (Crash c) = refl
+told_same net earlier vc (Emit c now) = refl
+told_same net earlier vc (Turn c seq) = refl
+told_same net earlier vc (Told c seq granted) = refl
+
+-- A visit is of an event that comes to the port of its hop.
+pub record IsVisit (net : Topology) (past : List ConnectionFact) (event : Event) (v : Visit) : Type 0 where
+  pub conn : Conn
+  pub known : conn_at net (conn_of event) ≡ Some conn
+  pub port : slice_index conn.path (hop_met event - 1) ≡ v.port
+  pub input : input_of conn.vc (facts_of (conn_of event) past) event ≡ Some v.input
+  pub reply : reply_of (outcome_of net past event) ≡ Some v.reply
+
+mapped : {A B : Type 0} → (f : A → B) (o : Option A) (y : B) → option_map f o ≡ Some y → (x : A) × (o ≡ Some x) × (y ≡ f x)
+mapped f None y h = absurd (cc)
+mapped f (Some x) y h = (x, refl, cc)
+
+visit_parts : (net : Topology) (past : List ConnectionFact) (event : Event) (v : Visit) (r : Option PortReply) (o : Option Conn) → reply_of (outcome_of net past event) ≡ r → conn_at net (conn_of event) ≡ o →
+    visit_by past event r o ≡ Some v → IsVisit net past event v
+visit_parts net past event v r None re known h = absurd (cc)
+visit_parts net past event v None (Some conn) re known h = absurd (cc)
+visit_parts net past event v (Some reply) (Some conn) re known h =
+    let f = λ (input : PortInput). (let made : Visit = record { port = slice_index conn.path (hop_met event - 1); input = input; reply = reply } in made) in
+    let parts = mapped f (input_of conn.vc (facts_of (conn_of event) past) event) v h in
+    record {
+      conn = conn;
+      known = known;
+      port = sym (ap (λ (w : Visit). w.port) parts.2);
+      input = parts.1 ∙ ap (λ (w : Visit). Some w.input) (sym parts.2);
+      reply = re ∙ ap (λ (w : Visit). Some w.reply) (sym parts.2);
+    }
+
+pub visit_is : (net : Topology) (past : List ConnectionFact) (event : Event) (v : Visit) → visit net past event ≡ Some v → IsVisit net past event v
+visit_is net past event v h = visit_parts net past event v (reply_of (outcome_of net past event)) (conn_at net (conn_of event)) refl refl h
+
+pub some_same : {A : Type 0} → {x y : A} → Some x ≡ Some y → x ≡ y
+some_same h = cc
+
+-- and the other way round
+pub visit_made : (net : Topology) (past : List ConnectionFact) (event : Event) (conn : Conn) (input : PortInput) (reply : PortReply) → conn_at net (conn_of event) ≡ Some conn →
+    input_of conn.vc (facts_of (conn_of event) past) event ≡ Some input → reply_of (outcome_of net past event) ≡ Some reply →
+    visit net past event ≡ Some (record { port = slice_index conn.path (hop_met event - 1); input = input; reply = reply })
+visit_made net past event conn input reply known brings re =
+    ap (λ (r : Option PortReply). visit_by past event r (conn_at net (conn_of event))) re
+    ∙ ap (λ (o : Option Conn). visit_by past event (Some reply) o) known
+    ∙ ap (option_map (λ (input : PortInput). (let made : Visit = record { port = slice_index conn.path (hop_met event - 1); input = input; reply = reply } in made))) brings
+
+pub reply_enabled : (outcome : Outcome) (reply : PortReply) → reply_of outcome ≡ Some reply → is_enabled outcome ≡ true
+reply_enabled (NotEnabled cause) reply h = absurd (cc)
+reply_enabled other reply h = refl
+
+-- an event that happens and comes to a port has a hop of the path, and a reply
+pub record HasReply (conn : Conn) (outcome : Outcome) (event : Event) : Type 0 where
+  pub within : is_hop (length conn.path) (hop_met event) ≡ true
+  pub reply : PortReply
+  pub is : reply_of outcome ≡ Some reply
+
+request_reply : (conn : Conn) (r u : ℕ) (facts : List Fact) (c hop seq : ℕ) (a b : Bool) → is_hop (length conn.path) hop ≡ a → request_is_at facts seq hop ≡ b →
+    is_enabled (if not a then NotEnabled Unknown else (if not b then NotEnabled NotSent else Requested (request_decision facts r u hop (request_of conn.vc facts seq)))) ≡ true →
+    HasReply conn (if not a then NotEnabled Unknown else (if not b then NotEnabled NotSent else Requested (request_decision facts r u hop (request_of conn.vc facts seq)))) (Request c hop seq)
+request_reply conn r u facts c hop seq false b within sent h = absurd (false≢true h)
+request_reply conn r u facts c hop seq true false within sent h = absurd (false≢true h)
+request_reply conn r u facts c hop seq true true within sent h = record { within = within; reply = _; is = refl }
+
+answer_reply : (conn : Conn) (facts : List Fact) (c hop seq : ℕ) (granted a b : Bool) → is_hop (length conn.path) hop ≡ a → answer_is_at (length conn.path) facts seq hop granted ≡ b →
+    is_enabled (if not a then NotEnabled Unknown else (if not b then NotEnabled NotSent else Answered (answer_decision facts hop (answer_to (request_of conn.vc facts seq) granted)))) ≡ true →
+    HasReply conn (if not a then NotEnabled Unknown else (if not b then NotEnabled NotSent else Answered (answer_decision facts hop (answer_to (request_of conn.vc facts seq) granted)))) (Answer c hop seq granted)
+answer_reply conn facts c hop seq granted false b within sent h = absurd (false≢true h)
+answer_reply conn facts c hop seq granted true false within sent h = absurd (false≢true h)
+answer_reply conn facts c hop seq granted true true within sent h = record { within = within; reply = _; is = refl }
+
+arrive_reply : (a b d e : Bool) (v : Verdict) → is_enabled (if not a then NotEnabled NotSent else (if b then NotEnabled Fenced else (if not d then NotEnabled Delay else (if e then NotEnabled ClockBack else Arrived v)))) ≡ true →
+    (reply : PortReply) × (reply_of (if not a then NotEnabled NotSent else (if b then NotEnabled Fenced else (if not d then NotEnabled Delay else (if e then NotEnabled ClockBack else Arrived v)))) ≡ Some reply)
+arrive_reply false b d e v h = absurd (false≢true h)
+arrive_reply true true d e v h = absurd (false≢true h)
+arrive_reply true false false e v h = absurd (false≢true h)
+arrive_reply true false true true v h = absurd (false≢true h)
+arrive_reply true false true false v h = (ArrivedOut (Ok v), refl)
+
+arrived_reply : (conn : Conn) (facts : List Fact) (c cell at : ℕ) → is_hop (length conn.path) 1 ≡ true → is_enabled (arrive_answer conn facts cell at) ≡ true → HasReply conn (arrive_answer conn facts cell at) (Arrive c cell at)
+arrived_reply conn facts c cell at one h =
+    let found = arrive_reply (nat_lt cell (emitted_of facts)) (nat_lt cell (fence_of facts)) (is_in_time conn.delay conn.tau facts cell at) (nat_lt at (last_arrival_of facts)) (verdict_at conn.tau facts at (held_of facts 1)) h in
+    record { within = one; reply = found.0; is = found.1 }
+
+by_reply : (conn : Conn) (r u : ℕ) (facts : List Fact) (event : Event) (input : PortInput) → is_hop (length conn.path) 1 ≡ true → input_of conn.vc facts event ≡ Some input → is_enabled (answer_by conn r u facts event) ≡ true → HasReply conn (answer_by conn r u facts event) event
+by_reply conn r u facts (Request c hop seq) input one brings h = request_reply conn r u facts c hop seq (is_hop (length conn.path) hop) (request_is_at facts seq hop) refl refl h
+by_reply conn r u facts (Answer c hop seq granted) input one brings h = answer_reply conn facts c hop seq granted (is_hop (length conn.path) hop) (answer_is_at (length conn.path) facts seq hop granted) refl refl h
+by_reply conn r u facts (Arrive c cell at) input one brings h = arrived_reply conn facts c cell at one h
+by_reply conn r u facts (Start c now) input one brings h = absurd (cc)
+by_reply conn r u facts (Ask c rate plan) input one brings h = absurd (cc)
+by_reply conn r u facts (Again c) input one brings h = absurd (cc)
+by_reply conn r u facts (Crash c) input one brings h = absurd (cc)
+by_reply conn r u facts (Emit c now) input one brings h = absurd (cc)
+by_reply conn r u facts (Turn c seq) input one brings h = absurd (cc)
+by_reply conn r u facts (Told c seq granted) input one brings h = absurd (cc)
+
+pub has_reply : (net : Topology) (past : List ConnectionFact) (event : Event) (conn : Conn) (input : PortInput) → conn_at net (conn_of event) ≡ Some conn → is_hop (length conn.path) 1 ≡ true →
+    input_of conn.vc (facts_of (conn_of event) past) event ≡ Some input → is_enabled (outcome_of net past event) ≡ true → HasReply conn (outcome_of net past event) event
+has_reply net past event conn input known one brings h =
+    let is = outcome_of-known net past event conn known in
+    subst (λ o. HasReply conn o event) (sym is)
+    (by_reply conn (reserved_on net past (port_of conn.path event)) (slice_index net.capacities (port_of conn.path event)) (facts_of (conn_of event) past) event input one brings (ap is_enabled (sym is) ∙ h))
+
+-- what an event that happens and comes to a port is to its source
+beside_request : (net : Topology) (earlier : List Event) (c hop seq p place : ℕ) (conn : Conn) (outcome : Outcome) → conn_at net c ≡ Some conn → slice_index conn.path (hop - 1) ≡ p → place ≡ length (steps_on net p earlier) →
+    is_enabled outcome ≡ true → entry_of (place_at_first net earlier (Request c hop seq)) (Request c hop seq) outcome ≡ entry_beside place (Request c hop seq)
+beside_request net earlier c hop seq p place conn outcome known port at h =
+    let first = place_at_first net earlier (Request c hop seq) in
+    ap (λ (b : Bool). if b && hop == 1 then Some (Sent first) else None) h
+    ∙ elim (cases_eq hop 1) as (λ _. (if hop == 1 then Some (Sent first) else None) ≡ (if hop == 1 then Some (Sent place) else None)) [
+      | inl one ↦ (
+          let here : first ≡ place =
+          ap (λ (o : Option Conn). length (steps_on net (first_port o) earlier)) known
+          ∙ ap (λ (j : ℕ). length (steps_on net (slice_index conn.path (j - 1)) earlier)) (sym one)
+          ∙ ap (λ (q : ℕ). length (steps_on net q earlier)) port ∙ sym at in
+          ap (λ (n : ℕ). if hop == 1 then Some (Sent n) else None) here)
+      | inr other ↦ cond-false _ _ _ (ne_eqb hop 1 other) ∙ sym (cond-false _ _ _ (ne_eqb hop 1 other))
+    ]
+
+beside_arrival : (net : Topology) (earlier : List Event) (c cell a p place : ℕ) (conn : Conn) (outcome : Outcome) → conn_at net c ≡ Some conn → slice_index conn.path (1 - 1) ≡ p → place ≡ length (steps_on net p earlier) →
+    is_enabled outcome ≡ true → entry_of (place_at_first net earlier (Arrive c cell a)) (Arrive c cell a) outcome ≡ Some (ArrivedAt cell place)
+beside_arrival net earlier c cell a p place conn outcome known port at h =
+    let first = place_at_first net earlier (Arrive c cell a) in
+    let here : first ≡ place =
+    ap (λ (o : Option Conn). length (steps_on net (first_port o) earlier)) known ∙ ap (λ (q : ℕ). length (steps_on net q earlier)) port ∙ sym at in
+    cond-true _ _ _ h ∙ ap (λ (n : ℕ). Some (ArrivedAt cell n)) here
+
+pub made_beside : (net : Topology) (earlier : List Event) (event : Event) (p place : ℕ) (conn : Conn) (outcome : Outcome) (input : PortInput) (facts : List Fact) → conn_at net (conn_of event) ≡ Some conn → slice_index conn.path (hop_met event - 1) ≡ p →
+    place ≡ length (steps_on net p earlier) → input_of conn.vc facts event ≡ Some input → is_enabled outcome ≡ true → entry_of (place_at_first net earlier event) event outcome ≡ entry_beside place event
+made_beside net earlier (Request c hop seq) p place conn outcome input facts known port at brings h = beside_request net earlier c hop seq p place conn outcome known port at h
+made_beside net earlier (Arrive c cell a) p place conn outcome input facts known port at brings h = beside_arrival net earlier c cell a p place conn outcome known port at h
+made_beside net earlier (Answer c hop seq granted) p place conn outcome input facts known port at brings h = refl
+made_beside net earlier (Start c now) p place conn outcome input facts known port at brings h = absurd (cc)
+made_beside net earlier (Ask c rate plan) p place conn outcome input facts known port at brings h = absurd (cc)
+made_beside net earlier (Again c) p place conn outcome input facts known port at brings h = absurd (cc)
+made_beside net earlier (Crash c) p place conn outcome input facts known port at brings h = absurd (cc)
+made_beside net earlier (Emit c now) p place conn outcome input facts known port at brings h = absurd (cc)
+made_beside net earlier (Turn c seq) p place conn outcome input facts known port at brings h = absurd (cc)
+made_beside net earlier (Told c seq granted) p place conn outcome input facts known port at brings h = absurd (cc)
+
+-- a visit is of an event that comes
+pub visit_comes : (net : Topology) (journals : Journaled) (earlier : List Event) (event : Event) (v : Visit) (p place : ℕ) (input : PortInput) →
+    ((conn : Conn) → conn_at net (conn_of event) ≡ Some conn → is_hop (length conn.path) 1 ≡ true) → visit net (past_of net earlier) event ≡ Some v → v.port ≡ p →
+    place ≡ length (steps_on net p earlier) → input ≡ v.input → ((x : SourceEntry) → entry_made net earlier event ≡ Some x → next_entry net journals earlier (conn_of event) ≡ Some x) →
+    Comes net journals earlier p place input event
+visit_comes net journals earlier event v p place input one is here at same beside =
+    let past = past_of net earlier in
+    let parts = visit_is net past event v is in
+    let enabled = reply_enabled (outcome_of net past event) v.reply parts.reply in
+    let reply = has_reply net past event parts.conn v.input parts.known (one parts.conn parts.known) parts.input enabled in
+    record {
+      conn = parts.conn;
+      known = parts.known;
+      within = reply.within;
+      port = parts.port ∙ here;
+      brings = sym (told_same net earlier parts.conn.vc event) ∙ parts.input ∙ ap (λ (i : PortInput). Some i) (sym same);
+      at = at;
+      beside = λ x e. beside x (made_beside net earlier event p place parts.conn (outcome_of net past event) v.input (facts_of (conn_of event) past) parts.known (parts.port ∙ here) at parts.input enabled ∙ e);
+    }
+
+-- what comes with the reply of the next step fits
+pub comes_fits : (net : Topology) (journals : Journaled) (earlier : List Event) (event : Event) (p place : ℕ) (input : PortInput) (reply : PortReply) → Comes net journals earlier p place input event →
+    reply_of (outcome_of net (past_of net earlier) event) ≡ Some reply → next_step net journals earlier p ≡ Some (record { place = place; input = input; reply = reply }) → Fits net journals earlier event
+comes_fits net journals earlier event p place input reply comes replies next =
+    let past = past_of net earlier in
+    let brings = told_same net earlier comes.conn.vc event ∙ comes.brings in
+    let is = visit_made net past event comes.conn input reply comes.known brings replies in
+    let enabled = reply_enabled (outcome_of net past event) reply replies in
+    record {
+      falls = inl (λ none. (let clash = sym none ∙ is in cc));
+      step = λ v same.
+          (let made : Some (let w : Visit = record { port = slice_index comes.conn.path (hop_met event - 1); input = input; reply = reply } in w) ≡ Some v = sym is ∙ same in
+          let here : (record { port = slice_index comes.conn.path (hop_met event - 1); input = input; reply = reply }) ≡ v = some_same made in
+          subst (λ (w : Visit). next_step net journals earlier w.port ≡ Some (step_next net earlier w)) here
+          (subst (λ q. next_step net journals earlier q ≡ Some (record { place = length (steps_on net q earlier); input = input; reply = reply })) (sym comes.port)
+          (next ∙ ap (λ n. Some (record { place = n; input = input; reply = reply })) comes.at)));
+      entry = λ x same.
+          comes.beside x (sym (made_beside net earlier event p place comes.conn (outcome_of net past event) input (facts_of (conn_of event) past) comes.known comes.port comes.at brings enabled) ∙ same);
+    }

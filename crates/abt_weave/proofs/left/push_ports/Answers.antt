@@ -1,0 +1,20 @@
+use Rattle.std.proofs.Common.{◌≡◌, ◌<◌, length, reverse, arith}
+use Rattle.abt_woven.specs.declared.actor.Actor.TheVariants.{Source, Port}
+use Rattle.abt_weave.specs.Board.{journaled}
+use Rattle.abt_weave.specs.Faults.{left_at, port_left}
+use Rattle.abt_weave.proofs.Lefts.{left_step, port_left_read}
+use Rattle.abt_weave.proofs.left.push_ports.Goals as goal
+
+pub loop-port-preserved : goal.loop-port-preserved
+loop-port-preserved c =
+    let net = c.args.given.now.net.now in
+    let ports = c.args.given.now.ports.now in
+    let sources = c.args.given.now.sources.now in
+    let board = c.args.board.now in
+    let low : c.loop-port.port < length c.args.given.now.ports.now = omega (arith, c.loop-port.invariant.1) in
+    let one = port_left_read net ports sources board.events.items board.world board.source_places.items board.port_places.items c.loop-port.port c.from-number.result c.index-given-number.result
+    c.as_slice-entries.result.now c.index-place.result.now c.requires.board c.from-number.ensures low c.index-given-number.is c.as_slice-entries.ensures.value c.index-place.ensures in (
+      left_step c.args.left.now c.loop-port.left c.push_left.new.left (port_left net (journaled ports sources) (reverse board.events.items)) c.loop-port.port
+          (left_at (Port c.loop-port.port) c.index-place.result.now (length c.as_slice-entries.result.now)) c.loop-port.invariant.0 c.in_ok-push_left.ensures one,
+      c.loop-port.invariant.1,
+    )

@@ -1,0 +1,10 @@
+use Rattle.std.proofs.Common.{◌-◌}
+use Rattle.abt_weave.specs.Board.{journaled, count, whole, IsBoard}
+use Rattle.abt_weave.proofs.pass.settle.Given as goal
+
+abbrev pub invariant-loop-seen : goal.invariant-loop-seen
+invariant-loop-seen l = IsBoard l.given.net.now (journaled l.given.ports.now l.given.sources.now) l.board
+
+-- how many entries are left
+abbrev pub decreases-loop-seen : goal.decreases-loop-seen
+decreases-loop-seen l = whole l.given.ports.now l.given.sources.now - count l.board

@@ -1,0 +1,88 @@
+-- What is placed so far.
+use Rattle.std.specs.Prelude.{◌≡◌, ℕ, ◌+◌, ◌<◌, slice_get, Bool, true, false, List, ◌++◌, Some, length, reverse, slice_index, sum_by, MatchBool, Vec, map}
+use Rattle.std.specs.Global.{Global}
+use Rattle.abt_net.specs.Topology.{Topology}
+use Rattle.abt_model.specs.declared.event.Event.{Event}
+use Rattle.abt_model.specs.declared.outcome.Outcome.{Outcome}
+use Rattle.abt_model.specs.Outcomes.{conn_of}
+use Rattle.abt_journal.specs.declared.entry.Entry.{Entry}
+use Rattle.abt_source_journal.specs.declared.entry.SourceEntry.TheVariants.{Did}
+use Rattle.abt_source_journal.specs.declared.journal.SourceJournal.{SourceJournal}
+use Rattle.abt_world.specs.Standing.{WorldView, StandsFor}
+use Rattle.abt_woven.specs.Projections.{Visit, past_of, visit, steps_on, entry_made, entries_on}
+use Rattle.abt_woven.specs.Stuck.{Journaled, ArePlaced, AreTurns, Fits, PortMismatches, SourceMismatches}
+use Rattle.abt_weave.specs.declared.board.Board.{Board}
+use Rattle.abt_weave.specs.declared.pass.Seen.{Seen}
+use Rattle.abt_weave.specs.declared.look.Look.{Look}
+use Rattle.abt_weave.specs.declared.look.Look.TheVariants.{Placed, Waits, Mismatches}
+
+abbrev pub journaled : List (Vec Entry Global) → List SourceJournal → Journaled
+journaled ports sources = record { ports = map (λ (entries : Vec Entry Global). entries.items) ports; sources = sources }
+
+-- The world stands for the events, which are the beginnings of the journals that the places say.
+pub record IsPlacing (net : Topology) (journals : Journaled) (events : List Event) (world : WorldView) (sources ports : List ℕ) : Type 0 where
+  pub stands : StandsFor net events world
+  pub placed : ArePlaced net journals (reverse events)
+  pub source_count : length sources ≡ length journals.sources
+  pub port_count : length ports ≡ length journals.ports
+  pub source_places : (c : ℕ) → c < length sources → slice_index sources c ≡ length (entries_on net c (reverse events))
+  pub port_places : (p : ℕ) → p < length ports → slice_index ports p ≡ length (steps_on net p (reverse events))
+
+abbrev pub IsBoard : Topology → Journaled → Board → Type 0
+IsBoard net journals board = IsPlacing net journals board.events.items board.world board.source_places.items board.port_places.items
+
+-- how many entries are placed
+abbrev pub total : List ℕ → ℕ
+total places = sum_by (λ place. place) places
+
+abbrev pub count : Board → ℕ
+count board = total board.source_places.items + total board.port_places.items
+
+-- how many entries there are
+abbrev pub whole : List (Vec Entry Global) → List SourceJournal → ℕ
+whole ports sources = sum_by (λ (journal : SourceJournal). length journal.entries) sources + sum_by (λ (entries : Vec Entry Global). length entries.items) ports
+
+-- Nothing that fits behind the events is the next entry of a source, also after Turns, and whether that entry mismatches.
+pub record IsSourceSettled (net : Topology) (journals : Journaled) (earlier : List Event) (c : ℕ) (mismatches : Bool) : Type 0 where
+  pub stuck : (turns : List Event) (event done : Event) (outcome : Outcome) → AreTurns net earlier turns → conn_of event ≡ c →
+      entry_made net (turns ++ earlier) event ≡ Some (Did done outcome) → Fits net journals (turns ++ earlier) event → ⊥
+  pub marks : MatchBool mismatches (SourceMismatches net journals earlier c) (SourceMismatches net journals earlier c → ⊥)
+
+-- the same of a port
+pub record IsPortSettled (net : Topology) (journals : Journaled) (earlier : List Event) (p : ℕ) (mismatches : Bool) : Type 0 where
+  pub stuck : (turns : List Event) (event : Event) (v : Visit) → AreTurns net earlier turns → visit net (past_of net (turns ++ earlier)) event ≡ Some v → v.port ≡ p →
+      Fits net journals (turns ++ earlier) event → ⊥
+  pub marks : MatchBool mismatches (PortMismatches net journals earlier p) (PortMismatches net journals earlier p → ⊥)
+
+-- what a look at an actor does, where settled says whether its entry is stuck, and mismatches
+abbrev pub IsAfterLook : Topology → Journaled → (List Event → Bool → Type 0) → (old new : Board) → Look → Type 0
+IsAfterLook net journals settled old new Placed = IsBoard net journals new × (count old < count new)
+IsAfterLook net journals settled old new Waits = IsBoard net journals new × (new.events.items ≡ old.events.items) × (count new ≡ count old) × settled (reverse old.events.items) false
+IsAfterLook net journals settled old new Mismatches = IsBoard net journals new × (new.events.items ≡ old.events.items) × (count new ≡ count old) × settled (reverse old.events.items) true
+
+-- whether a look saw a mismatch, and whether something has been placed after it
+abbrev pub is_mismatch : Look → Bool
+is_mismatch Placed = false
+is_mismatch Waits = false
+is_mismatch Mismatches = true
+
+abbrev pub has_moved : Bool → Look → Bool
+has_moved moved Placed = true
+has_moved moved Waits = moved
+has_moved moved Mismatches = moved
+
+-- each of so many actors is settled, and its mark says whether its entry mismatches
+pub record AreSettled (settled : ℕ → Bool → Type 0) (n : ℕ) (marks : List Bool) : Type 0 where
+  pub count_is : length marks ≡ n
+  pub each : (i : ℕ) (b : Bool) → slice_get marks i ≡ Some b → settled i b
+
+-- what a pass has done after so many actors: it has placed something, or these are settled
+pub record IsPassing (net : Topology) (journals : Journaled) (settled : List Event → ℕ → Bool → Type 0) (old new : Board) (n : ℕ) (moved : Bool) (marks : List Bool) : Type 0 where
+  pub board : IsBoard net journals new
+  pub progress : MatchBool moved (count old < count new) ((new.events.items ≡ old.events.items) × (count new ≡ count old) × AreSettled (settled (reverse old.events.items)) n marks)
+
+-- what a pass over all actors, so many sources and ports, has done
+pub record IsPass (net : Topology) (journals : Journaled) (old new : Board) (n m : ℕ) (seen : Seen) : Type 0 where
+  pub board : IsBoard net journals new
+  pub progress : MatchBool seen.moved (count old < count new)
+      (AreSettled (IsSourceSettled net journals (reverse new.events.items)) n seen.sources.items × AreSettled (IsPortSettled net journals (reverse new.events.items)) m seen.ports.items)

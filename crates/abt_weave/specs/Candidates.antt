@@ -1,0 +1,56 @@
+-- The event that the next entry of a port can be, by journals alone. Entries of sources are listed with the newest first.
+use Rattle.std.specs.Prelude.{ℕ, ◌==◌, ◌&&◌, ◌||◌, not, Bool, true, false, List, if◌then◌else◌, Option, None, Some, option_map}
+use Rattle.abt_cell.specs.Channel.{Channel}
+use Rattle.abt_model.specs.declared.event.Event.{Event}
+use Rattle.abt_model.specs.declared.event.Event.TheVariants.{Start, Ask, Again, Crash, Emit, Arrive, Request, Turn, Answer, Told}
+use Rattle.abt_journal.specs.declared.input.PortInput.{PortInput}
+use Rattle.abt_journal.specs.declared.input.PortInput.TheVariants.{Request as RequestIn, Answer as AnswerIn, Arrive as ArriveIn}
+use Rattle.abt_source_journal.specs.declared.entry.SourceEntry.{SourceEntry}
+use Rattle.abt_source_journal.specs.declared.entry.SourceEntry.TheVariants.{Did, Sent, Arrived as ArrivedAt}
+use Rattle.abt_woven.specs.Asked.{floor_in, ask_in}
+
+-- whether the entry says that this step was sent, and which cell it says arrived there
+abbrev pub is_sent_at : (place : ℕ) → Option SourceEntry → Bool
+is_sent_at place (Some (Sent named)) = named == place
+is_sent_at place other = false
+
+abbrev pub cell_arrived_at : (place : ℕ) → Option SourceEntry → Option ℕ
+cell_arrived_at place (Some (ArrivedAt cell named)) = if named == place then Some cell else None
+cell_arrived_at place other = None
+
+-- the event of a connection that brings this to the port at a hop, where its step takes this place
+abbrev pub event_by : (conn hop place : ℕ) → PortInput → List SourceEntry → Option SourceEntry → Option Event
+event_by conn hop place (RequestIn request) placed next =
+    if request.floor == floor_in placed request.seq && request.ask == ask_in placed request.seq && (not (hop == 1) || is_sent_at place next)
+    then Some (Request conn hop request.seq) else None
+event_by conn hop place (AnswerIn answer) placed next =
+    if answer.terms.floor == floor_in placed answer.terms.seq && answer.terms.ask == ask_in placed answer.terms.seq
+    then Some (Answer conn hop answer.terms.seq answer.granted) else None
+event_by conn hop place (ArriveIn vc at) placed next =
+    if hop == 1 then option_map (λ cell. Arrive conn cell at) (cell_arrived_at place next) else None
+
+-- the channel that an input is about
+abbrev pub channel_of : PortInput → Channel
+channel_of (RequestIn request) = request.vc
+channel_of (AnswerIn answer) = answer.terms.vc
+channel_of (ArriveIn vc at) = vc
+
+-- whether an event is a command of this source, or an answer that it is told
+abbrev pub is_own_of : ℕ → Event → Bool
+is_own_of c (Start d now) = d == c
+is_own_of c (Ask d rate plan) = d == c
+is_own_of c (Again d) = d == c
+is_own_of c (Crash d) = d == c
+is_own_of c (Emit d now) = d == c
+is_own_of c (Told d seq granted) = d == c
+is_own_of c event = false
+
+abbrev pub is_told : Event → Bool
+is_told (Told c seq granted) = true
+is_told event = false
+
+-- whether an event makes a step of its first port stand in its source's journal
+abbrev pub is_beside : Event → Bool
+is_beside (Request c hop seq) = hop == 1
+is_beside (Arrive c cell at) = true
+is_beside event = false

@@ -1,0 +1,72 @@
+-- The event that a port's next entry can be.
+use Rattle.std.specs.Prelude.{◌≡◌, ℕ, ◌+◌, ◌-◌, ◌<◌, ◌==◌, true, List, length, reverse, slice_index, Option, None, Some, if◌then◌else◌}
+use Rattle.abt_cell.specs.Channel.{Channel}
+use Rattle.abt_net.specs.declared.conn.Conn.{Conn}
+use Rattle.abt_net.specs.Topology.{Topology, IsWithinRules}
+use Rattle.abt_model.specs.declared.event.Event.{Event}
+use Rattle.abt_model.specs.declared.event.Event.TheVariants.{Start, Ask, Again, Crash, Emit, Arrive, Request, Turn, Answer, Told}
+use Rattle.abt_model.specs.Answers.{is_hop}
+use Rattle.abt_model.specs.Conns.{conn_at}
+use Rattle.abt_model.specs.Outcomes.{conn_of}
+use Rattle.abt_journal.specs.declared.input.PortInput.{PortInput}
+use Rattle.abt_journal.specs.declared.input.PortInput.TheVariants.{Request as RequestIn, Answer as AnswerIn, Arrive as ArriveIn}
+use Rattle.abt_journal.specs.declared.input.PortReply.{PortReply}
+use Rattle.abt_source_journal.specs.declared.entry.SourceEntry.{SourceEntry}
+use Rattle.abt_source_journal.specs.declared.entry.SourceEntry.TheVariants.{Sent, Arrived as ArrivedAt}
+use Rattle.abt_woven.specs.Asked.{floor_in, ask_in}
+use Rattle.abt_woven.specs.Projections.{Step, hop_met, steps_on, entries_on}
+use Rattle.abt_woven.specs.Stuck.{Journaled, next_step, next_entry}
+use Rattle.abt_weave.specs.Candidates.{is_beside}
+
+-- what an event brings to a port, where its source has done this, the newest first
+abbrev pub input_told : Channel → List SourceEntry → Event → Option PortInput
+input_told vc placed (Request c hop seq) = Some (RequestIn (record { vc = vc; seq = seq; floor = floor_in placed seq; ask = ask_in placed seq }))
+input_told vc placed (Answer c hop seq granted) = Some (AnswerIn (record { terms = record { vc = vc; seq = seq; floor = floor_in placed seq; ask = ask_in placed seq }; granted = granted }))
+input_told vc placed (Arrive c cell at) = Some (ArriveIn vc at)
+input_told vc placed event = None
+
+-- what stands beside a step of this place at the source, if the event happens
+abbrev pub entry_beside : (place : ℕ) → Event → Option SourceEntry
+entry_beside place (Request c hop seq) = if hop == 1 then Some (Sent place) else None
+entry_beside place (Arrive c cell at) = Some (ArrivedAt cell place)
+entry_beside place event = None
+
+-- An event comes to a port with this step, whatever it answers, and what it is to its source is the next entry there.
+pub record Comes (net : Topology) (journals : Journaled) (earlier : List Event) (p place : ℕ) (input : PortInput) (event : Event) : Type 0 where
+  pub conn : Conn
+  pub known : conn_at net (conn_of event) ≡ Some conn
+  pub within : is_hop (length conn.path) (hop_met event) ≡ true
+  pub port : slice_index conn.path (hop_met event - 1) ≡ p
+  pub brings : input_told conn.vc (reverse (entries_on net (conn_of event) earlier)) event ≡ Some input
+  pub at : place ≡ length (steps_on net p earlier)
+  pub beside : (x : SourceEntry) → entry_beside place event ≡ Some x → next_entry net journals earlier (conn_of event) ≡ Some x
+
+-- the event is the yes at the last hop that this Turn makes
+pub record IsYes (net : Topology) (event : Event) (c seq : ℕ) : Type 0 where
+  pub conn : Conn
+  pub known : conn_at net c ≡ Some conn
+  pub is : event ≡ Answer c (length conn.path) seq true
+
+pub record IsTurnOf (net : Topology) (event turn : Event) : Type 0 where
+  pub c : ℕ
+  pub seq : ℕ
+  pub yes_of : IsYes net event c seq
+  pub turn_is : turn ≡ Turn c seq
+
+-- an event of this connection comes to a port
+pub record IsComing (net : Topology) (journals : Journaled) (earlier : List Event) (p place : ℕ) (input : PortInput) (c : ℕ) (event : Event) : Type 0 where
+  pub conn : conn_of event ≡ c
+  pub comes : Comes net journals earlier p place input event
+
+-- how far a source comes by an event
+abbrev pub reached_by : Event → ℕ → ℕ
+reached_by event come = if is_beside event then come + 1 else come
+
+-- The one event that can be a port's next entry, and how far the source of its connection comes by it.
+pub record IsExpected (net : Topology) (journals : Journaled) (earlier : List Event) (sources : List ℕ) (p place : ℕ) (input : PortInput) (reply : PortReply) (c reached : ℕ) (event : Event) : Type 0 where
+  pub rules : IsWithinRules net
+  pub coming : IsComing net journals earlier p place input c event
+  pub only : (other : Event) → Comes net journals earlier p place input other → other ≡ event
+  pub next : next_step net journals earlier p ≡ Some (record { place = place; input = input; reply = reply })
+  pub low : c < length sources
+  pub reached_is : reached ≡ reached_by event (slice_index sources c)

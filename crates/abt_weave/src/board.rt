@@ -1,0 +1,62 @@
+//! The events that are placed so far.
+ghost use Rattle.std.specs.Prelude.{◌++◌, ◌∷◌, [], List, IfOk, OnOk};
+ghost use Rattle.abt_net.specs.Topology.{Topology};
+ghost use Rattle.abt_model.specs.declared.event.Event.{Event as EventSpec};
+ghost use Rattle.abt_world.specs.Standing.{StandsFor};
+ghost use Rattle.abt_weave.specs.Board.{journaled, IsBoard};
+
+use crate::given::Given;
+use abt_model::Event;
+use abt_world::World;
+use std::alloc::{AllocError, Global};
+
+/// The events that are placed, the world after them, and how many entries of each actor they are.
+#[derive(Drop)]
+pub(crate) struct Board<'run> {
+    pub world: World<'run>,
+    pub events: Vec<Event>,
+    pub source_places: Vec<usize>,
+    pub port_places: Vec<usize>,
+}
+
+impl<'run> Board<'run> {
+    // Nothing is placed.
+    pub(crate) fn new(alloc: Global, given: &Given<'run>) -> Result<Board<'run>, AllocError>
+        ensures { IfOk result (λ board. IsBoard given.now.net.now (journaled given.now.ports.now given.now.sources.now) board) }
+    {
+        let world = World::new(alloc, given.net)?;
+        let source_places = vec![in alloc; 0usize; given.sources.len()]?;
+        let port_places = vec![in alloc; 0usize; given.ports.len()]?;
+        Ok(Board {
+            world,
+            events: Vec::new(alloc),
+            source_places,
+            port_places,
+        })
+    }
+}
+
+// The world after these events.
+pub(crate) fn world_after<'run>(
+    alloc: Global,
+    given: &Given<'run>,
+    events: &[Event],
+) -> Result<World<'run>, AllocError>
+    ensures { IfOk result (StandsFor given.now.net.now events.now) }
+{
+    let mut world = World::new(alloc, given.net)?;
+    for event in events {
+        carry_on(&mut world, event)?;
+    }
+    Ok(world)
+}
+
+// Lets an event happen, whatever it answers.
+fn carry_on(world: &mut World<'_>, event: &Event) -> Result<(), AllocError>
+    ensures { (net : Topology) (events : List EventSpec) → StandsFor net events world.old → OnOk result (StandsFor net (events ++ event.now ∷ []) world.new) }
+{
+    match world.step(event) {
+        Ok(_) => Ok(()),
+        Err(refused) => Err(refused),
+    }
+}

@@ -1,0 +1,145 @@
+//! The event that the next entry of a port can be.
+ghost use Rattle.std.specs.Prelude.{◌≡◌, ◌==◌, ◌&&◌, ℕ, reverse, Some, IfSome, IsNone};
+ghost use Rattle.abt_net.specs.Topology.{IsWithinRules};
+ghost use Rattle.abt_weave.specs.Comes.{IsYes, IsTurnOf};
+ghost use Rattle.abt_weave.specs.Candidates as candidates;
+ghost use Rattle.abt_weave.specs.Candidates.{event_by, is_sent_at, cell_arrived_at};
+ghost use Rattle.abt_weave.specs.Stops.{IsStop};
+
+use crate::asked::{Rates, rates_asked};
+use abt_cell::Vc;
+use abt_journal::PortInput;
+use abt_model::Event;
+use abt_net::Net;
+use abt_rate::Rate;
+use abt_source_journal::SourceEntry;
+
+/// A port on the path of a connection.
+#[derive(Clone, Copy)]
+pub(crate) struct Stop {
+    pub conn: u16,
+    pub hop: u16,
+}
+
+// Where a port stands on the path of the connection that has this channel.
+pub(crate) fn stop_of(net: &Net, vc: Vc, port: u16) -> Option<Stop>
+    ensures some { IfSome result (λ stop. IsStop net.now vc port stop.conn stop.hop) }
+    ensures rules { IsWithinRules net.now }
+    ensures only { (c hop : ℕ) → IsStop net.now vc port c hop → result ≡ Some (record { conn = c; hop = hop }) }
+{
+    let conn = net.find(vc)?;
+    let path = net.conns()[usize::from(conn)].path.as_slice();
+    let place = path.iter().position(|passed| *passed == port)?;
+    Some(Stop {
+        conn,
+        hop: (place + 1) as u16,
+    })
+}
+
+// The channel that an input is about.
+pub(crate) fn channel_of(input: &PortInput) -> Vc
+    ensures { result ≡ candidates.channel_of input.now }
+{
+    match input {
+        PortInput::Request(request) => request.vc(),
+        PortInput::Answer(answer) => answer.vc(),
+        PortInput::Arrive { vc, .. } => *vc,
+    }
+}
+
+fn is_sent_at(next: Option<SourceEntry>, place: u64) -> bool
+    ensures { result ≡ is_sent_at place next }
+{
+    match next {
+        Some(SourceEntry::Sent { place: named }) => named == place,
+        _ => false,
+    }
+}
+
+// The number of the cell that arrived at this place.
+fn cell_arrived_at(next: Option<SourceEntry>, place: u64) -> Option<u64>
+    ensures { result ≡ cell_arrived_at place next }
+{
+    match next {
+        Some(SourceEntry::Arrived { cell, place: named }) if named == place => Some(cell),
+        _ => None,
+    }
+}
+
+// Whether a message has these rates.
+fn has_rates(rates: Rates, floor: Rate, ask: Rate) -> bool
+    ensures { result ≡ (floor == rates.floor && ask == rates.ask) }
+{
+    floor == rates.floor && ask == rates.ask
+}
+
+// The event that brings this to a port, where its step takes this place in the port's journal.
+pub(crate) fn event_of(
+    stop: Stop,
+    place: u64,
+    input: &PortInput,
+    placed: &[SourceEntry],
+    next: Option<SourceEntry>,
+) -> Option<Event>
+    ensures { result ≡ event_by stop.conn stop.hop place input.now (reverse placed.now) next }
+{
+    let Stop { conn, hop } = stop;
+    match input {
+        PortInput::Request(request) => {
+            let seq = request.seq();
+            if !has_rates(rates_asked(placed, seq), request.floor(), request.ask()) {
+                return None;
+            }
+            if hop == 1 && !is_sent_at(next, place) {
+                return None;
+            }
+            Some(Event::Request { conn, hop, seq })
+        }
+        PortInput::Answer(answer) => {
+            let seq = answer.seq();
+            if !has_rates(rates_asked(placed, seq), answer.floor(), answer.ask()) {
+                return None;
+            }
+            let granted = answer.granted();
+            Some(Event::Answer {
+                conn,
+                hop,
+                seq,
+                granted,
+            })
+        }
+        PortInput::Arrive { at, .. } => {
+            if hop != 1 {
+                return None;
+            }
+            let cell = cell_arrived_at(next, place)?;
+            Some(Event::Arrive {
+                conn,
+                cell,
+                at: *at,
+            })
+        }
+    }
+}
+
+// The Turn that lets a yes come to the last hop, if the event is one.
+pub(crate) fn own_turn(net: &Net, event: &Event) -> Option<Event>
+    ensures some { IfSome result (λ turn. IsTurnOf net.now event.now turn) }
+    ensures none { IsNone result → (c seq : ℕ) → IsYes net.now event.now c seq → ⊥ }
+{
+    let Event::Answer {
+        conn,
+        hop,
+        seq,
+        granted: true,
+    } = *event
+    else {
+        return None;
+    };
+    let conns = net.conns();
+    let c = usize::from(conn);
+    if c >= conns.len() || usize::from(hop) != conns[c].path.len() {
+        return None;
+    }
+    Some(Event::Turn { conn, seq })
+}

@@ -1,0 +1,24 @@
+//! Journals of ports and sources woven into one list of events.
+#![tactic(auto)]
+
+mod asked;
+mod board;
+mod candidate;
+mod fault;
+mod given;
+mod left;
+mod look;
+mod mismatch;
+mod pass;
+mod port;
+mod same;
+mod source;
+#[cfg(test)]
+mod tests;
+mod trying;
+mod weaving;
+
+pub use abt_list::Sequence;
+pub use abt_woven::{Actor, Stuck};
+pub use fault::WeaveFault;
+pub use weaving::weave;

@@ -1,0 +1,65 @@
+//! Journals woven into events.
+ghost use Rattle.std.specs.Prelude.{◌≡◌, length, IfOk, IfErr};
+ghost use Rattle.abt_woven.specs.Woven.{IsWoven};
+ghost use Rattle.abt_weave.specs.Board.{journaled};
+ghost use Rattle.abt_weave.specs.Faults.{IsWeaveFault};
+
+use crate::board::Board;
+use crate::fault::WeaveFault;
+use crate::given::Given;
+use crate::left::actors_left;
+use crate::mismatch::{first_port, first_source};
+use crate::pass::settle;
+use abt_list::Sequence;
+use abt_model::Event;
+use abt_net::Net;
+use abt_ports::Journals;
+use abt_source_journal::SourceJournal;
+use abt_woven::Stuck;
+use std::alloc::Global;
+
+/// Weaves the journals of the ports and of the sources of a net into one list of events, which are just these journals to each
+/// port and each source (docs/THREADS.md). The Turn of a yes stands in no journal, and is added where the yes needs it.
+///
+/// # Errors
+/// Where entries are left that no event can be: see [`WeaveFault`]. [`WeaveFault::Memory`] wherever a growth is refused.
+pub fn weave(
+    alloc: Global,
+    net: &Net,
+    journals: &Journals,
+    sources: &[SourceJournal],
+) -> Result<Sequence<Event>, WeaveFault>
+    requires ports { length journals.now ≡ length net.now.capacities }
+    requires sources { length sources.now ≡ length net.now.conns }
+    ensures ok { IfOk result (λ events. IsWoven net.now journals.now sources.now events) }
+    ensures err { IfErr result (IsWeaveFault net.now (record { ports = journals.now; sources = sources.now })) }
+{
+    let given = Given {
+        net,
+        ports: journals.ports.as_slice(),
+        sources,
+    };
+    weave_given(alloc, &given)
+}
+
+fn weave_given(alloc: Global, given: &Given) -> Result<Sequence<Event>, WeaveFault>
+    requires conns { length given.now.sources.now ≡ length given.now.net.now.conns }
+    requires ports { length given.now.ports.now ≡ length given.now.net.now.capacities }
+    ensures ok { let journals = journaled given.now.ports.now given.now.sources.now in
+        IfOk result (λ events. IsWoven given.now.net.now journals.ports journals.sources events) }
+    ensures err { IfErr result (IsWeaveFault given.now.net.now (journaled given.now.ports.now given.now.sources.now)) }
+{
+    let mut board = Board::new(alloc, given)?;
+    let seen = settle(alloc, given, &mut board)?;
+    if let Some(Stuck { actor, place }) = first_source(given, &board, &seen.sources) {
+        return Err(WeaveFault::Mismatch { actor, place });
+    }
+    if let Some(Stuck { actor, place }) = first_port(given, &board, &seen.ports) {
+        return Err(WeaveFault::Mismatch { actor, place });
+    }
+    let left = actors_left(alloc, given, &board)?;
+    if !left.is_empty() {
+        return Err(WeaveFault::NoOrder(left));
+    }
+    Ok(Sequence::from(board.events))
+}

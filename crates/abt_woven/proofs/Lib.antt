@@ -1,0 +1,4 @@
+pub mod Beginnings
+pub mod Placing
+pub mod Turns
+pub mod Asked

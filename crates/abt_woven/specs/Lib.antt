@@ -1,0 +1,4 @@
+pub mod Projections
+pub mod Woven
+pub mod Stuck
+pub mod Asked

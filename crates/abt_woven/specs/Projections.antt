@@ -1,0 +1,124 @@
+-- What events are to the ports and the sources of a net: the entries that they make in journals (docs/THREADS.md). Events are
+-- listed with the newest first.
+use Rattle.std.specs.Prelude.{ℕ, ◌-◌, ◌==◌, ◌&&◌, Bool, true, false, List, [], ◌∷◌, ◌++◌, length, if◌then◌else◌, slice_index, Option, None, Some, option_map, option_and_then, Ok}
+use Rattle.abt_cell.specs.Channel.{Channel}
+use Rattle.abt_net.specs.declared.conn.Conn.{Conn}
+use Rattle.abt_net.specs.Topology.{Topology}
+use Rattle.abt_facts.specs.declared.fact.Fact.{Fact}
+use Rattle.abt_model.specs.declared.connection_fact.ConnectionFact.{ConnectionFact}
+use Rattle.abt_model.specs.declared.event.Event.{Event}
+use Rattle.abt_model.specs.declared.event.Event.TheVariants.{Start, Ask, Again, Crash, Emit, Arrive, Request, Turn, Answer, Told}
+use Rattle.abt_model.specs.declared.outcome.Outcome.{Outcome}
+use Rattle.abt_model.specs.declared.outcome.Outcome.TheVariants.{Arrived, Requested, Answered, NotEnabled}
+use Rattle.abt_model.specs.Conns.{conn_at}
+use Rattle.abt_model.specs.Decision.{request_of, answer_to}
+use Rattle.abt_model.specs.Outcomes.{conn_of, outcome_of, after_event}
+use Rattle.abt_model.specs.Past.{facts_of}
+use Rattle.abt_journal.specs.declared.entry.Entry.{Entry}
+use Rattle.abt_journal.specs.declared.input.PortInput.{PortInput}
+use Rattle.abt_journal.specs.declared.input.PortInput.TheVariants.{Request as RequestIn, Answer as AnswerIn, Arrive as ArriveIn}
+use Rattle.abt_journal.specs.declared.input.PortReply.{PortReply}
+use Rattle.abt_journal.specs.declared.input.PortReply.TheVariants.{Requested as RequestedOut, Answered as AnsweredOut, Arrived as ArrivedOut}
+use Rattle.abt_source_journal.specs.declared.entry.SourceEntry.{SourceEntry}
+use Rattle.abt_source_journal.specs.declared.entry.SourceEntry.TheVariants.{Did, Sent, Arrived as ArrivedAt}
+
+-- one step of a port, as its journal has it, but for who had it done
+pub record Step : Type 0 where
+  pub place : ℕ
+  pub input : PortInput
+  pub reply : PortReply
+
+abbrev pub step_of : Entry → Step
+step_of entry = record { place = entry.place; input = entry.input; reply = entry.reply }
+
+-- a port that an event comes to, what it brings, and what the port replies
+pub record Visit : Type 0 where
+  pub port : ℕ
+  pub input : PortInput
+  pub reply : PortReply
+
+-- whether the event that answers this has happened
+abbrev pub is_enabled : Outcome → Bool
+is_enabled (NotEnabled cause) = false
+is_enabled outcome = true
+
+-- the reply of a port that an outcome tells
+abbrev pub reply_of : Outcome → Option PortReply
+reply_of (Requested onward) = Some (RequestedOut onward)
+reply_of (Answered back) = Some (AnsweredOut back)
+reply_of (Arrived verdict) = Some (ArrivedOut (Ok verdict))
+reply_of outcome = None
+
+-- the hop of its path that an event comes to: a cell comes to the first
+abbrev pub hop_met : Event → ℕ
+hop_met (Request c hop seq) = hop
+hop_met (Answer c hop seq granted) = hop
+hop_met event = 1
+
+-- what an event brings to a port
+abbrev pub input_of : Channel → List Fact → Event → Option PortInput
+input_of vc facts (Request c hop seq) = Some (RequestIn (request_of vc facts seq))
+input_of vc facts (Answer c hop seq granted) = Some (AnswerIn (answer_to (request_of vc facts seq) granted))
+input_of vc facts (Arrive c cell at) = Some (ArriveIn vc at)
+input_of vc facts event = None
+
+abbrev pub visit_by : List ConnectionFact → Event → Option PortReply → Option Conn → Option Visit
+visit_by past event reply None = None
+visit_by past event None (Some conn) = None
+visit_by past event (Some reply) (Some conn) =
+    option_map (λ (input : PortInput). record { port = slice_index conn.path (hop_met event - 1); input = input; reply = reply })
+    (input_of conn.vc (facts_of (conn_of event) past) event)
+
+-- the visit that an event is after a past, if it happens and comes to a port
+abbrev pub visit : Topology → List ConnectionFact → Event → Option Visit
+visit net past event = visit_by past event (reply_of (outcome_of net past event)) (conn_at net (conn_of event))
+
+-- What an event is to its source, where its step, if it has one, takes this place in the journal of the first port: a command
+-- stands there whatever it answers, and all else only if it happens.
+abbrev pub entry_of : (place : ℕ) → Event → Outcome → Option SourceEntry
+entry_of place (Start c now) outcome = Some (Did (Start c now) outcome)
+entry_of place (Ask c rate plan) outcome = Some (Did (Ask c rate plan) outcome)
+entry_of place (Again c) outcome = Some (Did (Again c) outcome)
+entry_of place (Crash c) outcome = Some (Did (Crash c) outcome)
+entry_of place (Emit c now) outcome = Some (Did (Emit c now) outcome)
+entry_of place (Told c seq granted) outcome = if is_enabled outcome then Some (Did (Told c seq granted) outcome) else None
+entry_of place (Request c hop seq) outcome = if is_enabled outcome && hop == 1 then Some (Sent place) else None
+entry_of place (Arrive c cell at) outcome = if is_enabled outcome then Some (ArrivedAt cell place) else None
+entry_of place (Turn c seq) outcome = None
+entry_of place (Answer c hop seq granted) outcome = None
+
+-- the past that events leave
+abbrev pub past_of : Topology → List Event → List ConnectionFact
+past_of net [] = []
+past_of net (event ∷ earlier) = after_event net (past_of net earlier) event
+
+-- a visit as a step of port p, which has had so many
+abbrev pub step_at : (p place : ℕ) → Option Visit → List Step
+step_at p place None = []
+step_at p place (Some visit) = if visit.port == p then record { place = place; input = visit.input; reply = visit.reply } ∷ [] else []
+
+-- the projection of events onto port p: the steps that they are to it, the oldest first
+abbrev pub steps_on : Topology → ℕ → List Event → List Step
+steps_on net p [] = []
+steps_on net p (event ∷ earlier) = steps_on net p earlier ++ step_at p (length (steps_on net p earlier)) (visit net (past_of net earlier) event)
+
+abbrev pub first_port : Option Conn → ℕ
+first_port None = 0
+first_port (Some conn) = slice_index conn.path 0
+
+-- the place that an event's step takes at the first port of its path
+abbrev pub place_at_first : Topology → List Event → Event → ℕ
+place_at_first net earlier event = length (steps_on net (first_port (conn_at net (conn_of event))) earlier)
+
+-- what an event is to its source after earlier ones
+abbrev pub entry_made : Topology → List Event → Event → Option SourceEntry
+entry_made net earlier event = entry_of (place_at_first net earlier event) event (outcome_of net (past_of net earlier) event)
+
+abbrev pub entry_at : (c d : ℕ) → Option SourceEntry → List SourceEntry
+entry_at c d None = []
+entry_at c d (Some entry) = if c == d then entry ∷ [] else []
+
+-- the projection of events onto source c: the entries that they are to it, the oldest first
+abbrev pub entries_on : Topology → ℕ → List Event → List SourceEntry
+entries_on net c [] = []
+entries_on net c (event ∷ earlier) = entries_on net c earlier ++ entry_at (conn_of event) c (entry_made net earlier event)
