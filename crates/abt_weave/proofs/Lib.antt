@@ -18,3 +18,4 @@ pub mod OwnFacts
 pub mod Replays
 pub mod OwnReplays
 pub mod Leavings
+pub mod Sweeps

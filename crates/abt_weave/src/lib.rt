@@ -13,6 +13,7 @@ mod pass;
 mod port;
 mod same;
 mod source;
+mod sweep;
 #[cfg(test)]
 mod tests;
 mod trying;
