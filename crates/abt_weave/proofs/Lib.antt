@@ -19,3 +19,6 @@ pub mod Replays
 pub mod OwnReplays
 pub mod Leavings
 pub mod Sweeps
+pub mod Prefixes
+pub mod Places
+pub mod SentBelow

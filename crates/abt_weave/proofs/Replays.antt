@@ -68,7 +68,7 @@ no_visit net past event none = go (reply_of (outcome_of net past event)) (conn_a
         ap (option_map (λ (input : PortInput). (let made : Visit = record { port = slice_index conn.path (hop_met event - 1); input = input; reply = reply } in made))) (none conn.vc (facts_of (conn_of event) past))
 
 -- the hop of the port that an event comes to
-hop_here : (net : Topology) (past : List ConnectionFact) → IsWithinRules net → (event : Event) (v : Visit) → (parts : IsVisit net past event v) → hop_of parts.conn.path v.port ≡ hop_met event
+pub hop_here : (net : Topology) (past : List ConnectionFact) → IsWithinRules net → (event : Event) (v : Visit) → (parts : IsVisit net past event v) → hop_of parts.conn.path v.port ≡ hop_met event
 hop_here net past rules event v parts =
     let enabled = reply_enabled (outcome_of net past event) v.reply parts.reply in
     let reply = has_reply net past event parts.conn v.input parts.known (first_hop net rules (conn_of event) parts.conn parts.known) parts.input enabled in
@@ -154,7 +154,7 @@ visited_met vc facts (Emit c now) input h = absurd (cc)
 visited_met vc facts (Turn c seq) input h = absurd (cc)
 visited_met vc facts (Told c seq granted) input h = absurd (cc)
 
-event_made : (net : Topology) (past : List ConnectionFact) → IsWithinRules net → AllLawful net past → (event : Event) (v : Visit) → visit net past event ≡ Some v →
+pub event_made : (net : Topology) (past : List ConnectionFact) → IsWithinRules net → AllLawful net past → (event : Event) (v : Visit) → visit net past event ≡ Some v →
     port_table net (after_event net past event) v.port ≡ table_after (port_table net past v.port) v.input
 event_made net past rules lawful (Request c hop seq) v is = request_made net past rules lawful c hop seq v is
 event_made net past rules lawful (Answer c hop seq granted) v is = answer_made net past rules lawful c hop seq granted v is
@@ -224,7 +224,7 @@ unvisited net past rules lawful (Turn c seq) rate p none = stays net past rules 
 unvisited net past rules lawful (Told c seq granted) rate p none = stays net past rules lawful (Told c seq granted) rate refl p
 
 -- what one event makes of a table is what its step there does
-one_step : (net : Topology) (past : List ConnectionFact) → IsWithinRules net → AllLawful net past → (event : Event) → AsksRate event → (p place : ℕ) →
+pub one_step : (net : Topology) (past : List ConnectionFact) → IsWithinRules net → AllLawful net past → (event : Event) → AsksRate event → (p place : ℕ) →
     port_table net (after_event net past event) p ≡ replayed (port_table net past p) (step_at p place (visit net past event))
 one_step net past rules lawful event rate p place = elim (cases_option (visit net past event)) [
   | inl none ↦ unvisited net past rules lawful event rate p none ∙ ap (λ (o : Option Visit). replayed (port_table net past p) (step_at p place o)) (sym none)

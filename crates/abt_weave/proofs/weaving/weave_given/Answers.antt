@@ -1,3 +1,5 @@
+use Rattle.abt_weave.proofs.SentBelow.{IsBelow}
+use Rattle.abt_weave.proofs.Places.{named_low}
 use Rattle.std.proofs.Common.{◌≡◌, ◌≢◌, ◌∙◌, ℕ, refl, ap, sym, subst, length, reverse, Vec, false, true, List, []}
 use Rattle.std.specs.Global.{Global}
 use Rattle.std.proofs.lemmas.List.{length-map}
