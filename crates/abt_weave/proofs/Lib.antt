@@ -22,3 +22,6 @@ pub mod Sweeps
 pub mod Prefixes
 pub mod Places
 pub mod SentBelow
+pub mod Asks
+pub mod LineFacts
+pub mod LineReplays

@@ -1,3 +1,6 @@
+use Rattle.abt_weave.proofs.LineReplays.{lined}
+use Rattle.abt_weave.proofs.Asks.{terms_below}
+use Rattle.abt_weave.proofs.LineFacts.{line}
 use Rattle.abt_weave.proofs.SentBelow.{IsBelow}
 use Rattle.abt_weave.proofs.Places.{named_low}
 use Rattle.std.proofs.Common.{◌≡◌, ◌≢◌, ◌∙◌, ℕ, refl, ap, sym, subst, length, reverse, Vec, false, true, List, []}
