@@ -1,5 +1,5 @@
 -- What was asked after some events was asked, with the same terms, after all events that the same journals go on with.
-use Rattle.std.proofs.Common.{◌≡◌, ℕ, ◌+◌, ◌≤◌, inl, inr, refl, ap, Bool, true, false, List, [], ◌∷◌, ◌++◌, ◌∙◌, sym, subst, Some, arith}
+use Rattle.std.proofs.Common.{◌≡◌, ℕ, ◌+◌, ◌<◌, ◌≤◌, length, inl, inr, refl, ap, Bool, true, false, List, [], ◌∷◌, ◌++◌, ◌∙◌, sym, subst, Some, arith}
 use Rattle.std.specs.Prelude.{◌⊎◌, ◌||◌, ◌==◌}
 use Rattle.std.specs.List.{list_any}
 use Rattle.std.proofs.lemmas.Bool.{false≢true}
@@ -50,9 +50,9 @@ done_grows facts (Sent place ∷ entries) = done_grows facts entries
 done_grows facts (ArrivedAt cell place ∷ entries) = done_grows facts entries
 
 -- the source's own facts are more
-own_below : (net : Topology) (c : ℕ) (less more : List Event) → IsBelow net less more → (added : List Fact) × (own (facts_of c (past_of net more)) ≡ added ++ own (facts_of c (past_of net less)))
-own_below net c less more below =
-    let begins = below.conns c in
+own_below : (net : Topology) (c : ℕ) → c < length net.conns → (less more : List Event) → IsBelow net less more → (added : List Fact) × (own (facts_of c (past_of net more)) ≡ added ++ own (facts_of c (past_of net less)))
+own_below net c low less more below =
+    let begins = below.conns c low in
     let grown = done_grows (facts_done [] (entries_on net c less)) begins.0 in
     (
       grown.0,
@@ -62,9 +62,9 @@ own_below net c less more below =
 asked_rest : (facts added base : List Fact) (s : ℕ) → own facts ≡ added ++ base → was_asked base s ≡ true → was_asked facts s ≡ true
 asked_rest facts added base s is h = sym (was_asked-own facts s) ∙ ap (λ l. was_asked l s) is ∙ any_rest (is_ask_of s) added base h
 
-pub asked_below : (net : Topology) (c s : ℕ) (less more : List Event) → IsBelow net less more → was_asked (facts_of c (past_of net less)) s ≡ true → was_asked (facts_of c (past_of net more)) s ≡ true
-asked_below net c s less more below h =
-    let grown = own_below net c less more below in
+pub asked_below : (net : Topology) (c s : ℕ) → c < length net.conns → (less more : List Event) → IsBelow net less more → was_asked (facts_of c (past_of net less)) s ≡ true → was_asked (facts_of c (past_of net more)) s ≡ true
+asked_below net c s low less more below h =
+    let grown = own_below net c low less more below in
     asked_rest (facts_of c (past_of net more)) grown.0 (own (facts_of c (past_of net less))) s grown.1 (was_asked-own (facts_of c (past_of net less)) s ∙ h)
 
 own_cons : (f : Fact) (facts : List Fact) → (own (f ∷ facts) ≡ own facts) ⊎ (own (f ∷ facts) ≡ f ∷ own facts)
@@ -80,7 +80,7 @@ tail_same : (f : Fact) (facts added base : List Fact) → f ∷ facts ≡ added 
 tail_same f facts [] base is = inl (sym is)
 tail_same f facts (g ∷ added) base is = inr (added, cc)
 
-abbrev AreTerms : List Fact → List Fact → ℕ → Type 0
+abbrev pub AreTerms : List Fact → List Fact → ℕ → Type 0
 AreTerms facts base s = (floor_of facts s ≡ floor_of base s) × (ask_of facts s ≡ ask_of base s)
 
 -- a number that was asked keeps its terms, whatever is asked later
@@ -104,10 +104,10 @@ terms_kept k (f ∷ facts) lawful added base s is h =
       ])
     ]
 
-pub terms_below : (net : Topology) (c s : ℕ) (conn : Conn) (less more : List Event) → IsLawful (route_of conn) (facts_of c (past_of net more)) → IsBelow net less more → was_asked (facts_of c (past_of net less)) s ≡ true →
+pub terms_below : (net : Topology) (c s : ℕ) (conn : Conn) → c < length net.conns → (less more : List Event) → IsLawful (route_of conn) (facts_of c (past_of net more)) → IsBelow net less more → was_asked (facts_of c (past_of net less)) s ≡ true →
     AreTerms (facts_of c (past_of net more)) (facts_of c (past_of net less)) s
-terms_below net c s conn less more lawful below h =
-    let grown = own_below net c less more below in
+terms_below net c s conn low less more lawful below h =
+    let grown = own_below net c low less more below in
     let base = facts_of c (past_of net less) in
     let kept = terms_kept (route_of conn) (facts_of c (past_of net more)) lawful grown.0 (own base) s grown.1 (was_asked-own base s ∙ h) in
     (kept.0 ∙ floor_of-own base s, kept.1 ∙ ask_of-own base s)

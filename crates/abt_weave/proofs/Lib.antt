@@ -25,3 +25,4 @@ pub mod SentBelow
 pub mod Asks
 pub mod LineFacts
 pub mod LineReplays
+pub mod Again

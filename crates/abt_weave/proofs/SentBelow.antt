@@ -48,8 +48,8 @@ use Rattle.abt_weave.proofs.Replays.{hop_here}
 
 -- events that are less to each port and each source than others are
 pub record IsBelow (net : Topology) (less more : List Event) : Type 0 where
-  pub ports : (p : ℕ) → IsBeginning (steps_on net p less) (steps_on net p more)
-  pub conns : (c : ℕ) → IsBeginning (entries_on net c less) (entries_on net c more)
+  pub ports : (p : ℕ) → p < length net.capacities → IsBeginning (steps_on net p less) (steps_on net p more)
+  pub conns : (c : ℕ) → c < length net.conns → IsBeginning (entries_on net c less) (entries_on net c more)
 
 -- a test that only what a hop did can pass
 pub record IsHopTest (test : Fact → Bool) : Type 0 where
@@ -222,11 +222,11 @@ step_fact net c p test M left (event ∷ earlier) i step at m =
       ])
     ]
 
-left_below : (net : Topology) (c p : ℕ) (test : Fact → Bool) (M : Leaving) → IsLeft net c p test M → (less more : List Event) → IsBelow net less more →
+left_below : (net : Topology) (c p : ℕ) (test : Fact → Bool) (M : Leaving) → IsLeft net c p test M → p < length net.capacities → (less more : List Event) → IsBelow net less more →
     list_any test (facts_of c (past_of net less)) ≡ true → list_any test (facts_of c (past_of net more)) ≡ true
-left_below net c p test M left less more below h =
+left_below net c p test M left low less more below h =
     let has = fact_step net c p test M left less h in
-    step_fact net c p test M left more has.i has.step (get_whole (steps_on net p less) (steps_on net p more) has.i has.step (below.ports p) has.at) has.is
+    step_fact net c p test M left more has.i has.step (get_whole (steps_on net p less) (steps_on net p more) has.i has.step (below.ports p low) has.at) has.is
 
 -- the steps that leave a hop's facts of a number
 abbrev pub Passing : Channel → ℕ → Leaving
@@ -288,6 +288,9 @@ located net c conn j its past event v parts here channel =
     let whose = own_number net its.rules (conn_of event) c parts.conn conn parts.known its.known channel in
     let same : parts.conn ≡ conn = some_same (sym parts.known ∙ ap (conn_at net) whose ∙ its.known) in
     (whose, sym (hop_here net past its.rules event v parts) ∙ ap (hop_of parts.conn.path) here ∙ ap (λ (k : Conn). hop_of k.path (slice_index conn.path (j - 1))) same ∙ own_hop net c conn j its)
+
+port_low : (net : Topology) (c : ℕ) (conn : Conn) (j : ℕ) → IsHopOf net c conn j → slice_index conn.path (j - 1) < length net.capacities
+port_low net c conn j its = (conn_within net its.rules c conn its.known).in_net (j - 1) 0 (omega (arith, its.low, its.high))
 
 both_true : (a b : ℕ) (c d : ℕ) → a ≡ b → c ≡ d → (a == b && c == d) ≡ true
 both_true a b c d one other = ap (λ x. x && c == d) (eq-eqb a b one) ∙ eq-eqb c d other
@@ -352,7 +355,7 @@ pass_left net c conn s j its = record {
 }
 
 pub passed_below : (net : Topology) (c : ℕ) (conn : Conn) (s j : ℕ) → IsHopOf net c conn j → (less more : List Event) → IsBelow net less more → was_passed (facts_of c (past_of net less)) s j ≡ true → was_passed (facts_of c (past_of net more)) s j ≡ true
-passed_below net c conn s j its less more below h = left_below net c (slice_index conn.path (j - 1)) (is_pass_of s j) (Passing conn.vc s) (pass_left net c conn s j its) less more below h
+passed_below net c conn s j its less more below h = left_below net c (slice_index conn.path (j - 1)) (is_pass_of s j) (Passing conn.vc s) (pass_left net c conn s j its) (port_low net c conn j its) less more below h
 
 -- what was passed back
 back_left : (net : Topology) (c : ℕ) (conn : Conn) (s j : ℕ) → IsHopOf net c conn j → IsLeft net c (slice_index conn.path (j - 1)) (is_back_of s j) (Answering true conn.vc s)
@@ -388,7 +391,7 @@ back_left net c conn s j its = record {
 }
 
 pub back_below : (net : Topology) (c : ℕ) (conn : Conn) (s j : ℕ) → IsHopOf net c conn j → (less more : List Event) → IsBelow net less more → was_back (facts_of c (past_of net less)) s j ≡ true → was_back (facts_of c (past_of net more)) s j ≡ true
-back_below net c conn s j its less more below h = left_below net c (slice_index conn.path (j - 1)) (is_back_of s j) (Answering true conn.vc s) (back_left net c conn s j its) less more below h
+back_below net c conn s j its less more below h = left_below net c (slice_index conn.path (j - 1)) (is_back_of s j) (Answering true conn.vc s) (back_left net c conn s j its) (port_low net c conn j its) less more below h
 
 -- what was shut, by a refusal or by a no
 abbrev pub Shutting : Channel → ℕ → Leaving
@@ -449,4 +452,4 @@ shut_left net c conn s j its = record {
         )
 
 pub shut_below : (net : Topology) (c : ℕ) (conn : Conn) (s j : ℕ) → IsHopOf net c conn j → (less more : List Event) → IsBelow net less more → was_shut (facts_of c (past_of net less)) s j ≡ true → was_shut (facts_of c (past_of net more)) s j ≡ true
-shut_below net c conn s j its less more below h = left_below net c (slice_index conn.path (j - 1)) (is_shut_of s j) (Shutting conn.vc s) (shut_left net c conn s j its) less more below h
+shut_below net c conn s j its less more below h = left_below net c (slice_index conn.path (j - 1)) (is_shut_of s j) (Shutting conn.vc s) (shut_left net c conn s j its) (port_low net c conn j its) less more below h
