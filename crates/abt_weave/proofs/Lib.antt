@@ -26,3 +26,5 @@ pub mod Asks
 pub mod LineFacts
 pub mod LineReplays
 pub mod Again
+pub mod VisitAgain
+pub mod NoneWoven

@@ -136,7 +136,7 @@ named_low net rules c conn known (event ∷ earlier) i n x at names =
       ])
     ]
 
-less_if : (m n : ℕ) → nat_lt m n ≡ true → m < n
+pub less_if : (m n : ℕ) → nat_lt m n ≡ true → m < n
 less_if m n h = grind (arith, nat_tests)
 
 less_else : (m n : ℕ) → nat_lt m n ≡ false → n ≤ m

@@ -59,7 +59,7 @@ past_lawful net [] rates = nothing_lawful net
 past_lawful net (event ∷ earlier) rates = after_event_lawful net (past_of net earlier) (past_lawful net earlier (others_ask event earlier rates)) event (first_asks event earlier rates)
 
 -- an event that brings nothing comes to no port
-no_visit : (net : Topology) (past : List ConnectionFact) (event : Event) → ((vc : Channel) (facts : List Fact) → input_of vc facts event ≡ None) → visit net past event ≡ None
+pub no_visit : (net : Topology) (past : List ConnectionFact) (event : Event) → ((vc : Channel) (facts : List Fact) → input_of vc facts event ≡ None) → visit net past event ≡ None
 no_visit net past event none = go (reply_of (outcome_of net past event)) (conn_at net (conn_of event))
   where
     go : (r : Option PortReply) (o : Option Conn) → visit_by past event r o ≡ None

@@ -1,3 +1,5 @@
+use Rattle.abt_weave.proofs.NoneWoven.{AreBegun}
+use Rattle.abt_weave.proofs.VisitAgain.{request_again}
 use Rattle.abt_weave.proofs.Again.{own_again}
 use Rattle.abt_weave.proofs.Asks.{asked_below}
 use Rattle.abt_weave.proofs.LineReplays.{lined}
