@@ -53,8 +53,7 @@ done_grows facts (ArrivedAt cell place ∷ entries) = done_grows facts entries
 own_below : (net : Topology) (c : ℕ) → c < length net.conns → (less more : List Event) → IsBelow net less more → (added : List Fact) × (own (facts_of c (past_of net more)) ≡ added ++ own (facts_of c (past_of net less)))
 own_below net c low less more below =
     let begins = below.conns c low in
-    let grown = done_grows (facts_done [] (entries_on net c less)) begins.0 in
-    (
+    let grown = done_grows (facts_done [] (entries_on net c less)) begins.0 in (
       grown.0,
       own_replayed net c more ∙ ap (facts_done []) begins.1 ∙ done-append [] (entries_on net c less) begins.0 ∙ grown.1 ∙ ap (λ (l : List Fact). grown.0 ++ l) (sym (own_replayed net c less)),
     )

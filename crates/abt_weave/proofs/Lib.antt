@@ -28,3 +28,4 @@ pub mod LineReplays
 pub mod Again
 pub mod VisitAgain
 pub mod NoneWoven
+pub mod AllBelow

@@ -60,7 +60,7 @@ pub record AreBegun (net : Topology) (js : Journaled) (events : List Event) : Ty
 shorter : {A : Type 0} → (xs ys zs : List A) → IsBeginning (xs ++ ys) zs → IsBeginning xs zs
 shorter xs ys zs begins = (ys ++ begins.0, begins.1 ∙ append_assoc xs ys begins.0)
 
-begun_before : (net : Topology) (js : Journaled) (event : Event) (earlier : List Event) → AreBegun net js (event ∷ earlier) → AreBegun net js earlier
+pub begun_before : (net : Topology) (js : Journaled) (event : Event) (earlier : List Event) → AreBegun net js (event ∷ earlier) → AreBegun net js earlier
 begun_before net js event earlier begun = record {
   ports = λ p low. shorter (steps_on net p earlier) (step_at p (length (steps_on net p earlier)) (visit net (past_of net earlier) event)) (port_journal js p) (begun.ports p low);
   conns = λ c low. shorter (entries_on net c earlier) (entry_at (conn_of event) c (entry_made net earlier event)) (source_journal js c) (begun.conns c low);
@@ -73,18 +73,18 @@ pub record HaveEnded (net : Topology) (js : Journaled) (ended : List Event) : Ty
   pub stands : StandsStill net js ended
 
 -- how far one beginning of a list goes, by another
-cases_less : {A : Type 0} → (xs ys : List A) → IsBeginning xs ys → (length xs < length ys) ⊎ (xs ≡ ys)
+pub cases_less : {A : Type 0} → (xs ys : List A) → IsBeginning xs ys → (length xs < length ys) ⊎ (xs ≡ ys)
 cases_less xs ys (([], is)) = inr (sym (is ∙ append-nil xs))
 cases_less xs ys ((y ∷ rest, is)) = inl (let e = ap (λ l. length l) is ∙ length-append xs (y ∷ rest) in omega (arith, e))
 
 -- the next step and the next entry by the journals
-step_due : (net : Topology) (js : Journaled) (event : Event) (earlier : List Event) (v : Visit) → AreBegun net js (event ∷ earlier) → v.port < length net.capacities → visit net (past_of net earlier) event ≡ Some v →
+pub step_due : (net : Topology) (js : Journaled) (event : Event) (earlier : List Event) (v : Visit) → AreBegun net js (event ∷ earlier) → v.port < length net.capacities → visit net (past_of net earlier) event ≡ Some v →
     slice_get (port_journal js v.port) (length (steps_on net v.port earlier)) ≡ Some (step_next net earlier v)
 step_due net js event earlier v begun low is =
     get_whole (steps_on net v.port (event ∷ earlier)) (port_journal js v.port) (length (steps_on net v.port earlier)) (step_next net earlier v) (begun.ports v.port low)
     (ap (λ l. slice_get l (length (steps_on net v.port earlier))) (step_made net earlier event v is) ∙ get_last (steps_on net v.port earlier) (step_next net earlier v))
 
-entry_due : (net : Topology) (js : Journaled) (event : Event) (earlier : List Event) (x : SourceEntry) → AreBegun net js (event ∷ earlier) → conn_of event < length net.conns → entry_made net earlier event ≡ Some x →
+pub entry_due : (net : Topology) (js : Journaled) (event : Event) (earlier : List Event) (x : SourceEntry) → AreBegun net js (event ∷ earlier) → conn_of event < length net.conns → entry_made net earlier event ≡ Some x →
     slice_get (source_journal js (conn_of event)) (length (entries_on net (conn_of event) earlier)) ≡ Some x
 entry_due net js event earlier x begun low made =
     let c = conn_of event in
@@ -120,13 +120,13 @@ conn_on net ended earlier event c begins has = elim (cases_eq (conn_of event) c)
 ]
 
 -- What a list has where another has ended: the next step of a port, or the port is where it was.
-abbrev PortHas : Topology → List Event → List Event → Event → Type 0
+abbrev pub PortHas : Topology → List Event → List Event → Event → Type 0
 PortHas net ended earlier event = (v : Visit) → visit net (past_of net earlier) event ≡ Some v → slice_get (steps_on net v.port ended) (length (steps_on net v.port earlier)) ≡ Some (step_next net earlier v)
 
-abbrev ConnHas : Topology → List Event → List Event → Event → Type 0
+abbrev pub ConnHas : Topology → List Event → List Event → Event → Type 0
 ConnHas net ended earlier event = (x : SourceEntry) → entry_made net earlier event ≡ Some x → conn_of event < length net.conns → slice_get (entries_on net (conn_of event) ended) (length (entries_on net (conn_of event) earlier)) ≡ Some x
 
-below_on : (net : Topology) (js : Journaled) (ended earlier : List Event) (event : Event) → IsBelow net earlier ended → PortHas net ended earlier event → ConnHas net ended earlier event → IsBelow net (event ∷ earlier) ended
+pub below_on : (net : Topology) (js : Journaled) (ended earlier : List Event) (event : Event) → IsBelow net earlier ended → PortHas net ended earlier event → ConnHas net ended earlier event → IsBelow net (event ∷ earlier) ended
 below_on net js ended earlier event below port conn = record {
   ports = λ p low. port_on net js ended earlier event p (below.ports p low) (λ v is here. subst (λ q. slice_get (steps_on net q ended) (length (steps_on net q earlier)) ≡ Some (step_next net earlier v)) here (port v is));
   conns = λ c low. conn_on net ended earlier event c (below.conns c low)
@@ -134,7 +134,7 @@ below_on net js ended earlier event below port conn = record {
 }
 
 -- a port that an event comes to is one of the net
-visit_low : (net : Topology) → IsWithinRules net → (past : List ConnectionFact) (event : Event) (v : Visit) → visit net past event ≡ Some v → v.port < length net.capacities
+pub visit_low : (net : Topology) → IsWithinRules net → (past : List ConnectionFact) (event : Event) (v : Visit) → visit net past event ≡ Some v → v.port < length net.capacities
 visit_low net rules past event v is =
     let parts = visit_is net past event v is in
     let enabled = reply_enabled (outcome_of net past event) v.reply parts.reply in
@@ -143,13 +143,13 @@ visit_low net rules past event v is =
     subst (λ n. n < length net.capacities) parts.port ((conn_within net rules (conn_of event) parts.conn parts.known).in_net (hop_met event - 1) 0 (omega (arith, hop.0, hop.1)))
 
 -- An event comes again where all has ended, also after Turns.
-record AgainAt (net : Topology) (ended earlier : List Event) (event : Event) (v : Visit) : Type 0 where
-  turns : List Event
-  all : AreTurns net ended turns
-  again : ComesAgain net earlier (turns ++ ended) event v
+pub record AgainAt (net : Topology) (ended earlier : List Event) (event : Event) (v : Visit) : Type 0 where
+  pub turns : List Event
+  pub all : AreTurns net ended turns
+  pub again : ComesAgain net earlier (turns ++ ended) event v
 
 -- what stands in the way of an end: an event that fits
-fits_again : (net : Topology) (js : Journaled) (ended earlier : List Event) (event : Event) (v : Visit) → HaveEnded net js ended → AreBegun net js (event ∷ earlier) → AgainAt net ended earlier event v → visit net (past_of net earlier) event ≡ Some v →
+pub fits_again : (net : Topology) (js : Journaled) (ended earlier : List Event) (event : Event) (v : Visit) → HaveEnded net js ended → AreBegun net js (event ∷ earlier) → AgainAt net ended earlier event v → visit net (past_of net earlier) event ≡ Some v →
     steps_on net v.port earlier ≡ steps_on net v.port ended → ((x : SourceEntry) → entry_made net earlier event ≡ Some x → entries_on net (conn_of event) earlier ≡ entries_on net (conn_of event) ended) → ⊥
 fits_again net js ended earlier event v end begun at is same beside =
     let more = at.turns ++ ended in
@@ -172,7 +172,7 @@ fits_again net js ended earlier event v end begun at is same beside =
           ∙ entry_due net js event earlier x begun c_low made);
     })
 
-both_are : (net : Topology) (js : Journaled) (ended earlier : List Event) → HaveEnded net js ended → All AsksRate earlier → IsBelow net earlier ended → AreBoth net earlier ended
+pub both_are : (net : Topology) (js : Journaled) (ended earlier : List Event) → HaveEnded net js ended → All AsksRate earlier → IsBelow net earlier ended → AreBoth net earlier ended
 both_are net js ended earlier end rates below = record { rules = end.rules; one = rates; other = end.rates; below = below }
 
 both_turned : (net : Topology) (js : Journaled) (ended earlier : List Event) → HaveEnded net js ended → All AsksRate earlier → IsBelow net earlier ended → (c seq : ℕ) → AreBoth net earlier (Turn c seq ∷ ended)
@@ -285,11 +285,11 @@ no_again net js ended earlier end rates below c hop seq v is same =
     }
 
 -- whatever comes to a port comes again, where its actors stand as they stood
-abbrev ArrivesAlone : Topology → List Event → List Event → Event → Type 0
+abbrev pub ArrivesAlone : Topology → List Event → List Event → Event → Type 0
 ArrivesAlone net earlier ended (Arrive c cell at) = entries_on net c earlier ≡ entries_on net c ended
 ArrivesAlone net earlier ended event = Unit {0}
 
-again_at : (net : Topology) (js : Journaled) (ended earlier : List Event) → HaveEnded net js ended → All AsksRate earlier → IsBelow net earlier ended → (event : Event) (v : Visit) → visit net (past_of net earlier) event ≡ Some v →
+pub again_at : (net : Topology) (js : Journaled) (ended earlier : List Event) → HaveEnded net js ended → All AsksRate earlier → IsBelow net earlier ended → (event : Event) (v : Visit) → visit net (past_of net earlier) event ≡ Some v →
     steps_on net v.port earlier ≡ steps_on net v.port ended → ArrivesAlone net earlier ended event → AgainAt net ended earlier event v
 again_at net js ended earlier end rates below (Request c hop seq) v is same alone =
     record { turns = []; all = tt; again = request_again net earlier ended (both_are net js ended earlier end rates below) c hop seq v is same }

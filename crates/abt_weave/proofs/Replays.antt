@@ -141,8 +141,7 @@ request_made net past rules lawful c hop seq v is =
     let said = request_said net past c hop seq v is in
     let served = requests_served net past rules lawful c hop seq v.port parts.conn said.0 parts.known (hop_here net past rules event v parts) said.1 in
     let table = port_table net past v.port in
-    let input = some_same parts.input in
-    (
+    let input = some_same parts.input in (
       some_same (sym parts.reply ∙ ap reply_of said.1) ∙ ap (λ (o : Onward). RequestedOut o) (sym served.0) ∙ ap (reply_by table) input,
       sym served.1 ∙ ap (table_after table) input,
     )
@@ -154,8 +153,7 @@ answer_made net past rules lawful c hop seq granted v is =
     let said = answer_said net past c hop seq granted v is in
     let served = answers_served net past rules lawful c hop seq v.port granted parts.conn said.0 parts.known (hop_here net past rules event v parts) said.1 in
     let table = port_table net past v.port in
-    let input = some_same parts.input in
-    (
+    let input = some_same parts.input in (
       some_same (sym parts.reply ∙ ap reply_of said.1) ∙ ap (λ (b : Back). AnsweredOut b) (sym served.0) ∙ ap (reply_by table) input,
       sym served.1 ∙ ap (table_after table) input,
     )
@@ -167,8 +165,7 @@ arrival_made net past rules lawful c cell at v is =
     let said = arrival_said net past c cell at v is in
     let served = arrivals_served net past rules lawful c cell at v.port parts.conn said.0 parts.known (hop_here net past rules event v parts) said.1 in
     let table = port_table net past v.port in
-    let input = some_same parts.input in
-    (
+    let input = some_same parts.input in (
       some_same (sym parts.reply ∙ ap reply_of said.1) ∙ ap ArrivedOut (sym served.0) ∙ ap (reply_by table) input,
       sym served.1 ∙ ap (table_after table) input,
     )

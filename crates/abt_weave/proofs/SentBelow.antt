@@ -218,7 +218,7 @@ step_fact net c p test M left (event ∷ earlier) i step at m =
             (λ last is. (
             let its = left.adds past event v some.1 same (subst (λ (s : Step). M s.input s.reply) (sym is) m) in
             ap (list_any test) (own_facts net past event c its.0) ∙ list_any-append test (facts_added (facts_of c past) event (outcome_of net past event)) (facts_of c past)
-                ∙ ap (λ b. b || list_any test (facts_of c past)) its.1)))
+            ∙ ap (λ b. b || list_any test (facts_of c past)) its.1)))
       ])
     ]
 
@@ -345,8 +345,7 @@ pass_left net c conn s j its = record {
       let its_event = request_event parts.conn.vc (facts_of (conn_of event) past) event m.0 (parts.input ∙ ap (λ (i : PortInput). Some i) m.1) in
       let at = located net c conn j its past event v parts here (its_event.3 ∙ m.2) in
       let said = requested_is (outcome_of net past event) Pass (parts.reply ∙ ap (λ (r : PortReply). Some r) m.4) in
-      let hop : its_event.1 ≡ j = ap hop_met (sym its_event.2) ∙ at.1 in
-      (
+      let hop : its_event.1 ≡ j = ap hop_met (sym its_event.2) ∙ at.1 in (
         at.0,
         ap (λ e. list_any (is_pass_of s j) (facts_added (facts_of c past) e (outcome_of net past event))) its_event.2
             ∙ ap (λ o. list_any (is_pass_of s j) (facts_added (facts_of c past) (Request its_event.0 its_event.1 m.0.seq) o)) said
@@ -380,8 +379,7 @@ back_left net c conn s j its = record {
       let its_event = answer_event parts.conn.vc (facts_of (conn_of event) past) event m.0 (parts.input ∙ ap (λ (i : PortInput). Some i) m.1) in
       let at = located net c conn j its past event v parts here (its_event.3 ∙ m.2) in
       let said = answered_is (outcome_of net past event) PassBack (parts.reply ∙ ap (λ (r : PortReply). Some r) m.5) in
-      let hop : its_event.1 ≡ j = ap hop_met (sym its_event.2) ∙ at.1 in
-      (
+      let hop : its_event.1 ≡ j = ap hop_met (sym its_event.2) ∙ at.1 in (
         at.0,
         ap (λ e. list_any (is_back_of s j) (facts_added (facts_of c past) e (outcome_of net past event))) its_event.2
             ∙ ap (λ g. list_any (is_back_of s j) (facts_added (facts_of c past) (Answer its_event.0 its_event.1 m.0.terms.seq g) (outcome_of net past event))) m.4
@@ -430,8 +428,7 @@ shut_left net c conn s j its = record {
         let its_event = request_event parts.conn.vc (facts_of (conn_of event) past) event m.0 (parts.input ∙ ap (λ (i : PortInput). Some i) m.2) in
         let at = located net c conn j its past event v parts here (its_event.3 ∙ m.3) in
         let said = requested_is (outcome_of net past event) (Refuse m.1) (parts.reply ∙ ap (λ (r : PortReply). Some r) m.5) in
-        let hop : its_event.1 ≡ j = ap hop_met (sym its_event.2) ∙ at.1 in
-        (
+        let hop : its_event.1 ≡ j = ap hop_met (sym its_event.2) ∙ at.1 in (
           at.0,
           ap (λ e. list_any (is_shut_of s j) (facts_added (facts_of c past) e (outcome_of net past event))) its_event.2
               ∙ ap (λ o. list_any (is_shut_of s j) (facts_added (facts_of c past) (Request its_event.0 its_event.1 m.0.seq) o)) said
@@ -442,8 +439,7 @@ shut_left net c conn s j its = record {
         let its_event = answer_event parts.conn.vc (facts_of (conn_of event) past) event m.0 (parts.input ∙ ap (λ (i : PortInput). Some i) m.1) in
         let at = located net c conn j its past event v parts here (its_event.3 ∙ m.2) in
         let said = answered_is (outcome_of net past event) PassBack (parts.reply ∙ ap (λ (r : PortReply). Some r) m.5) in
-        let hop : its_event.1 ≡ j = ap hop_met (sym its_event.2) ∙ at.1 in
-        (
+        let hop : its_event.1 ≡ j = ap hop_met (sym its_event.2) ∙ at.1 in (
           at.0,
           ap (λ e. list_any (is_shut_of s j) (facts_added (facts_of c past) e (outcome_of net past event))) its_event.2
               ∙ ap (λ g. list_any (is_shut_of s j) (facts_added (facts_of c past) (Answer its_event.0 its_event.1 m.0.terms.seq g) (outcome_of net past event))) m.4
