@@ -50,6 +50,10 @@ impl Gcra {
 
     /// The verdict on a cell that arrives at a moment, with the spacing from it to the next one. It is
     /// never [`Verdict::NoRate`].
+    ///
+    /// # Errors
+    /// [`GcraFault::ClockBack`] if the arrival is below that of the last cell that was given a verdict, and else
+    /// [`GcraFault::TimeRange`] above [`ARRIVE_MAX`]. Nothing has changed then.
     pub fn check(&mut self, at: u64, spacing: u64) -> Result<Verdict, GcraFault>
         requires least { 1 ≤ spacing }
         requires greatest { spacing ≤ SPACING_MAX }

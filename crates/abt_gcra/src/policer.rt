@@ -45,7 +45,12 @@ impl Policer {
         }
     }
 
-    /// The verdict on a cell that arrives at a moment, where a rate is held for its connection.
+    /// The verdict on a cell that arrives at a moment, where a rate is held for its connection. It is
+    /// [`Verdict::NoRate`](crate::Verdict::NoRate) where that rate is zero.
+    ///
+    /// # Errors
+    /// [`GcraFault::ClockBack`] if the arrival is below that of the last cell that was given a verdict, and else
+    /// [`GcraFault::TimeRange`] above [`ARRIVE_MAX`]. Nothing has changed then.
     #[tactic(auto, using(crate::proofs::PolicingLemmas::policed_windows), unfolding(crate::specs::Policing::policed))]
     pub fn arrive(&mut self, at: u64, held: Rate) -> Result<Verdict, GcraFault>
         ensures clock_back { IsErrOf result GcraFault.ClockBack ↔ (at < self.old.clock) }

@@ -47,6 +47,11 @@ impl Shaper {
     }
 
     /// Lets a cell leave now, at a rate, and gives the earliest moment of the next one.
+    ///
+    /// # Errors
+    /// [`ShapeFault::ClockBack`] before the last cell that left, else [`ShapeFault::TimeRange`] above [`EMIT_MAX`], else
+    /// [`ShapeFault::Zero`] at rate zero, else [`ShapeFault::TooSoon`], with the earliest moment, before that one. Nothing
+    /// has changed then.
     pub fn emit(&mut self, now: u64, rate: Rate) -> Result<u64, ShapeFault>
         ensures clock_back { IsErrOf result ShapeFault.ClockBack ↔ IsBehind self.old now }
         ensures time_range { IsErrOf result ShapeFault.TimeRange ↔

@@ -17,7 +17,9 @@ use abt_rate::Rate;
 #[must_use]
 #[derive(Debug, Drop)]
 pub struct AskRefused<S: State> {
+    /// The source as it was.
     pub source: Source<S>,
+    /// Why it didn't ask.
     pub fault: AskFault,
 }
 

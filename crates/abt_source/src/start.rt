@@ -24,7 +24,9 @@ pub const START_MAX: u64 = EMIT_MAX - HOLD_OFF;
 #[must_use]
 #[derive(Debug, Drop)]
 pub struct StartRefused {
+    /// The source as it was.
     pub source: Source<Down>,
+    /// Why it didn't start.
     pub fault: StartFault,
 }
 

@@ -2,8 +2,9 @@
 use crate::entry::SourceEntry;
 use abt_list::Sequence;
 
-/// What one source did, and what of it was served, in order.
+/// What one source did, and what of it was served, in order (docs/RULES.md, "Workers").
 #[derive(Debug, Drop)]
 pub struct SourceJournal {
+    /// The entries, the oldest first.
     pub entries: Sequence<SourceEntry>,
 }
