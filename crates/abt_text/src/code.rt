@@ -6,7 +6,7 @@ ghost use Rattle.abt_text.specs.Text.{code_text};
 use std::fmt;
 
 /// A code of 16 bits that shows itself as four lower-case hexadecimal digits, as rate codes are printed
-/// (docs/FORMATS.md, "Texts").
+/// (docs/FORMATS.md, "Report").
 #[derive(Clone, Copy, Debug, PartialEq, Eq)]
 pub struct HexCode(pub u16);
 
