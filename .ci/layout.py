@@ -45,6 +45,17 @@ def linked_files(document):
     return [Path(name) for name in named] + [document.parent / link for link in linked]
 
 
+def citations(file):
+    """The documents that a file cites, as docs/NAME.md, with the heading of docs/NAME.md, "Heading", which may stand in the next line
+    of a comment, or an empty one."""
+    plain = re.sub(r"\n\s*(?://[/!]?|--)?\s*", " ", file.read_text())
+    return re.findall(r'(docs/[\w/.-]+\.md)(?:, "([^"]*)")?', plain)
+
+
+def headings(document):
+    return {line.lstrip("#").strip() for line in document.read_text().split("\n") if line.startswith("#")}
+
+
 def faults():
     if Path("HANDLES").read_text() != HANDLES:
         yield "HANDLES isn't its one line"
@@ -67,11 +78,18 @@ def faults():
         for proof in sorted(root.glob("proofs/**/*.antt")) + sorted(root.glob("specs/*.antt")):
             if re.search(r"=\s*\?\s*$|\(\?\)", proof.read_text(), re.M):
                 yield f"{proof} has a hole"
-    for document in [Path("README.md"), Path("CONTRIBUTING.md"), *Path("docs").glob("*.md"), *Path("crates").glob("*/README.md")]:
-        if document.is_file():
-            for file in linked_files(document):
-                if not file.exists():
-                    yield f"{document} names {file}, which isn't there"
+    documents = [Path("README.md"), Path("CONTRIBUTING.md"), *Path("docs").glob("*.md"), *Path("crates").glob("*/README.md")]
+    documents = [document for document in documents if document.is_file()]
+    for document in documents:
+        for file in linked_files(document):
+            if not file.exists():
+                yield f"{document} names {file}, which isn't there"
+    for file in [*documents, *Path("crates").glob("*/src/**/*.rt"), *Path("crates").glob("*/specs/**/*.antt")]:
+        for name, heading in citations(file):
+            if not Path(name).is_file():
+                yield f"{file} cites {name}, which isn't there"
+            elif heading and heading not in headings(Path(name)):
+                yield f"{file} cites {name}, \"{heading}\", which is no heading there"
     if subprocess.run(["sh", "-n", "abt"]).returncode != 0:
         yield "abt isn't a shell script"
 

@@ -8,7 +8,7 @@ use abt_journal::{Seat, ServeFault};
 use abt_source_journal::SourceJournal;
 use std::thread::Threads;
 
-// Of two faults a Wound, if one is, and else the first.
+// Of two faults a Wound, if the first is one, and else the second.
 pub(crate) fn graver(fault: Option<ServeFault>, found: ServeFault) -> ServeFault
     ensures { result ≡ graver_of fault found }
 {

@@ -1,5 +1,8 @@
 //! The ports of a net before a run, each under its lock.
-ghost use Rattle.std.specs.Prelude.{◌≡◌, ◌<◌, ◌≤◌, ◌^◌, IfOk, OnOk, length};
+ghost use Rattle.std.specs.Prelude.{◌≡◌, ◌<◌, ◌≤◌, ◌^◌, [], All, IfOk, OnOk, length};
+ghost use Rattle.abt_model.specs.PortTable.{port_table};
+ghost use Rattle.abt_model.specs.Reserved as reserved;
+ghost use Rattle.abt_world.specs.Opening.{joined, opening_table};
 ghost use Rattle.abt_journal.specs.Opening.{IsOpening};
 ghost use Rattle.abt_relay.specs.Cells.{AreCellsOf};
 
@@ -25,36 +28,57 @@ pub(crate) fn opening_cells(alloc: Global, net: &Net) -> Result<Vec<PortCell>, A
 // A port of a net with the connections through it.
 fn opening_port(alloc: Global, net: &Net, id: u16) -> Result<Port, AllocError>
     requires { id < length net.now.capacities }
+    ensures table { IfOk result (λ port. port ≡ port_table net.now [] id) }
     ensures opening { IfOk result IsOpening }
     ensures id { IfOk result (λ port. port.id ≡ id) }
 {
-    let mut port = Port::new(alloc, id, net.capacities()[usize::from(id)])?;
-    for conn in net.conns() {
-        join(&mut port, conn)?;
-    }
+    port_with(alloc, id, net.capacities()[usize::from(id)], net.conns())
+}
+
+// A port with those of these connections that go through it.
+fn port_with(alloc: Global, id: u16, capacity: u64, conns: &[Conn]) -> Result<Port, AllocError>
+    requires capacity { capacity ≤ 2 ^ 60 }
+    requires taus { All (λ conn. conn.tau ≤ 10 ^ 12) conns.now }
+    ensures { IfOk result (λ port. port ≡ opening_table id capacity conns.now) }
+{
+    let Some((first, others)) = conns.split_first() else {
+        return Port::new(alloc, id, capacity);
+    };
+    let mut port = port_with(alloc, id, capacity, others)?;
+    join(&mut port, first)?;
     Ok(port)
 }
 
 // Adds a connection to a port that its path goes through. Channels of a net differ, and there are 1,024 at most, so a port
 // refuses none of them but for memory.
 fn join(port: &mut Port, conn: &Conn) -> Result<(), AllocError>
-    requires opening { IsOpening port.old }
-    requires tau { conn.now.tau ≤ 10 ^ 12 }
-    ensures opening { OnOk result (IsOpening port.new) }
-    ensures id { OnOk result (port.new.id ≡ port.old.id) }
+    requires { conn.now.tau ≤ 10 ^ 12 }
+    ensures { OnOk result (port.new ≡ joined port.old conn.now) }
 {
-    let path = conn.path.as_slice();
-    let id = port.id();
-    if !path.contains(&id) {
+    let hop = hop_of(conn.path.as_slice(), port.id());
+    if hop == 0 {
         return Ok(());
     }
-    let tau = if path.first() == Some(&id) {
-        Some(conn.tau)
-    } else {
-        None
-    };
+    let tau = if hop == 1 { Some(conn.tau) } else { None };
     match port.add(conn.vc, tau) {
         Ok(()) => Ok(()),
         Err(_) => Err(AllocError),
+    }
+}
+
+// The hop of a path, from 1, at which a port lies, and 0 where it lies at none.
+fn hop_of(path: &[u16], port: u16) -> usize
+    ensures value { result ≡ reserved.hop_of path.now port }
+    ensures within { result ≤ length path.now }
+{
+    let Some((first, rest)) = path.split_first() else {
+        return 0;
+    };
+    if *first == port {
+        return 1;
+    }
+    match hop_of(rest, port) {
+        0 => 0,
+        hop => hop + 1,
     }
 }

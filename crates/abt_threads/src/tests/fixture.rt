@@ -37,6 +37,15 @@ pub(super) fn listen(turns: u32) -> Command {
 
 /// Connections of VPI 1 from VCI 100 on, along these paths with these delays and taus, over ports of 1,000 cells per second.
 pub(super) fn net(alloc: Global, ports: usize, conns: &[(&[u16], u64, u64)]) -> Option<Net> {
+    net_over(alloc, vec![in alloc; 512000u64; ports].ok()?, conns)
+}
+
+/// The same connections over ports of these capacities.
+pub(super) fn net_over(
+    alloc: Global,
+    capacities: Vec<u64>,
+    conns: &[(&[u16], u64, u64)],
+) -> Option<Net> {
     let mut listed = Vec::with_capacity(alloc, conns.len()).ok()?;
     let mut vci = 100u16;
     for (path, delay, tau) in conns {
@@ -49,7 +58,7 @@ pub(super) fn net(alloc: Global, ports: usize, conns: &[(&[u16], u64, u64)]) -> 
         listed.push(conn).ok()?;
         vci = vci.checked_add(1)?;
     }
-    Net::build(alloc, vec![in alloc; 512000u64; ports].ok()?, listed).ok()
+    Net::build(alloc, capacities, listed).ok()
 }
 
 /// The net with one port and one connection through it.

@@ -1,5 +1,7 @@
 //! What a run of a net with one port leaves, or why it has no result.
-use super::fixture::{START, ask, entries, faithful, first_request, net, one_port, port, ran};
+use super::fixture::{
+    START, ask, entries, faithful, first_request, net, net_over, one_port, port, ran,
+};
 use crate::RunFault;
 use abt_journal::{Entry, PortInput, PortReply};
 use abt_model::{Event, Outcome};
@@ -97,6 +99,16 @@ fn what_is_asked_is_served_at_once_and_what_the_plan_says_is_lost(
     assert!(rt; port(&run, 0) == [entry].as_slice());
     assert_eq!(rt; entries(&run, 0).len(), 3);
     assert!(rt; entries(&run, 0).get(2) == Some(&SourceEntry::Sent { place: 0 }));
+    Ok(())
+}
+
+#[test]
+fn ports_of_different_capacities_are_gathered(rt: HostRuntime) -> Result<(), Fail> {
+    let capacities = [512000u64, 1024000].to_vec(rt.alloc())?;
+    let net = net_over(rt.alloc(), capacities, &[(&[0, 1], 1000, 200)]).ok_or("no net")?;
+    let run = ran(&rt, rt.alloc(), &net, &[&[START, ask(0x5120)]], faithful(1))?;
+    assert_eq!(rt; run.journals.ports.len(), 2);
+    assert!(rt; !port(&run, 0).is_empty());
     Ok(())
 }
 

@@ -1,7 +1,25 @@
-use Rattle.std.proofs.Common.{ap}
+use Rattle.std.proofs.Common.{◌≡◌, ℕ, List, [], slice_index, sym, ap, ◌∙◌, subst}
+use Rattle.std.proofs.lemmas.Result.{IfOk-weaker}
+use Rattle.abt_net.specs.declared.conn.Conn.{Conn}
 use Rattle.abt_node.specs.Table.{Table}
-use Rattle.abt_journal.proofs.Openings.{IsOpening-new}
+use Rattle.abt_model.specs.PortTable.{port_table}
+use Rattle.abt_world.specs.Opening.{opening_table}
+use Rattle.abt_journal.specs.Opening.{IsOpening}
+use Rattle.abt_threads.proofs.Tables.{opening_table-is, IsOpening-table}
 use Rattle.abt_threads.proofs.opening.opening_port.Goals as goal
 
-pub loop-conn-init : goal.loop-conn-init
-loop-conn-init c = (IsOpening-new c.in_ok-port.port c.args.id _ c.in_ok-port.ensures, ap (λ (t : Table). t.id) c.in_ok-port.ensures)
+pub returns-clause-table : goal.returns-clause-table
+returns-clause-table c =
+    let net = c.args.net.now in
+    let same : opening_table c.args.id (slice_index c.capacities.result.now c.from.result) c.conns.result.now ≡ port_table net [] c.args.id =
+        ap (λ (capacities : List ℕ). opening_table c.args.id (slice_index capacities c.from.result) c.conns.result.now) c.capacities.ensures.value
+        ∙ ap (λ (i : ℕ). opening_table c.args.id (slice_index net.capacities i) c.conns.result.now) c.from.ensures
+        ∙ ap (λ (conns : List Conn). opening_table c.args.id (slice_index net.capacities c.args.id) conns) c.conns.ensures.value
+        ∙ opening_table-is net c.args.id in
+    IfOk-weaker c.port_with.result _ _ (λ port is. is ∙ same) c.port_with.ensures
+
+pub returns-clause-opening : goal.returns-clause-opening
+returns-clause-opening c = IfOk-weaker c.port_with.result _ IsOpening (λ port is. subst IsOpening (sym is) (IsOpening-table c.args.id (slice_index c.capacities.result.now c.from.result) c.conns.result.now)) c.port_with.ensures
+
+pub returns-clause-id : goal.returns-clause-id
+returns-clause-id c = IfOk-weaker c.port_with.result _ _ (λ port is. ap (λ (t : Table). t.id) is) (returns-clause-table c)
