@@ -97,7 +97,7 @@ impl Ended {
 }
 
 /// Runs what a reader has with so many link workers, over an output with so much room.
-fn ended<T: Threads + Wait + Sync, R: Read>(
+fn run_over<T: Threads + Wait + Sync, R: Read>(
     rt: &T,
     alloc: Global,
     workers: u16,
