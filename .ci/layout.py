@@ -13,6 +13,7 @@ DOCUMENTS = [
     "docs/GUARANTEES.md",
     "docs/READING.md",
     "docs/SCENARIOS.md",
+    "docs/THREADS.md",
     "docs/TESTING.md",
     "docs/DECISIONS.md",
 ]

@@ -1,9 +1,10 @@
 """Runs each sample of scenarios/, and compares what it prints and its exit status with what is written beside it.
 
-NAME.toml is run by `abt run NAME.toml` in the folder scenarios/, and from the standard input too. NAME.toml.stdout is what it has to
-print, NAME.toml.stderr what it has to tell (nothing, if the file isn't there), NAME.toml.status the exit status (0). The model of
+NAME.toml is run by `abt run NAME.toml` in the folder scenarios/, and from the standard input too. NAME.toml.args has other words for
+it, one a line, such as those of `abt threads NAME.toml --workers 4`: the file's name comes behind the first. NAME.toml.stdout is what it
+has to print, NAME.toml.stderr what it has to tell (nothing, if the file isn't there), NAME.toml.status the exit status (0). The model of
 scenarios/model has to say the same of each sample, and of stories that were worked out by hand. What no file can show is made here: a
-text that is too long, a file that isn't there, and an output that takes nothing.
+text that is too long, a file that isn't there, an output that takes nothing, and words that are refused.
 
 usage: scenarios.py [PROGRAM..]    as each of these programs prints it, else `./abt`, which proves and builds it where need be
 """
@@ -39,8 +40,9 @@ def of_sample(program, sample):
         beside(sample, ".stderr", ""),
         int(beside(sample, ".status", "0")),
     )
-    yield from differences(sample.name, wanted, run(program, ["run", sample.name]))
-    from_input = run(program, ["run"], sample.read_bytes())
+    command, *options = beside(sample, ".args", "run\n").splitlines()
+    yield from differences(sample.name, wanted, run(program, [command, sample.name, *options]))
+    from_input = run(program, [command, *options], sample.read_bytes())
     yield from differences(f"{sample.name} from standard input", wanted, from_input)
 
 
@@ -51,8 +53,15 @@ def of_files_and_outputs(program):
         ("a folder", ["run", "."], b"", "fault: read\n"),
         ("a text that is too long", ["run"], b"\n" * (LONGEST + 1), "fault: TooLong\n"),
         ("the longest text", ["run"], b"\n" * LONGEST, "fault: MissingKey ports\n"),
+        ("threads over no file", ["threads", "none.toml", "--workers", "1"], b"", "fault: open\n"),
+        ("threads over a folder", ["threads", ".", "--workers", "1"], b"", "fault: read\n"),
     ]:
         yield from differences(name, ("", line, 1), run(program, words, text))
+    for words in [[], ["0"], ["65"], ["+4"], ["x"]]:
+        options = ["--workers", *words] if words else []
+        output, _, status = run(program, ["threads", "threads_one_source.toml", *options])
+        if output or status != 2:
+            yield f"threads with the options {options}: the output is {output!r}, the status {status}, and not 2"
     if Path("/dev/full").exists():
         with open("/dev/full", "wb") as full:
             done = subprocess.run([program, "run", "one_source.toml"], cwd=FOLDER, stdout=full, stderr=subprocess.PIPE)

@@ -8,13 +8,30 @@ import sys
 from pathlib import Path
 
 from model import run
+from reading import read
 
 FOLDER = Path(__file__).resolve().parent.parent
 
 
+def run_in_threads(octets):
+    """What `abt threads` has to print: whatever the order of the threads, the three lines, unless a jitter is above its tau."""
+    status, output, told = run(octets)
+    if status:
+        return status, output, told
+    _, conns, _ = read(octets)
+    for conn in conns:
+        for command in conn["script"]:
+            words = command.split(" ")
+            if words[0] == "emit" and words[2] != "lost" and int(words[2]) > conn["tau"]:
+                return 1, "", "fault: Scripts\n"
+    return 0, "gathered\nwoven\nsafe\n", ""
+
+
 def expected(sample):
     """The text of each file that stands beside a sample, or None where that file isn't to be there."""
-    status, output, told = run(sample.read_bytes())
+    args = sample.with_name(sample.name + ".args")
+    is_threads = args.is_file() and args.read_text().startswith("threads\n")
+    status, output, told = (run_in_threads if is_threads else run)(sample.read_bytes())
     return {".stdout": output, ".stderr": told or None, ".status": f"{status}\n" if status else None}
 
 

@@ -12,8 +12,11 @@ pub const HEX: &str = "HEX";
 /// The capacity of `abt port`.
 pub const CAPACITY: &str = "CAPACITY";
 
-/// The scenario of `abt run`.
+/// The scenario of `abt run` and of `abt threads`.
 pub const FILE: &str = "FILE";
+
+/// How many link workers `abt threads` has.
+pub const WORKERS: &str = "workers";
 
 /// The command line behind the program's name.
 pub fn command<'a>(alloc: Global) -> Result<Command<'a>, AllocError> {
@@ -26,7 +29,8 @@ pub fn command<'a>(alloc: Global) -> Result<Command<'a>, AllocError> {
         .subcommand(rate_command(alloc)?)?
         .subcommand(cell_command(alloc)?)?
         .subcommand(port_command(alloc)?)?
-        .subcommand(run_command(alloc)?)
+        .subcommand(run_command(alloc)?)?
+        .subcommand(threads_command(alloc)?)
 }
 
 fn rate_command<'a>(alloc: Global) -> Result<Command<'a>, AllocError> {
@@ -67,13 +71,30 @@ fn port_command<'a>(alloc: Global) -> Result<Command<'a>, AllocError> {
 }
 
 fn run_command<'a>(alloc: Global) -> Result<Command<'a>, AllocError> {
-    let file = Arg::new(alloc, FILE).help(
-        "The scenario, a TOML text; without a file it is read from the standard input",
-    );
     Command::new(alloc, "run")
         .about("Run a scenario, and report what each of its events answered")
         .after_help(RUN_EXAMPLE)
-        .arg(file)
+        .arg(file_argument(alloc))
+}
+
+fn threads_command<'a>(alloc: Global) -> Result<Command<'a>, AllocError> {
+    let workers = Arg::new(alloc, WORKERS)
+        .long("workers")
+        .value_name("N")
+        .required(true)
+        .value_parser(value_parser!(u64).range(1..=64))
+        .help("How many link workers carry messages between ports: 1 to 64");
+    Command::new(alloc, "threads")
+        .about("Run a scenario's scripts in threads, and say what is shown of the run")
+        .after_help(THREADS_EXAMPLE)
+        .arg(file_argument(alloc))?
+        .arg(workers)
+}
+
+fn file_argument<'a>(alloc: Global) -> Arg<'a> {
+    Arg::new(alloc, FILE).help(
+        "The scenario, a TOML text; without a file it is read from the standard input",
+    )
 }
 
 const EXAMPLES: &str = "Examples:
@@ -83,7 +104,9 @@ const EXAMPLES: &str = "Examples:
   abt port 512000 0010064c02045258000000000000000000000001\
 6a6a6a6a6a6a6a6a6a6a6a6a6a6a6a6a6a6a6a6a6a6a6a6a6a6a6a6a6a6a038c
   abt run scenarios/one_source.toml
-What each prints is shown by its own help, as abt help port.";
+  abt threads scenarios/threads_crossing.toml --workers 4
+What each prints is shown by its own help, as abt help port.
+Status 0: done. 1: a fault, which standard error names. 2: the words are refused.";
 
 const RATE_EXAMPLE: &str = "Example:
   abt rate 53e8
@@ -108,3 +131,14 @@ const RUN_EXAMPLE: &str = "Example:
   port 0 total 0 capacity 512000
   safe
 How scenarios and reports are written stands in docs/FORMATS.md, and scenarios/ has examples.";
+
+const THREADS_EXAMPLE: &str = "Example:
+  printf 'ports = [512000]\\n' | abt threads --workers 4
+  gathered
+  woven
+  safe
+gathered: all threads have ended, and their journals fit together.
+woven: one list of events is just these journals.
+safe: no event of that list broke a promise. Each line goes out as soon as it is so.
+What journals are stands in docs/THREADS.md, and how scripts are written in docs/FORMATS.md.
+Status 0: done. 1: a fault, which standard error names. 2: the words are refused.";

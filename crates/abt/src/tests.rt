@@ -6,6 +6,7 @@ mod ports;
 mod rates;
 mod runs;
 mod streams;
+mod threads;
 
 ghost use Rattle.std.specs.Prelude.{IfOk};
 ghost use Rattle.abt_perform.specs.Plans.{IsWithinLimits};
@@ -13,7 +14,7 @@ ghost use Rattle.abt_perform.specs.Plans.{IsWithinLimits};
 use crate::words::plan_words;
 use abt_perform::{Plan, WordsFault, perform};
 use std::alloc::Global;
-use std::io::{self, Error, ErrorKind, Write};
+use std::io::{self, Error, ErrorKind, Read, Write};
 use std::process::Abort;
 use std::test::Fail;
 
@@ -96,6 +97,22 @@ fn planned<'a>(alloc: Global, words: &'a [&'a str]) -> Result<Plan, Fail>
     }
 }
 
+/// Carries a plan out that needs no threads. A plan for threads has no status here.
+fn done_alone<R: Read, W: Write, E: Write>(
+    alloc: Global,
+    plan: &Plan,
+    reader: &mut R,
+    writer: &mut W,
+    errors: &mut E,
+) -> u8
+    requires { IsWithinLimits plan.now }
+{
+    match plan {
+        Plan::Threads { .. } => 255,
+        _ => perform(alloc, plan, reader, writer, errors),
+    }
+}
+
 /// Carries out what some words ask for, and demands the status and what goes out. Where memory is refused, the same plan
 /// is carried out again.
 fn expect(
@@ -123,7 +140,7 @@ fn is_done(rt: &impl Abort, alloc: Global, plan: &Plan, status: u8, text: &str, 
 {
     let mut out = Narrow::new(512);
     let mut errors = Narrow::new(512);
-    let answer = perform(alloc, plan, &mut "".as_bytes(), &mut out, &mut errors);
+    let answer = done_alone(alloc, plan, &mut "".as_bytes(), &mut out, &mut errors);
     if errors.taken() == "fault: memory\n".as_bytes() {
         assert_eq!(rt; answer, 1);
         assert_eq!(rt; out.taken(), "".as_bytes());

@@ -2,7 +2,7 @@
 ghost use Rattle.std.specs.Prelude.{IfOk};
 ghost use Rattle.abt_perform.specs.Plans.{IsWithinLimits};
 
-use crate::command::{CAPACITY, CODE, FILE, HEX, command};
+use crate::command::{CAPACITY, CODE, FILE, HEX, WORKERS, command};
 use abt_node::CAPACITY_MAX;
 use abt_perform::{Plan, WordsFault};
 use clap::ArgMatches;
@@ -12,9 +12,15 @@ use std::alloc::{AllocError, Global};
 // What a capacity has to be.
 const CAPACITY_RULE: &str = "a capacity is a decimal number of at most 2^60, digits alone";
 
+// What a count of link workers has to be.
+const WORKERS_RULE: &str = "there are 1 to 64 link workers, a decimal number, digits alone";
+
+// The most link workers of a run.
+const WORKERS_MAX: u64 = 64;
+
 /// The plan that the words behind the program's name ask for.
 ///
-/// `clap` decides which words are refused, and writes what is told then, and the help; a capacity is digits alone.
+/// `clap` decides which words are refused, and writes what is told then, and the help; a number is digits alone.
 pub fn plan_words<'a>(alloc: Global, words: &'a [&'a str]) -> Result<Plan, WordsFault>
     ensures limits { IfOk result IsWithinLimits }
 {
@@ -27,6 +33,7 @@ pub fn plan_words<'a>(alloc: Global, words: &'a [&'a str]) -> Result<Plan, Words
         Some(("cell", found)) => Ok(Plan::Cell(text_of(alloc, found, HEX)?)),
         Some(("port", found)) => port_plan(alloc, found),
         Some(("run", found)) => Ok(Plan::Run(file_of(alloc, found)?)),
+        Some(("threads", found)) => threads_plan(alloc, found),
         _ => no_plan(alloc, "no such command"),
     }
 }
@@ -49,6 +56,21 @@ fn port_plan(alloc: Global, found: &ArgMatches<'_>) -> Result<Plan, WordsFault>
         }
     }
     Ok(Plan::Port { capacity, cells })
+}
+
+fn threads_plan(alloc: Global, found: &ArgMatches<'_>) -> Result<Plan, WordsFault>
+    ensures { IfOk result IsWithinLimits }
+{
+    let digits = found.get_str(WORKERS).unwrap_or("");
+    let Some(workers) = found.get_one::<u64>(WORKERS) else {
+        return no_plan(alloc, WORKERS_RULE);
+    };
+    if workers == 0 || workers > WORKERS_MAX || !is_digits(digits) {
+        return no_plan(alloc, WORKERS_RULE);
+    }
+    let file = file_of(alloc, found)?;
+    let workers = workers as u16;
+    Ok(Plan::Threads { file, workers })
 }
 
 // Whether a text is digits alone: `clap` takes a plus sign as well.

@@ -13,7 +13,7 @@ use Rattle.abt_scenario.specs.declared.engine.EngineFault.TheVariants as engine
 use Rattle.abt_scenario.specs.declared.fault.ScenarioFault.{ScenarioFault}
 use Rattle.abt_scenario.specs.declared.fault.ScenarioFault.TheVariants as scenario
 use Rattle.abt_perform.specs.declared.fault.Fault.{Fault}
-use Rattle.abt_perform.specs.declared.fault.Fault.TheVariants.{Code, Hex, Length, Rm, Full, Read, TooLong, NotUtf8, Scenario, Write, Memory}
+use Rattle.abt_perform.specs.declared.fault.Fault.TheVariants.{Code, Hex, Length, Rm, Full, Read, TooLong, NotUtf8, Scenario, Workers, Scripts, Thread, Wound, Gather, NoOrder, Mismatch, Write, Memory}
 
 abbrev pub rm_fault_name : RmFault → Text
 rm_fault_name NotRm = codes "NotRm"
@@ -63,6 +63,13 @@ fault_name Read = codes "read"
 fault_name TooLong = codes "TooLong"
 fault_name NotUtf8 = codes "NotUtf8"
 fault_name (Scenario fault) = scenario_fault_name fault
+fault_name Workers = codes "Workers"
+fault_name Scripts = codes "Scripts"
+fault_name Thread = codes "Thread"
+fault_name Wound = codes "Wound"
+fault_name Gather = codes "Gather"
+fault_name NoOrder = codes "NoOrder"
+fault_name Mismatch = codes "Mismatch"
 fault_name Write = codes "write"
 fault_name Memory = codes "memory"
 

@@ -16,11 +16,21 @@ use Rattle.abt_perform.specs.declared.plan.WordsFault.{WordsFault}
 use Rattle.abt_perform.specs.declared.plan.WordsFault.TheVariants.{Words, Help}
 use Rattle.abt_perform.specs.declared.plan.WordsFault.TheVariants as words_fault
 use Rattle.abt_perform.specs.declared.plan.Plan.{Plan}
-use Rattle.abt_perform.specs.declared.plan.Plan.TheVariants.{Rate, Cell, Port, Run}
+use Rattle.abt_perform.specs.declared.plan.Plan.TheVariants.{Rate, Cell, Port, Run, Threads}
 
 abbrev pub IsWithinLimits : Plan → Type 0
 IsWithinLimits (Port capacity cells) = capacity ≤ 2 ^ 60
+IsWithinLimits (Threads file workers) = (1 ≤ workers) × (workers ≤ 64)
 IsWithinLimits _ = ⊤
+
+-- a plan for threads, and one that needs none
+abbrev pub IsForThreads : Plan → Type 0
+IsForThreads (Threads file workers) = ⊤
+IsForThreads _ = ⊥
+
+abbrev pub NeedsNoThreads : Plan → Type 0
+NeedsNoThreads (Threads file workers) = ⊥
+NeedsNoThreads _ = ⊤
 
 -- the octets of some strings
 abbrev pub texts_of : List (String Global) → List Text
@@ -31,12 +41,13 @@ abbrev pub text_seen : Result (String Global) Fault → Result Text Fault
 text_seen (Ok text) = Ok (string_bytes text)
 text_seen (Err fault) = Err fault
 
--- what a plan prints went out, all of it, where this is what the reader had left
+-- what a plan that needs no threads prints went out, all of it, where this is what the reader had left
 abbrev pub Prints : Plan → (left old new : Option Text) → Type 0
 Prints (Rate code) left old new = IsOkAnd (rate_text (string_bytes code)) (Appends old new)
 Prints (Cell hex) left old new = IsOkAnd (cell_text (string_bytes hex)) (Appends old new)
 Prints (Port capacity cells) left old new = Appends old new (port_text capacity (texts_of cells.items))
 Prints (Run file) left old new = Reports left old new
+Prints (Threads file workers) left old new = ⊥
 
 -- What went out where the text, or fault, that was to be printed isn't printed for this fault: a part of the text where the
 -- output failed, and else nothing, since memory was refused, or there is no text.
@@ -57,10 +68,12 @@ EndsBy fault (Rate code) left old new = EndsTextBy fault (rate_text (string_byte
 EndsBy fault (Cell hex) left old new = EndsTextBy fault (cell_text (string_bytes hex)) old new
 EndsBy fault (Port capacity cells) left old new = EndsTextBy fault (Ok (port_text capacity (texts_of cells.items))) old new
 EndsBy fault (Run file) left old new = EndsRunBy fault left old new
+EndsBy fault (Threads file workers) left old new = ⊥
 
 -- what a plan takes of the reader: nothing, but a scenario's text
 abbrev pub ReadsFor : Plan → (old new : Option Text) → Type 0
 ReadsFor (Run file) old new = ConsumesAtMost old new 16777217
+ReadsFor (Threads file workers) old new = ConsumesAtMost old new 16777217
 ReadsFor _ old new = Keeps old new
 
 -- a text went out as far as the writer took it

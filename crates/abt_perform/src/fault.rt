@@ -29,6 +29,20 @@ pub enum Fault {
     NotUtf8,
     /// The input is no scenario.
     Scenario(ScenarioFault),
+    /// There are no link workers, or too many.
+    Workers,
+    /// A jitter is above its connection's tau.
+    Scripts,
+    /// A thread couldn't be started.
+    Thread,
+    /// A port's journal was shorter than what a worker had seen of it.
+    Wound,
+    /// The journals of ports and the receipts of workers aren't those of one run.
+    Gather,
+    /// Entries of the journals are in no order in which they can have happened.
+    NoOrder,
+    /// An entry of a journal can't have been answered as it says.
+    Mismatch,
     /// The output can't be written.
     Write,
     /// No memory was found.
@@ -74,6 +88,13 @@ impl fmt::Display for Fault {
             Fault::TooLong => write!(f, "TooLong"),
             Fault::NotUtf8 => write!(f, "NotUtf8"),
             Fault::Scenario(fault) => write!(f, "{}", ScenarioFaultName(*fault)),
+            Fault::Workers => write!(f, "Workers"),
+            Fault::Scripts => write!(f, "Scripts"),
+            Fault::Thread => write!(f, "Thread"),
+            Fault::Wound => write!(f, "Wound"),
+            Fault::Gather => write!(f, "Gather"),
+            Fault::NoOrder => write!(f, "NoOrder"),
+            Fault::Mismatch => write!(f, "Mismatch"),
             Fault::Write => write!(f, "write"),
             Fault::Memory => write!(f, "memory"),
         }

@@ -12,6 +12,7 @@ mod scenario_fault;
 mod telling;
 
 pub use cell::message_hex;
+pub use fault::Fault;
 pub use performing::perform;
 pub use plan::{Plan, WordsFault};
-pub use telling::{MEMORY_LINE, OPEN_LINE, WRITE_LINE, tell_text};
+pub use telling::{MEMORY_LINE, OPEN_LINE, WRITE_LINE, tell_fault, tell_text};

@@ -2,7 +2,7 @@
 ghost use Rattle.std.specs.Prelude.{◌≡◌, ◌≢◌, ◌⊎◌, ◌≤◌, ◌^◌, ◌+◌, Ok, Err, IfOk, IfErr, OnOk, IsOkAnd, string_bytes};
 ghost use Rattle.std.specs.Io.KnownBytes.{Appends, Keeps};
 ghost use Rattle.abt_perform.specs.Names.{fault_line};
-ghost use Rattle.abt_perform.specs.Plans.{IsWithinLimits, Prints, EndsBy, EndsTextBy, EndsRunBy, ReadsFor, TellsFault, IsRefused, text_seen, texts_of};
+ghost use Rattle.abt_perform.specs.Plans.{IsWithinLimits, NeedsNoThreads, Prints, EndsBy, EndsTextBy, EndsRunBy, ReadsFor, IsRefused, text_seen, texts_of};
 ghost use Rattle.abt_perform.specs.PortText.{port_text};
 ghost use Rattle.abt_perform.specs.declared.fault.Fault.TheVariants.{Memory};
 ghost use Rattle.abt_scenario.specs.Engine.{Reports};
@@ -13,14 +13,14 @@ use crate::fault::Fault;
 use crate::plan::Plan;
 use crate::port::port_text;
 use crate::rate::rate_text;
-use crate::telling::{MEMORY_LINE, tell_text};
+use crate::telling::tell_fault;
 use abt_scenario::run_text;
 use abt_text::{TEXT_MAX, put};
 use std::alloc::Global;
 use std::io::{Read, Write};
 
-/// Carries a plan out, and gives the exit status: 0 where its whole text went out to `writer`, and 1 where a
-/// line on `errors` tells why not. A line that can't be written changes no status. Only a scenario is read.
+/// Carries a plan out that needs no threads, and gives the exit status: 0 where its whole text went out to `writer`, and 1
+/// where a line on `errors` tells why not. A line that can't be written changes no status. Only a scenario is read.
 pub fn perform<R: Read, W: Write, E: Write>(
     alloc: Global,
     plan: &Plan,
@@ -28,7 +28,8 @@ pub fn perform<R: Read, W: Write, E: Write>(
     writer: &mut W,
     errors: &mut E,
 ) -> u8
-    requires { IsWithinLimits plan.now }
+    requires limits { IsWithinLimits plan.now }
+    requires kind { NeedsNoThreads plan.now }
     ensures status { (result ≡ 0) ⊎ (result ≡ 1) }
     ensures reads { ReadsFor plan.now (R.remaining reader.old) (R.remaining reader.new) }
     ensures ok { result ≡ 0 → Prints plan.now (R.remaining reader.old) (W.contents writer.old) (W.contents writer.new) }
@@ -39,7 +40,7 @@ pub fn perform<R: Read, W: Write, E: Write>(
     match print(alloc, plan, reader, writer) {
         Ok(()) => 0,
         Err(fault) => {
-            tell(alloc, fault, errors);
+            tell_fault(alloc, fault, errors);
             1
         }
     }
@@ -52,7 +53,8 @@ fn print<R: Read, W: Write>(
     reader: &mut R,
     writer: &mut W,
 ) -> Result<(), Fault>
-    requires { IsWithinLimits plan.now }
+    requires limits { IsWithinLimits plan.now }
+    requires kind { NeedsNoThreads plan.now }
     ensures reads { ReadsFor plan.now (R.remaining reader.old) (R.remaining reader.new) }
     ensures ok { OnOk result (Prints plan.now (R.remaining reader.old) (W.contents writer.old) (W.contents writer.new)) }
     ensures err { IfErr result (λ fault.
@@ -66,6 +68,7 @@ fn print<R: Read, W: Write>(
             writer,
         ),
         Plan::Run(_) => run(alloc, reader, writer),
+        Plan::Threads { .. } => unreachable!(),
     }
 }
 
@@ -96,14 +99,4 @@ fn run<R: Read, W: Write>(alloc: Global, reader: &mut R, writer: &mut W) -> Resu
         EndsRunBy fault (R.remaining reader.old) (W.contents writer.old) (W.contents writer.new)) }
 {
     Ok(run_text(alloc, reader, writer)?)
-}
-
-// Writes the line of a fault, or, where no memory is found for it, the line of that.
-fn tell<E: Write>(alloc: Global, fault: Fault, errors: &mut E)
-    ensures { TellsFault fault (E.contents errors.old) (E.contents errors.new) }
-{
-    match fault.line(alloc) {
-        Ok(line) => tell_text(errors, line.as_str()),
-        Err(_) => tell_text(errors, MEMORY_LINE),
-    }
 }

@@ -13,6 +13,9 @@ pub enum Plan {
     Port { capacity: u64, cells: Vec<String> },
     /// Run the scenario of this file, or of the standard input, and print its report.
     Run(Option<String>),
+    /// Run the scripts of this file's scenario, or of the standard input's, in threads, with so many link workers, and say what
+    /// is shown of it.
+    Threads { file: Option<String>, workers: u16 },
 }
 
 /// Why words are no plan.

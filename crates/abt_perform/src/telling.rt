@@ -1,7 +1,9 @@
 //! Texts that are told as far as they are taken.
-ghost use Rattle.abt_perform.specs.Plans.{Tells};
+ghost use Rattle.abt_perform.specs.Plans.{Tells, TellsFault};
 
+use crate::fault::Fault;
 use abt_text::put;
+use std::alloc::Global;
 use std::io::Write;
 
 /// What is told where no memory is found.
@@ -18,4 +20,14 @@ pub fn tell_text<W: Write>(writer: &mut W, text: &str)
     ensures { Tells text.now (W.contents writer.old) (W.contents writer.new) }
 {
     let _ = put(writer, text.as_bytes());
+}
+
+/// Writes the line of a fault, or, where no memory is found for it, the line of that.
+pub fn tell_fault<E: Write>(alloc: Global, fault: Fault, errors: &mut E)
+    ensures { TellsFault fault (E.contents errors.old) (E.contents errors.new) }
+{
+    match fault.line(alloc) {
+        Ok(line) => tell_text(errors, line.as_str()),
+        Err(_) => tell_text(errors, MEMORY_LINE),
+    }
 }

@@ -39,6 +39,68 @@ fn words_are_plans(rt: HostRuntime) -> Result<(), Fail> {
     Ok(())
 }
 
+#[test]
+fn words_are_plans_for_threads(rt: HostRuntime) -> Result<(), Fail> {
+    let alloc = rt.alloc();
+    for (word, number) in [("1", 1), ("4", 4), ("64", 64), ("004", 4)] {
+        let Plan::Threads { file, workers } = planned(alloc, &["threads", "--workers", word])?
+        else {
+            return Err(Fail::from("no threads"));
+        };
+        assert_eq!(rt; workers, number);
+        assert!(rt; file.is_none());
+    }
+    for words in [
+        ["threads", "net.toml", "--workers", "4"],
+        ["threads", "--workers", "4", "net.toml"],
+    ] {
+        let Plan::Threads {
+            file: Some(file),
+            workers: 4,
+        } = planned(alloc, &words)?
+        else {
+            return Err(Fail::from("no threads over a file"));
+        };
+        assert_eq!(rt; file.as_str(), "net.toml");
+    }
+    Ok(())
+}
+
+#[test]
+fn link_workers_are_one_to_64_in_digits_alone(rt: HostRuntime) {
+    let alloc = rt.alloc();
+    assert!(rt; is_refused(&["threads"], alloc));
+    assert!(rt; is_refused(&["threads", "net.toml"], alloc));
+    assert!(rt; is_refused(&["threads", "--workers"], alloc));
+    for word in [
+        "0",
+        "00",
+        "65",
+        "+4",
+        "-4",
+        "x",
+        "",
+        "4x",
+        " 4",
+        "4.0",
+        "0x4",
+        "65540",
+        "18446744073709551620",
+    ] {
+        assert!(rt;
+            is_refused(&["threads", "--workers", word], alloc),
+            "{word}"
+        );
+        assert!(rt;
+            is_refused(&["threads", "net.toml", "--workers", word], alloc),
+            "{word}"
+        );
+    }
+    assert!(rt; is_refused(&["threads", "--workers", "4", "--workers", "4"], alloc));
+    assert!(rt; is_refused(&["threads", "a.toml", "b.toml", "--workers", "4"], alloc));
+    assert!(rt; is_refused(&["run", "--workers", "4"], alloc));
+}
+
 fn is_refused(words: &[&str], alloc: std::alloc::Global) -> bool {
     match plan_words(alloc, words) {
         Err(WordsFault::Memory) => matches!(plan_words(alloc, words), Err(WordsFault::Words(_))),
@@ -62,7 +124,6 @@ fn other_words_are_refused(rt: HostRuntime) {
     assert!(rt; is_refused(&["rate", "53e8", "53e8"], alloc));
     assert!(rt; is_refused(&["cell"], alloc));
     assert!(rt; is_refused(&["run", "a.toml", "b.toml"], alloc));
-    assert!(rt; is_refused(&["threads", "--workers", "4"], alloc));
     assert!(rt; is_refused(&["port", "--capacity", "5", A], alloc));
 }
 
@@ -89,6 +150,11 @@ fn help_shows_each_command_with_an_example(rt: HostRuntime) -> Result<(), Fail> 
             "run",
             "Usage: abt run [FILE]",
             "port 0 total 0 capacity 512000",
+        ),
+        (
+            "threads",
+            "Usage: abt threads --workers <N> [FILE]",
+            "gathered",
         ),
     ] {
         let Err(WordsFault::Help(text)) = plan_words(alloc, &[word, "--help"]) else {

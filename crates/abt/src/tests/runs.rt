@@ -1,8 +1,8 @@
 //! Rows of `abt run`, over readers that are handed in.
 ghost use Rattle.abt_perform.specs.Plans.{IsWithinLimits};
 
-use super::{Narrow, planned};
-use abt_perform::{Plan, perform};
+use super::{Narrow, done_alone, planned};
+use abt_perform::Plan;
 use std::alloc::Global;
 use std::io::{self, Error, ErrorKind, Read};
 use std::process::Abort;
@@ -67,7 +67,7 @@ fn is_run<R: Read>(
 {
     let mut out = Narrow::new(512);
     let mut errors = Narrow::new(512);
-    let status = perform(alloc, plan, reader, &mut out, &mut errors);
+    let status = done_alone(alloc, plan, reader, &mut out, &mut errors);
     if errors.taken() == "fault: memory\n".as_bytes() {
         assert_eq!(rt; status, 1);
         assert_eq!(rt; out.taken(), "".as_bytes());
@@ -196,7 +196,7 @@ fn breaks_off(rt: &impl Abort, alloc: Global, plan: &Plan, room: usize)
 {
     let mut out = Narrow::new(room);
     let mut errors = Narrow::new(512);
-    let status = perform(alloc, plan, &mut EXAMPLE.as_bytes(), &mut out, &mut errors);
+    let status = done_alone(alloc, plan, &mut EXAMPLE.as_bytes(), &mut out, &mut errors);
     assert_eq!(rt; status, 1);
     if errors.taken() == "fault: memory\n".as_bytes() {
         assert_eq!(rt; out.taken().len(), 0);

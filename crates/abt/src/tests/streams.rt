@@ -1,7 +1,7 @@
 ghost use Rattle.abt_perform.specs.Plans.{IsWithinLimits};
 
-use super::{Narrow, planned};
-use abt_perform::{Plan, perform};
+use super::{Narrow, done_alone, planned};
+use abt_perform::Plan;
 use std::alloc::Global;
 use std::process::Abort;
 use std::test::Fail;
@@ -21,7 +21,7 @@ fn breaks_off(rt: &impl Abort, alloc: Global, plan: &Plan, room: usize)
 {
     let mut out = Narrow::new(room);
     let mut errors = Narrow::new(512);
-    let status = perform(alloc, plan, &mut "".as_bytes(), &mut out, &mut errors);
+    let status = done_alone(alloc, plan, &mut "".as_bytes(), &mut out, &mut errors);
     let text = "53e8 units 512000 spacing 1000000000\n".as_bytes();
     assert_eq!(rt; errors.taken(), "fault: write\n".as_bytes());
     assert_eq!(rt; out.taken().len(), room);
@@ -44,7 +44,7 @@ fn tells_a_part(rt: &impl Abort, alloc: Global, plan: &Plan, room: usize)
 {
     let mut out = Narrow::new(512);
     let mut errors = Narrow::new(room);
-    let status = perform(alloc, plan, &mut "".as_bytes(), &mut out, &mut errors);
+    let status = done_alone(alloc, plan, &mut "".as_bytes(), &mut out, &mut errors);
     assert_eq!(rt; status, 1);
     assert!(rt; out.taken().is_empty());
     assert_eq!(rt; errors.taken().len(), room.min(12));

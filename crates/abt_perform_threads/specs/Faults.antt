@@ -1,0 +1,20 @@
+-- What the faults of a run, and of weaving it, are to the program.
+use Rattle.abt_perform.specs.declared.fault.Fault.{Fault}
+use Rattle.abt_perform.specs.declared.fault.Fault.TheVariants.{Workers, Scripts, Thread, Wound, Gather, NoOrder, Mismatch, Memory}
+use Rattle.abt_threads.specs.declared.fault.RunFault.{RunFault}
+use Rattle.abt_threads.specs.declared.fault.RunFault.TheVariants as run
+use Rattle.abt_weave.specs.declared.fault.WeaveFault.{WeaveFault}
+use Rattle.abt_weave.specs.declared.fault.WeaveFault.TheVariants as weave
+
+abbrev pub fault_of_run : RunFault → Fault
+fault_of_run run.Workers = Workers
+fault_of_run run.Scripts = Scripts
+fault_of_run run.Thread = Thread
+fault_of_run (run.Wound seen found) = Wound
+fault_of_run (run.Gather fault) = Gather
+fault_of_run run.Memory = Memory
+
+abbrev pub fault_of_weave : WeaveFault → Fault
+fault_of_weave (weave.Mismatch actor place) = Mismatch
+fault_of_weave (weave.NoOrder stuck) = NoOrder
+fault_of_weave weave.Memory = Memory

@@ -1,0 +1,30 @@
+//! What the faults of a run, and of weaving it, are to the program.
+ghost use Rattle.std.specs.Prelude.{◌≡◌};
+ghost use Rattle.abt_perform_threads.specs.Faults as named;
+
+use abt_perform::Fault;
+use abt_threads::RunFault;
+use abt_weave::WeaveFault;
+
+pub(crate) fn fault_of_run(fault: RunFault) -> Fault
+    ensures { result ≡ named.fault_of_run fault }
+{
+    match fault {
+        RunFault::Workers => Fault::Workers,
+        RunFault::Scripts => Fault::Scripts,
+        RunFault::Thread => Fault::Thread,
+        RunFault::Wound { .. } => Fault::Wound,
+        RunFault::Gather(_) => Fault::Gather,
+        RunFault::Memory => Fault::Memory,
+    }
+}
+
+pub(crate) fn fault_of_weave(fault: &WeaveFault) -> Fault
+    ensures { result ≡ named.fault_of_weave fault.now }
+{
+    match fault {
+        WeaveFault::Mismatch { .. } => Fault::Mismatch,
+        WeaveFault::NoOrder(_) => Fault::NoOrder,
+        WeaveFault::Memory => Fault::Memory,
+    }
+}

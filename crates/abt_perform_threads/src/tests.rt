@@ -1,0 +1,144 @@
+//! Stories of `abt threads` over readers and writers that are handed in. What it prints doesn't depend on the order in which the
+//! threads come.
+mod faults;
+mod lines;
+mod memory;
+mod streams;
+
+ghost use Rattle.std.specs.Prelude.{◌≤◌};
+
+use crate::perform_threads;
+use abt_perform::Plan;
+use std::alloc::Global;
+use std::io::{self, Error, ErrorKind, Read, Write};
+use std::process::Abort;
+use std::sync::Wait;
+use std::test::Fail;
+use std::thread::Threads;
+
+/// Three sources whose paths cross on two ports, with all that a script can have but failing stores. A source that hears no yes
+/// emits nothing.
+const CROSSING: &str = "ports = [512000, 512000]\n\
+[[connection]]\nvpi = 1\nvci = 100\npath = [0, 1]\ndelay = 1000\ntau = 200\n\
+script = [\"start 0\", \"ask 5120\", \"listen 1000000\", \"emit 1000000000000 0\", \"ask 5258\", \"listen 1000000\"]\n\
+[[connection]]\nvpi = 1\nvci = 101\npath = [1, 0]\ndelay = 1000\ntau = 200\n\
+script = [\"start 0\", \"ask 5258\", \"listen 1000000\", \"emit 1000000000000 200\", \"crash\", \"start 1000000000001\", \"ask 5120\"]\n\
+[[connection]]\nvpi = 1\nvci = 102\npath = [0]\ndelay = 0\ntau = 0\n\
+script = [\"start 0\", \"ask 5120\", \"again\", \"listen 1000000\", \"emit 1000000000000 lost\"]\n";
+
+/// A port, and a connection over it with tau 200, whose script follows.
+const ONE_PORT: &str =
+    "ports = [512000]\n[[connection]]\nvpi = 1\nvci = 100\npath = [0]\ndelay = 1000\ntau = 200\n";
+
+/// What is printed where nothing fails.
+const ALL: &str = "gathered\nwoven\nsafe\n";
+
+/// A writer that takes so many octets, and then fails.
+#[derive(Drop)]
+struct Narrow {
+    room: usize,
+    len: usize,
+    octets: [u8; 64],
+}
+
+impl Narrow {
+    fn new(room: usize) -> Narrow {
+        Narrow {
+            room,
+            len: 0,
+            octets: [0; 64],
+        }
+    }
+
+    fn taken(&self) -> &[u8] {
+        &self.octets[..self.len.min(64)]
+    }
+}
+
+impl Write for Narrow {
+    fn write(&mut self, buf: &[u8]) -> io::Result<usize> {
+        if self.len >= self.room || self.len >= 64 {
+            return Err(Error::from(ErrorKind::Other));
+        }
+        let count = buf.len().min(self.room - self.len).min(64 - self.len);
+        self.octets[self.len..self.len + count].copy_from_slice(&buf[..count]);
+        self.len += count;
+        Ok(count)
+    }
+
+    fn flush(&mut self) -> io::Result<()> {
+        Ok(())
+    }
+}
+
+/// How a run ended.
+#[derive(Drop)]
+struct Ended {
+    status: u8,
+    out: Narrow,
+    errors: Narrow,
+}
+
+impl Ended {
+    /// Whether memory was refused, or what a refusal can look like: a thread that doesn't start, and a worker that keeps no
+    /// receipt.
+    fn lacked_memory(&self) -> bool {
+        self.status == 1
+            && (self.errors.taken() == "fault: memory\n".as_bytes()
+                || self.errors.taken() == "fault: Thread\n".as_bytes()
+                || self.errors.taken() == "fault: Gather\n".as_bytes())
+    }
+
+    fn is(&self, status: u8, text: &str, fault: &str) -> bool {
+        self.status == status
+            && self.out.taken() == text.as_bytes()
+            && self.errors.taken() == fault.as_bytes()
+    }
+}
+
+/// Runs what a reader has with so many link workers, over an output with so much room.
+fn run_over<T: Threads + Wait + Sync, R: Read>(
+    rt: &T,
+    alloc: Global,
+    workers: u16,
+    reader: &mut R,
+    room: usize,
+) -> Ended
+    requires { (1 ≤ workers) × (workers ≤ 64) }
+{
+    let plan = Plan::Threads {
+        file: None,
+        workers,
+    };
+    let mut out = Narrow::new(room);
+    let mut errors = Narrow::new(64);
+    let status = perform_threads(rt, alloc, &plan, reader, &mut out, &mut errors);
+    Ended {
+        status,
+        out,
+        errors,
+    }
+}
+
+/// Runs a scenario's text, and demands the status, what goes out and what is told. Where memory is refused, it is run again.
+fn expect<T: Threads + Wait + Sync + Abort>(
+    rt: &T,
+    alloc: Global,
+    workers: u16,
+    scenario: &[u8],
+    text: &str,
+    fault: &str,
+) -> Result<(), Fail>
+    requires { (1 ≤ workers) × (workers ≤ 64) }
+{
+    let status = if fault.is_empty() { 0 } else { 1 };
+    for _attempt in 0..2 {
+        let mut reader = scenario;
+        let end = run_over(rt, alloc, workers, &mut reader, 64);
+        if end.is(status, text, fault) {
+            return Ok(());
+        }
+        assert!(rt; end.lacked_memory());
+    }
+    Err(Fail::from("memory was refused twice"))
+}
