@@ -13,8 +13,6 @@ mod pass;
 mod port;
 mod same;
 mod source;
-#[cfg(test)]
-mod tests;
 mod trying;
 mod weaving;
 

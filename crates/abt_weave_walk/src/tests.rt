@@ -8,4 +8,4 @@ mod others;
 mod parts;
 mod placing;
 mod search;
-mod small;
+mod large;
