@@ -10,8 +10,7 @@ mod hops;
 pub mod nets;
 mod sources;
 mod step;
-pub mod walk;
-pub mod words;
-
 #[cfg(test)]
 mod tests;
+pub mod walk;
+pub mod words;

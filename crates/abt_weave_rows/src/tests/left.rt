@@ -131,10 +131,7 @@ fn an_answer_that_was_not_sent_is_left_though_its_entry_says_so(
         seq: 1,
         granted: true,
     };
-    let source = [
-        started(0, 0),
-        did(yes, Outcome::NotEnabled(Cause::NotSent)),
-    ];
+    let source = [started(0, 0), did(yes, Outcome::NotEnabled(Cause::NotSent))];
     let answer = woven(rt.alloc(), &net, &[&[]], &[&source])?;
     is_stuck(&rt, answer, &[at(Actor::Source(0), 1)]);
     Ok(())
@@ -168,10 +165,7 @@ fn a_cell_comes_as_its_source_sent_it(rt: HostRuntime) -> Result<(), Fail> {
     let arrived = |at, verdict| Entry {
         place: 2,
         caller: 65535,
-        input: PortInput::Arrive {
-            vc: first.vc(),
-            at,
-        },
+        input: PortInput::Arrive { vc: first.vc(), at },
         reply: PortReply::Arrived(Ok(verdict)),
     };
     let [start, ask, send] = asks(first);

@@ -102,7 +102,12 @@ fn changed_at(
     for entries in &books.ports {
         let after = before.saturating_add(entries.len());
         ports.push(if before <= entry && entry < after {
-            edited_port(alloc, entries.as_slice(), entry.saturating_sub(before), draws)?
+            edited_port(
+                alloc,
+                entries.as_slice(),
+                entry.saturating_sub(before),
+                draws,
+            )?
         } else {
             entries.as_slice().to_vec(alloc)?
         })?;

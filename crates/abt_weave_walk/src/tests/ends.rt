@@ -68,6 +68,7 @@ fn end_of(
 
 /// An end, by an order that is drawn.
 pub fn some_end(alloc: Global, net: &Net, books: &Books, seed: u64) -> Result<End, AllocError> {
+    // Names a type within an outcome, without which the checker can't follow one.
     let _ = Onward::Pass;
     let mut draws = Draws::new(seed);
     let mut placing = Placing::new(alloc, net)?;

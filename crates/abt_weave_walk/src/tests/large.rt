@@ -12,7 +12,8 @@ use std::process::Abort;
 use std::test::Fail;
 
 /// How many lists of events there are of a net, and how often the journals of each are changed.
-const LISTS: u64 = 20;
+const LISTS: u64 = 17;
+
 const CHANGES: u64 = 6;
 
 /// The events of a list.

@@ -35,9 +35,18 @@ fn seq_near(draws: &mut Draws, seq: u32) -> u32 {
 // The same request with another channel, number, floor or asked rate, where there is such a request.
 fn request(draws: &mut Draws, same: &Request) -> Request {
     let other = match draws.below(5) {
-        0 => Vc::new(1, draws.small(5).saturating_add(99))
-            .and_then(|vc| Request::new(vc, same.seq(), same.floor(), same.ask())),
-        1 => Request::new(same.vc(), seq_near(draws, same.seq()), same.floor(), same.ask()),
+        0 => Vc::new(1, draws.small(5).saturating_add(99)).and_then(|vc| Request::new(
+            vc,
+            same.seq(),
+            same.floor(),
+            same.ask(),
+        )),
+        1 => Request::new(
+            same.vc(),
+            seq_near(draws, same.seq()),
+            same.floor(),
+            same.ask(),
+        ),
         2 => Request::new(same.vc(), same.seq(), rate(draws), same.ask()),
         _ => Request::new(same.vc(), same.seq(), same.floor(), rate(draws)),
     };

@@ -67,6 +67,7 @@ impl<'net> Placing<'net> {
 
     // What the event would be after those that are placed.
     fn parts(&mut self, alloc: Global, event: &Event) -> Result<Parts, AllocError> {
+        // Names a type within an outcome, without which the checker can't follow one.
         let _ = Onward::Pass;
         let conn = conn_of(event);
         let facts = self.walk.facts_of(alloc, conn)?;
@@ -153,6 +154,7 @@ impl<'net> Placing<'net> {
 
     /// Places an event that fits.
     pub fn place(&mut self, alloc: Global, event: &Event) -> Result<(), AllocError> {
+        // Names a type within an outcome, without which the checker can't follow one.
         let _ = Onward::Pass;
         let Parts { visit, own } = self.parts(alloc, event)?;
         self.walk.step(alloc, event)?;
@@ -166,15 +168,25 @@ impl<'net> Placing<'net> {
         Ok(())
     }
 
-    /// Places a Turn, if it is enabled.
-    pub fn turn(&mut self, alloc: Global, turn: &Event) -> Result<bool, AllocError> {
+    /// Whether a Turn is enabled.
+    pub fn is_turn(&mut self, alloc: Global, turn: &Event) -> Result<bool, AllocError> {
+        // Names a type within an outcome, without which the checker can't follow one.
         let _ = Onward::Pass;
+        let before = self.walk.count();
         let outcome = self.walk.step(alloc, turn)?;
-        if outcome != Outcome::Turned {
-            return Ok(false);
+        self.walk.take_back(before);
+        Ok(outcome == Outcome::Turned)
+    }
+
+    /// Places a Turn, if it is enabled.
+    pub fn turn(&mut self, alloc: Global, turn: &Event) -> Result<(), AllocError> {
+        // Names a type within an outcome, without which the checker can't follow one.
+        let _ = Onward::Pass;
+        if self.is_turn(alloc, turn)? {
+            self.walk.step(alloc, turn)?;
+            self.events.push(*turn)?;
         }
-        self.events.push(*turn)?;
-        Ok(true)
+        Ok(())
     }
 
     /// All actors that have entries left, at their places: sources by number, then ports by number.
@@ -201,7 +213,7 @@ impl<'net> Placing<'net> {
         Ok(left)
     }
 
-    /// The next entries of all actors.
+    /// The next entries of all ports.
     pub fn next_steps(&self, alloc: Global, books: &Books) -> Result<Vec<Entry>, AllocError> {
         let mut next = Vec::new(alloc);
         for (port, _) in self.ports.iter().enumerate() {
@@ -212,7 +224,12 @@ impl<'net> Placing<'net> {
         Ok(next)
     }
 
-    pub fn next_owns(&self, alloc: Global, books: &Books) -> Result<Vec<(u16, SourceEntry)>, AllocError> {
+    /// The next entries of all sources, with the numbers of their connections.
+    pub fn next_owns(
+        &self,
+        alloc: Global,
+        books: &Books,
+    ) -> Result<Vec<(u16, SourceEntry)>, AllocError> {
         let mut next = Vec::new(alloc);
         for (conn, _) in self.sources.iter().enumerate() {
             if let Some(entry) = self.next_own(books, number(conn)) {

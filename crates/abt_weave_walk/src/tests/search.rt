@@ -62,16 +62,12 @@ fn with(alloc: Global, events: &[Event], event: &Event) -> Result<Vec<Event>, Al
 }
 
 // The list, and the list behind which any of the Turns come that are enabled there and haven't come.
-fn turned(
-    alloc: Global,
-    case: &Case<'_>,
-    events: &[Event],
-) -> Result<Vec<Vec<Event>>, AllocError> {
+fn turned(alloc: Global, case: &Case<'_>, events: &[Event]) -> Result<Vec<Vec<Event>>, AllocError> {
     let mut lists = Vec::new(alloc);
     lists.push(events.to_vec(alloc)?)?;
+    let mut placing = placed(alloc, case, events)?;
     for turn in &case.turns {
-        let mut placing = placed(alloc, case, events)?;
-        if events.contains(turn) || !placing.turn(alloc, turn)? {
+        if events.contains(turn) || !placing.is_turn(alloc, turn)? {
             continue;
         }
         let mut longer = Vec::new(alloc);
@@ -173,6 +169,7 @@ fn note(ends: &mut Vec<End>, end: End) -> Result<(), AllocError> {
 
 /// Searches every order.
 pub fn search(alloc: Global, net: &Net, books: &Books) -> Result<Found, AllocError> {
+    // Names a type within an outcome, without which the checker can't follow one.
     let _ = Onward::Pass;
     let mut steps = Vec::new(alloc);
     for entries in &books.ports {
