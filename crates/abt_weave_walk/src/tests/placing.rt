@@ -50,6 +50,17 @@ fn one_more(counts: &mut Vec<u64>, number: u16) {
     }
 }
 
+// Whether both are what a source did, and it did the same.
+fn is_same_event(one: &SourceEntry, other: &SourceEntry) -> bool {
+    match one {
+        SourceEntry::Did(event, _) => match other {
+            SourceEntry::Did(told, _) => *event == *told,
+            _ => false,
+        },
+        _ => false,
+    }
+}
+
 fn zeros(alloc: Global, count: usize) -> Result<Vec<u64>, AllocError> {
     vec![in alloc; 0u64; count]
 }
@@ -63,6 +74,14 @@ impl<'net> Placing<'net> {
             ports: zeros(alloc, net.capacities().len())?,
             sources: zeros(alloc, net.conns().len())?,
         })
+    }
+
+    // The place of the next entry of the port that is visited.
+    fn place_of(&self, visit: &Option<Visit>) -> u64 {
+        match visit {
+            Some(visit) => at(self.ports.as_slice(), visit.port),
+            None => 0,
+        }
     }
 
     // What the event would be after those that are placed.
@@ -79,10 +98,7 @@ impl<'net> Placing<'net> {
             Some(conn) => visited(conn, &facts, event, &outcome),
             None => None,
         };
-        let place = match visit {
-            Some(visit) => at(self.ports.as_slice(), visit.port),
-            None => 0,
-        };
+        let place = self.place_of(&visit);
         let own = match conns.get(usize::from(conn)) {
             Some(_) => own(event, &outcome, place),
             None => None,
@@ -129,11 +145,10 @@ impl<'net> Placing<'net> {
         if next == own {
             return Fit::Fits;
         }
-        match (own, next) {
-            (SourceEntry::Did(event, _), SourceEntry::Did(told, _)) if event == told => {
-                Fit::But(Actor::Source(conn))
-            }
-            _ => Fit::No,
+        if is_same_event(&own, &next) {
+            Fit::But(Actor::Source(conn))
+        } else {
+            Fit::No
         }
     }
 
