@@ -154,8 +154,9 @@ impl<'net> Placing<'net> {
 
     /// Whether an event may come next.
     pub fn fit(&mut self, alloc: Global, books: &Books, event: &Event) -> Result<Fit, AllocError> {
-        // Names the types within a visit, without which the checker can't follow one.
+        // Names the types within entries, without which the checker can't follow one.
         let _ = PortReply::Requested(Onward::Pass);
+        let _ = SourceEntry::Did(*event, Outcome::Requested(Onward::Pass));
         let Parts { visit, own } = self.parts(alloc, event)?;
         if visit.is_none() && own.is_none() {
             return Ok(Fit::No);
