@@ -18,7 +18,7 @@ DOCUMENTS = [
     "docs/DECISIONS.md",
 ]
 LONGEST_FILE = 400
-# Crates of types, laws or tests: no public function of theirs has a body that a bug could stand in.
+# Crates of types, laws or tests: no public function of theirs has a body that a bug of the program could stand in.
 WITHOUT_BODIES = {
     "abt_facts",
     "abt_links",
@@ -29,6 +29,8 @@ WITHOUT_BODIES = {
     "abt_source_journal",
     "abt_trace",
     "abt_walk",
+    "abt_weave_rows",
+    "abt_weave_walk",
     "abt_woven",
 }
 

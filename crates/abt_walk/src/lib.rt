@@ -1,5 +1,16 @@
-//! Tests of whole runs, against a slow walk of the definitions.
+//! A slow walk of the definitions, which tests compare the code with, and lists of events that are drawn along it.
 #![tactic(auto)]
 
+mod cells;
+mod choices;
+pub mod drawn;
+pub mod draws;
+mod generate;
+mod hops;
+pub mod nets;
+mod sources;
+mod step;
 #[cfg(test)]
 mod tests;
+pub mod walk;
+pub mod words;

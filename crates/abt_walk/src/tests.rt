@@ -1,114 +1,15 @@
 //! Lists of events, answered by a slow walk of the definitions and by the code. The walk shares nothing with the code but
 //! the types of what it is given and answers.
 mod answers;
-mod cells;
-mod choices;
-mod draws;
 mod failing;
-mod generate;
-mod hops;
 mod lists;
-mod sources;
-mod step;
 mod stories;
-mod walk;
-mod words;
 
-use abt_cell::Vc;
-use abt_node::Onward;
+use crate::drawn::Walked;
+use crate::walk::{Standing, number};
 use abt_rate::Rate;
-use abt_world::{Conn, Event, Net, NetFault, Outcome, Path, Trace, World};
-use std::alloc::{AllocError, Global};
+use abt_world::{Trace, World};
 use std::process::Abort;
-use std::test::Fail;
-use walk::{Standing, Walk, number};
-
-/// A connection of VPI 1, with its access line.
-#[derive(Clone, Copy)]
-struct Access<'path> {
-    vci: u16,
-    path: &'path [u16],
-    delay: u64,
-    tau: u64,
-}
-
-/// The access line that the small nets have.
-fn line(vci: u16, path: &[u16]) -> Access<'_> {
-    Access {
-        vci,
-        path,
-        delay: 1000,
-        tau: 200,
-    }
-}
-
-fn build(alloc: Global, capacities: &[u64], lines: &[Access<'_>]) -> Result<Net, Fail> {
-    let mut conns = Vec::new(alloc);
-    for line in lines {
-        conns.push(Conn {
-            vc: Vc::new(1, line.vci).ok_or("no such channel")?,
-            path: Path::from(line.path.to_vec(alloc)?),
-            delay: line.delay,
-            tau: line.tau,
-        })?;
-    }
-    let net: Result<Net, NetFault> = Net::build(alloc, capacities.to_vec(alloc)?, conns);
-    Ok(net?)
-}
-
-/// One connection over one port of 1,000 cells per second.
-fn lone(alloc: Global) -> Result<Net, Fail> {
-    build(alloc, &[512000], &[line(100, &[0])])
-}
-
-/// Two connections that share the second of two ports of 1,000 cells per second.
-fn shared(alloc: Global) -> Result<Net, Fail> {
-    let lines = [line(100, &[1]), line(101, &[0, 1])];
-    build(alloc, &[512000, 512000], &lines)
-}
-
-/// Five connections over three ports, the third of the greatest rate, with the least and the greatest delays and tolerances.
-fn meshed(alloc: Global) -> Result<Net, Fail> {
-    let with = |vci, path, delay, tau| Access {
-        vci,
-        path,
-        delay,
-        tau,
-    };
-    let lines = [
-        with(100, [0, 1, 2].as_slice(), 0, 0),
-        with(101, [2, 0].as_slice(), 5, 1_000_000_000_000),
-        with(102, [1].as_slice(), 10_000_000_000_000, 1000),
-        with(103, [2].as_slice(), 1000, 200),
-        with(104, [1, 2].as_slice(), 0, 2_500_000_000),
-    ];
-    build(alloc, &[512000, 1_000_000, 2_196_875_771_904], &lines)
-}
-
-/// A list of events, what a walk answered to each, and how the net stood at its end.
-#[derive(Debug, Drop)]
-struct Walked {
-    events: Vec<Event>,
-    outcomes: Vec<Outcome>,
-    end: Standing,
-}
-
-/// Walks a net through events.
-fn walk_through(alloc: Global, net: &Net, events: Vec<Event>) -> Result<Walked, AllocError> {
-    // Names a type within an outcome, without which the checker can't follow one round the loop.
-    let _ = Onward::Pass;
-    let mut walk = Walk::new(alloc, net);
-    let mut outcomes = Vec::new(alloc);
-    for event in &events {
-        outcomes.push(walk.step(alloc, event)?)?;
-    }
-    let end = walk.standing(alloc)?;
-    Ok(Walked {
-        events,
-        outcomes,
-        end,
-    })
-}
 
 /// Demands that a run answered what the walk did, and ended where it did.
 fn agrees(rt: &impl Abort, trace: &Trace, walked: &Walked) {

@@ -14,8 +14,6 @@ mod port;
 mod same;
 mod source;
 mod sweep;
-#[cfg(test)]
-mod tests;
 mod trying;
 mod weaving;
 

@@ -1,6 +1,7 @@
 //! Which answers generated lists have: each that an event of a net can get is among them.
-use super::lists::generated;
-use super::{Walked, lone, meshed, shared};
+use super::lists::EVENTS;
+use crate::drawn::{Walked, generated};
+use crate::nets::{lone, meshed, shared};
 use abt_gcra::Verdict;
 use abt_node::{Back, DropCause, Onward};
 use abt_shaper::ShapeFault;
@@ -158,7 +159,7 @@ fn each_answer_that_an_event_can_get_is_in_some_list(rt: HostRuntime) -> Result<
     let mut seen = Vec::new(rt.alloc());
     for net in &nets {
         for seed in 1..=80 {
-            note(&mut seen, &generated(rt.alloc(), net, seed)?)?;
+            note(&mut seen, &generated(rt.alloc(), net, seed, EVENTS)?)?;
         }
     }
     for (kind, name) in &ANSWERS {

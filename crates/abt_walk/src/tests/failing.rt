@@ -1,10 +1,12 @@
 //! Stories in which a store fails to take the number of an ask, once at each ask, with and without a restart behind it. The
 //! stories are those that were worked by hand for single events; codes 5120, 5258 and 53e8 are 400, 600 and 1,000 cells per
 //! second, 7fff is the greatest.
+use super::agrees;
 use super::stories::*;
-use super::walk::{Walk, conn_of};
-use super::words::clock;
-use super::{Access, agrees, build, line, lone, shared, walk_through};
+use crate::drawn::walk_through;
+use crate::nets::{Access, build, line, lone, shared};
+use crate::walk::{Walk, conn_of};
+use crate::words::clock;
 use abt_keep::StorePlan;
 use abt_node::Onward;
 use abt_world::{Event, Net, run};

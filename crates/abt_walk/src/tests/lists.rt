@@ -1,15 +1,15 @@
 //! Generated lists of 200 events.
-use super::generate::Generator;
-use super::walk::Walk;
-use super::{Walked, agrees, lone, meshed, shared, stands};
-use abt_node::Onward;
+use super::{agrees, stands};
+use crate::drawn::{Walked, generated};
+use crate::nets::{lone, meshed, shared};
+use crate::walk::Walk;
 use abt_world::{Net, Outcome, World, run};
-use std::alloc::{AllocError, Global};
+use std::alloc::Global;
 use std::process::Abort;
 use std::test::Fail;
 
 /// The events of a list.
-const EVENTS: u64 = 200;
+pub const EVENTS: u64 = 200;
 
 /// The lists of a test, as many as it can go through in time where it is tried without proof.
 const LISTS: u64 = 167;
@@ -19,26 +19,6 @@ const LISTS: u64 = 167;
 struct Count {
     events: u64,
     enabled: u64,
-}
-
-pub fn generated(alloc: Global, net: &Net, seed: u64) -> Result<Walked, AllocError> {
-    // Names a type within an outcome, without which the checker can't follow one round the loop.
-    let _ = Onward::Pass;
-    let mut generator = Generator::new(seed);
-    let mut walk = Walk::new(alloc, net);
-    let mut events = Vec::new(alloc);
-    let mut outcomes = Vec::new(alloc);
-    for _ in 0..EVENTS {
-        let event = generator.event(alloc, &walk)?;
-        outcomes.push(walk.step(alloc, &event)?)?;
-        events.push(event)?;
-    }
-    let end = walk.standing(alloc)?;
-    Ok(Walked {
-        events,
-        outcomes,
-        end,
-    })
 }
 
 fn counted(count: Count, outcome: &Outcome) -> Count {
@@ -69,7 +49,7 @@ fn follow(rt: &impl Abort, alloc: Global, net: &Net, first: u64) -> Result<(), F
         enabled: 0,
     };
     for number in 0..LISTS {
-        let walked = generated(alloc, net, first.saturating_add(number))?;
+        let walked = generated(alloc, net, first.saturating_add(number), EVENTS)?;
         let trace = run(alloc, net, &walked.events)?;
         agrees(rt, &trace, &walked);
         steps(rt, alloc, net, &walked)?;
@@ -115,7 +95,7 @@ fn more_runs_of_five_connections_answer_what_a_slow_walk_does(rt: HostRuntime) -
 
 // Carries a world through a list, and looks at it after each event.
 fn looks(rt: &impl Abort, alloc: Global, net: &Net, seed: u64) -> Result<(), Fail> {
-    let walked = generated(alloc, net, seed)?;
+    let walked = generated(alloc, net, seed, EVENTS)?;
     let mut walk = Walk::new(alloc, net);
     let mut world = World::new(alloc, net)?;
     stands(rt, &world, &walk.standing(alloc)?);

@@ -1,36 +1,6 @@
 //! Small journals, whose weaving was worked by hand.
 use super::*;
 
-/// That the journals are woven into these events.
-fn gives(rt: &impl Abort, woven: Result<Sequence<Event>, WeaveFault>, events: &[Event]) {
-    match woven {
-        Ok(found) => assert_eq!(rt; found.as_slice(), events),
-        Err(fault) => assert!(rt; false, "{fault:?}"),
-    }
-}
-
-/// That nothing more can be placed, and that these entries are left.
-fn is_stuck(rt: &impl Abort, woven: Result<Sequence<Event>, WeaveFault>, left: &[Stuck]) {
-    match woven {
-        Err(WeaveFault::NoOrder(stuck)) => assert_eq!(rt; stuck.as_slice(), left),
-        answer => assert!(rt; false, "{answer:?}"),
-    }
-}
-
-/// That an entry can't have been answered as it says.
-fn mismatches(rt: &impl Abort, woven: Result<Sequence<Event>, WeaveFault>, entry: Stuck) {
-    match woven {
-        Err(WeaveFault::Mismatch { actor, place }) => {
-            assert_eq!(rt; Stuck { actor, place }, entry);
-        }
-        answer => assert!(rt; false, "{answer:?}"),
-    }
-}
-
-fn at(actor: Actor, place: u64) -> Stuck {
-    Stuck { actor, place }
-}
-
 #[test]
 fn a_port_that_served_what_no_source_sent_is_left(rt: HostRuntime) -> Result<(), Fail> {
     let net = lone(rt.alloc())?;
@@ -88,16 +58,10 @@ fn a_source_that_never_asked_hears_nothing(rt: HostRuntime) -> Result<(), Fail> 
 fn a_yes_is_turned_once_however_often_it_comes(rt: HostRuntime) -> Result<(), Fail> {
     let net = lone(rt.alloc())?;
     let first = request(100, 1, 0, 0x5258)?;
-    let yes = Entry {
-        place: 1,
-        caller: 7,
-        input: PortInput::Answer(Answer::of(&first, true)),
-        reply: PortReply::Answered(Back::Pass),
-    };
     let port = [
         served(0, 0, first, Onward::Pass),
-        yes,
-        Entry { place: 2, ..yes },
+        returned(1, first, true, Back::Pass),
+        returned(2, first, true, Back::Pass),
     ];
     let source = [
         started(0, 0),

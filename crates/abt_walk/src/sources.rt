@@ -1,7 +1,7 @@
 //! What a source answers (docs/RULES.md, "Source").
-use super::hops::is_answer_at;
-use super::step::{Step, adds, not_enabled, nothing};
-use super::words::{self, State, Terms, request_of};
+use crate::hops::is_answer_at;
+use crate::step::{Step, adds, not_enabled, nothing};
+use crate::words::{self, State, Terms, request_of};
 use abt_cell::Vc;
 use abt_facts::Fact;
 use abt_keep::StorePlan;

@@ -1,8 +1,8 @@
 //! A net that is walked through events: one list of facts, and every answer worked out anew from it.
-use super::cells::{self, AccessLine};
-use super::hops::{self, Link};
-use super::step::{Step, not_enabled};
-use super::{sources, words};
+use crate::cells::{self, AccessLine};
+use crate::hops::{self, Link};
+use crate::step::{Step, not_enabled};
+use crate::{sources, words};
 use abt_facts::Fact;
 use abt_gcra::Verdict;
 use abt_model::ConnectionFact;
@@ -100,6 +100,16 @@ impl<'net> Walk<'net> {
 
     pub fn net(&self) -> &'net Net {
         self.net
+    }
+
+    /// How many facts there are.
+    pub fn count(&self) -> usize {
+        self.facts.len()
+    }
+
+    /// Takes back all facts but so many.
+    pub fn take_back(&mut self, count: usize) {
+        self.facts.truncate(count);
     }
 
     /// The facts of one connection.

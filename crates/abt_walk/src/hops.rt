@@ -1,6 +1,6 @@
 //! What the facts of one connection say of its hops, and what requests and answers get there.
-use super::step::{Step, adds, not_enabled, nothing};
-use super::words::{self, request_of};
+use crate::step::{Step, adds, not_enabled, nothing};
+use crate::words::{self, request_of};
 use abt_cell::{Answer, Request, Vc};
 use abt_facts::Fact;
 use abt_node::{Back, DropCause, Onward};

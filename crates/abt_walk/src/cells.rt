@@ -1,7 +1,7 @@
 //! What the facts of one connection say of its cells, and what an arrival answers.
-use super::hops;
-use super::step::{Step, adds, not_enabled};
-use super::words::{asked, spacing};
+use crate::hops;
+use crate::step::{Step, adds, not_enabled};
+use crate::words::{asked, spacing};
 use abt_facts::Fact;
 use abt_gcra::Verdict;
 use abt_rate::Rate;

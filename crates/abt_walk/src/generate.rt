@@ -1,9 +1,9 @@
 //! Events that are drawn by looking at what has happened, so that most of them are enabled.
-use super::cells;
-use super::choices::{Sight, arrival, arrive, ask, emit, start};
-use super::draws::Draws;
-use super::walk::{Walk, number};
-use super::words::{self, State};
+use crate::cells;
+use crate::choices::{Sight, arrival, arrive, ask, emit, start};
+use crate::draws::Draws;
+use crate::walk::{Walk, number};
+use crate::words::{self, State};
 use abt_facts::Fact;
 use abt_rate::Rate;
 use abt_world::Event;

@@ -1,6 +1,6 @@
 //! What a source and its access line may do next, mostly at the edges of what they can.
-use super::draws::Draws;
-use super::{cells, words};
+use crate::draws::Draws;
+use crate::{cells, words};
 use abt_facts::Fact;
 use abt_keep::StorePlan;
 use abt_rate::Rate;

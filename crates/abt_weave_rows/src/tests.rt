@@ -1,18 +1,20 @@
 //! Journals by hand, each with what weaving them gives. Codes 5120, 5258 and 53e8 are 400, 600 and 1,000 cells per second
 //! (docs/RULES.md, "Rates").
+mod left;
 mod rows;
 
-use super::*;
 use abt_cell::{Answer, Request, Vc};
-use abt_gcra::Verdict;
 use abt_journal::{Entry, PortInput, PortReply};
 use abt_keep::StorePlan;
+use abt_list::Sequence;
 use abt_model::{Event, Heard, Outcome};
 use abt_net::{Conn, Net, NetFault, Path};
 use abt_node::{Back, DropCause, Onward};
 use abt_ports::Journals;
 use abt_rate::Rate;
 use abt_source_journal::{SourceEntry, SourceJournal};
+use abt_weave::{WeaveFault, weave};
+use abt_woven::{Actor, Stuck};
 use std::alloc::{AllocError, Global};
 use std::process::Abort;
 use std::test::Fail;
@@ -104,6 +106,16 @@ fn served(place: u64, caller: u16, request: Request, onward: Onward) -> Entry {
     }
 }
 
+/// An entry of a port for an answer to a request.
+fn returned(place: u64, request: Request, granted: bool, back: Back) -> Entry {
+    Entry {
+        place,
+        caller: 7,
+        input: PortInput::Answer(Answer::of(&request, granted)),
+        reply: PortReply::Answered(back),
+    }
+}
+
 /// Journals, of ports and of sources.
 #[derive(Drop)]
 struct Run {
@@ -142,8 +154,42 @@ fn woven(
         Ok(run) => run,
         Err(_) => run_of(alloc, ports, sources)?,
     };
+    let Run { journals, sources } = &run;
+    if journals.ports.len() != net.capacities().len() || sources.len() != net.conns().len() {
+        return Ok(Err(WeaveFault::Memory));
+    }
     match weave(alloc, net, &run.journals, run.sources.as_slice()) {
         Err(WeaveFault::Memory) => Ok(weave(alloc, net, &run.journals, run.sources.as_slice())),
         answer => Ok(answer),
     }
+}
+
+/// That the journals are woven into these events.
+fn gives(rt: &impl Abort, woven: Result<Sequence<Event>, WeaveFault>, events: &[Event]) {
+    match woven {
+        Ok(found) => assert_eq!(rt; found.as_slice(), events),
+        Err(fault) => assert!(rt; false, "{fault:?}"),
+    }
+}
+
+/// That nothing more can be placed, and that these entries are left.
+fn is_stuck(rt: &impl Abort, woven: Result<Sequence<Event>, WeaveFault>, left: &[Stuck]) {
+    match woven {
+        Err(WeaveFault::NoOrder(stuck)) => assert_eq!(rt; stuck.as_slice(), left),
+        answer => assert!(rt; false, "{answer:?}"),
+    }
+}
+
+/// That an entry can't have been answered as it says.
+fn mismatches(rt: &impl Abort, woven: Result<Sequence<Event>, WeaveFault>, entry: Stuck) {
+    match woven {
+        Err(WeaveFault::Mismatch { actor, place }) => {
+            assert_eq!(rt; Stuck { actor, place }, entry);
+        }
+        answer => assert!(rt; false, "{answer:?}"),
+    }
+}
+
+fn at(actor: Actor, place: u64) -> Stuck {
+    Stuck { actor, place }
 }

@@ -1,0 +1,5 @@
+//! Worked journals, and what weaving them gives.
+#![tactic(auto)]
+
+#[cfg(test)]
+mod tests;

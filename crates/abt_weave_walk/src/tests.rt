@@ -1,0 +1,13 @@
+//! Journals that events project to, woven again, and the same journals with something changed, whose answer a slow search finds.
+mod books;
+mod edits;
+mod ends;
+mod judge;
+mod large;
+mod named;
+mod others;
+mod parts;
+mod placing;
+mod search;
+mod small;
+mod whole;
