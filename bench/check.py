@@ -14,6 +14,7 @@ EXPECTED = {
     "many-ports": {"asked", "passed", "refuses", "turned", "told Raised", "told Refused"},
     "repeats": {"refuses", "dropped Stale", "turned", "told Ignored"},
     "cells": {"emitted", "arrived Conforming"},
+    "again": {"again"},
 }
 
 

@@ -1,7 +1,8 @@
 #!/usr/bin/env python3
 """Measures what `abt run` costs, and prints tables.
 
-Instructions are counted by callgrind and come out the same each time. Seconds are those of the fastest of some runs, on this machine.
+Instructions are counted by callgrind and come out the same each time. Seconds are those of the fastest of some runs, on this machine;
+where other programs run beside it, `--processor` takes the seconds that the processor worked.
 The peak of memory is what the system counted for the run; below some 20 MiB it is that of this script. Each run is looked at: its
 report has to tell of as many events as were written, all of them enabled, and has to end with `safe`.
 
@@ -19,7 +20,17 @@ from time import perf_counter
 HERE = Path(__file__).resolve().parent
 PROGRAM = HERE.parent / "crates" / "abt" / "out" / "abt"
 LONGEST = 16_777_216
-TESTED = [("one-port", 4), ("one-port", 16), ("one-port", 1024), ("many-ports", 16), ("many-ports", 1024), ("repeats", 16), ("cells", 16), ("cells", 1024)]
+TESTED = [
+    ("one-port", 4),
+    ("one-port", 16),
+    ("one-port", 1024),
+    ("many-ports", 16),
+    ("many-ports", 1024),
+    ("repeats", 16),
+    ("cells", 16),
+    ("cells", 1024),
+    ("again", 1),
+]
 # What the figures should keep to.
 MOST_INSTRUCTIONS = 2500
 MOST_GROWTH = 1.05
@@ -31,8 +42,8 @@ MOST_FOR_FULL_PORT = 1.1
 class Bench:
     """Runs of one program over scenarios in a folder of its own."""
 
-    def __init__(self, program, folder, runs):
-        self.program, self.folder, self.runs = program, Path(folder), runs
+    def __init__(self, program, folder, runs, is_processor):
+        self.program, self.folder, self.runs, self.is_processor = program, Path(folder), runs, is_processor
 
     def scenario(self, *words):
         """The file of a scenario, written where it isn't there yet."""
@@ -50,6 +61,8 @@ class Bench:
             _, status, usage = os.wait4(process.pid, 0)
             seconds = perf_counter() - began
         process.returncode = os.waitstatus_to_exitcode(status)
+        if self.is_processor:
+            seconds = usage.ru_utime + usage.ru_stime
         return process.returncode, seconds, usage.ru_maxrss / 1024
 
     def fastest(self, file):
@@ -58,17 +71,24 @@ class Bench:
 
     def looked_at(self):
         """The number of events of the report, which has to be that of a run as it should be."""
-        lines = (self.folder / "report").read_text().split("\n")
-        events = int(lines[0].removeprefix("events "))
-        outcomes = lines[1 : 1 + events]
-        if len(outcomes) != events or lines[-2] != "safe" or any(" not-enabled " in line for line in outcomes):
-            sys.exit(f"measure.py: the report isn't as it should be: {self.folder / 'report'}")
+        # Line by line, so that this script stays small: what it took counts for the peaks of later runs.
+        events, enabled, last = 0, 0, ""
+        with (self.folder / "report").open() as report:
+            for line in report:
+                if line.startswith("events "):
+                    events = int(line.removeprefix("events "))
+                enabled += line[0].isdigit() and " not-enabled " not in line
+                last = line
+        if enabled != events or last != "safe\n":
+            sys.exit(f"measure.py: {enabled} of {events} events are enabled, and the report ends with {last!r}")
         return events
 
     def instructions(self, file):
         """How many instructions a run takes; callgrind's file is `calls`."""
         words = ["valgrind", "--tool=callgrind", f"--callgrind-out-file={self.folder / 'calls'}", self.program, "run", file]
-        subprocess.run(words, stdout=subprocess.DEVNULL, stderr=subprocess.DEVNULL, check=True)
+        with (self.folder / "report").open("wb") as report:
+            subprocess.run(words, stdout=report, stderr=subprocess.DEVNULL, check=True)
+        self.looked_at()
         totals = [line for line in (self.folder / "calls").read_text().split("\n") if line.startswith("totals: ")]
         return int(totals[0].removeprefix("totals: "))
 
@@ -128,15 +148,16 @@ def exponent(low, high):
 
 def measure_seconds(bench, tested, sizes):
     """The table of seconds; gives what falls short."""
-    heading("kind, connections", *(f"s, {events:,} events" for events in sizes), f"exponent from {sizes[-2]:,}", "peak MiB")
+    first = 1 if len(sizes) > 2 else 0
+    heading("kind, connections", *(f"s, {events:,} events" for events in sizes), f"exponent from {sizes[first]:,}", "peak MiB")
     short = []
     for kind, connections in tested:
         taken = []
         for events in sizes:
             _, seconds, peak = bench.fastest(bench.scenario(*words_of(kind, connections, events)))
-            assert bench.looked_at() == events
+            bench.looked_at()
             taken.append((events, seconds))
-        grows = exponent(taken[-2], taken[-1])
+        grows = exponent(taken[first], taken[-1])
         row(named(kind, connections), *(f"{seconds:.3f}" for _, seconds in taken), f"{grows:.2f}", f"{peak:.0f}")
         if grows > MOST_EXPONENT:
             short.append(f"{named(kind, connections)}: the seconds grow with an exponent above {MOST_EXPONENT}")
@@ -178,16 +199,17 @@ def main():
     parser = argparse.ArgumentParser(description=__doc__, formatter_class=argparse.RawDescriptionHelpFormatter)
     parser.add_argument("--program", type=Path, default=PROGRAM, help="the program; without it, the one that `abt` built")
     parser.add_argument("--counted", type=numbers, default=[10_000, 100_000], metavar="N,N", help="the two numbers of events at which instructions are counted")
-    parser.add_argument("--sizes", type=numbers, default=[1_000, 10_000, 300_000], metavar="N,..", help="the numbers of events at which seconds are taken, two at least")
+    parser.add_argument("--sizes", type=numbers, default=[1_000, 10_000, 100_000, 300_000], metavar="N,..", help="the numbers of events at which seconds are taken; the exponent is from the second to the last of them, or from the first of two")
     parser.add_argument("--kinds", default="", metavar="WORD,..", help="only these kinds")
     parser.add_argument("--runs", type=int, default=3, metavar="N", help="how many runs, of which the fastest counts; without it, 3")
+    parser.add_argument("--processor", action="store_true", help="take the seconds that the processor worked, and not those that went by")
     parser.add_argument("--calls", type=int, default=0, metavar="N", help="list the N functions that cost most in each longer run")
     parser.add_argument("--only", choices=["instructions", "seconds", "longest", "refused"], help="only this table")
     words = parser.parse_args()
     tested = [one for one in TESTED if not words.kinds or one[0] in words.kinds.split(",")]
     short = []
     with tempfile.TemporaryDirectory() as folder:
-        bench = Bench(words.program.resolve(), folder, words.runs)
+        bench = Bench(words.program.resolve(), folder, words.runs, words.processor)
         if words.only in (None, "instructions"):
             short += count_instructions(bench, tested, *words.counted, words.calls)
         if words.only in (None, "seconds"):

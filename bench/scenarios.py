@@ -6,6 +6,7 @@ kinds:
   many-ports  the same over paths of eight of 64 ports, and the fourth hop refuses
   repeats     as one-port, and after each request ten messages of old ones come once more
   cells       sources were granted a rate and send cells at it, of which each sixteenth gets lost
+  again       sources send one request again and again: events that have hardly any text, so of one length the scenario with most events
   too-many    different connections, far more than a net may have, and no events: the net is refused
 
 The events of the connections alternate, so each event is of another connection than the one before. The same words give the same text.
@@ -79,8 +80,20 @@ def cells(conn, hops):
             yield f"arrive {conn} {cell} {now + DELAY + cell % TAU}"
 
 
+def agains(conn, hops):
+    yield from (f"start {conn} 0", f"ask {conn} {RATES[0]}")
+    while True:
+        yield f"again {conn}"
+
+
 # What the connections do in the kinds that have events, and whether their paths are long.
-KINDS = {"one-port": (requests, False), "many-ports": (requests, True), "repeats": (repeats, False), "cells": (cells, False)}
+KINDS = {
+    "one-port": (requests, False),
+    "many-ports": (requests, True),
+    "repeats": (repeats, False),
+    "cells": (cells, False),
+    "again": (agains, False),
+}
 
 
 def connection(conn, path):
