@@ -1,4 +1,5 @@
 pub mod RowsLemmas
+pub mod IndexLemmas
 pub mod ServedLemmas
 pub mod RuleLemmas
 pub mod TableLemmas

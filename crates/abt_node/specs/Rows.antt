@@ -2,6 +2,9 @@
 use Rattle.std.specs.Prelude.{◌≡◌, ◌≢◌, ℕ, ◌<◌, true, false, List, map, length, slice_index_or, sum_by, All, Option, None, Some}
 use Rattle.std.specs.List.{IsDistinct}
 use Rattle.std.specs.FinMap.{FinMap, from_entries}
+use Rattle.std.specs.declared.hash.BuildHasherDefault.{BuildHasherDefault}
+use Rattle.std.specs.declared.hash.FoldHasher.{FoldHasher}
+use Rattle.indexmap.specs.IndexMap as index
 use Rattle.abt_cell.specs.Channel.{Channel, channel_cmp, same_channel}
 use Rattle.abt_node.specs.Reservation.{Reservation}
 use Rattle.abt_node.specs.Table.{Connection, held_at}
@@ -42,3 +45,16 @@ pub record AreKept (rows : List Row) (total : ℕ) : Type 0 where
 abbrev pub IsPlaceOf : List Row → Channel → Option ℕ → Type 0
 IsPlaceOf rows vc None = All (λ row. row.vc ≢ vc) rows
 IsPlaceOf rows vc (Some i) = (i < length rows) × ((d : Row) → (slice_index_or rows i d).vc ≡ vc)
+
+-- an index of rows: places by connection
+abbrev pub Index : Type 0
+Index = index.IndexMap Channel ℕ (BuildHasherDefault FoldHasher)
+
+-- at each connection the index has the place of its row, and nothing where there is no row
+abbrev pub IsIndexOf : Index → List Row → Type 0
+IsIndexOf places rows = (vc : Channel) → IsPlaceOf rows vc (index.get same_channel places vc)
+
+-- what holds of a port: its rows are kept, and the index is theirs
+pub record AreIndexed (rows : List Row) (total : ℕ) (places : Index) : Type 0 where
+  pub kept : AreKept rows total
+  pub indexed : IsIndexOf places rows

@@ -2,10 +2,12 @@
 ghost use Rattle.std.specs.Prelude.{◌≡◌, ◌<◌, ◌≤◌, ◌↔◌, IsSome, IsNone, IsSomeAnd, IfOk, OnOk, OnErr, IsErrOf};
 ghost use Rattle.std.specs.Option.{option_map, ForSome};
 ghost use Rattle.std.specs.FinMap as map;
+ghost use Rattle.indexmap.specs.IndexMap as index;
+ghost use Rattle.abt_cell.specs.Channel.{same_channel};
 ghost use Rattle.abt_node.specs.Table.{new_table, opening, connection_at, with_connection, held_at, sum_of};
 ghost use Rattle.abt_node.specs.Table.{reply_to, table_after, answer_to, table_after_answer};
 ghost use Rattle.abt_node.specs.Table.{arrival_at, table_after_arrival, policing_at};
-ghost use Rattle.abt_node.specs.Rows.{IsPlaceOf, connection_of};
+ghost use Rattle.abt_node.specs.Rows.{connection_of};
 
 use crate::fault::{AddFault, ArriveFault};
 use crate::reply::{Back, DropCause, Onward};
@@ -14,6 +16,7 @@ use abt_cell::{Answer, Request, Vc};
 use abt_gcra::{ARRIVE_MAX, TAU_MAX, Verdict};
 use abt_ledger::Ledger;
 use abt_rate::Rate;
+use indexmap::IndexMap;
 use std::alloc::{AllocError, Global};
 use std::marker::Model;
 
@@ -36,11 +39,13 @@ pub struct Port {
     id: u16,
     ledger: Ledger,
     rows: Vec<Row>,
+    // The place of each connection's row.
+    places: IndexMap<Vc, usize>,
 }
 
 impl Model for Port {
     ghost use Rattle.abt_node.specs.Table.{Table, table_code};
-    ghost use Rattle.abt_node.specs.Rows.{connections_of, AreKept};
+    ghost use Rattle.abt_node.specs.Rows.{connections_of, AreIndexed};
 
     ghost Value = { Table };
 
@@ -52,14 +57,14 @@ impl Model for Port {
       connections = connections_of p.rows.items;
     } };
 
-    ghost invariant = { λ p. AreKept p.rows.items p.ledger.total };
+    ghost invariant = { λ p. AreIndexed p.rows.items p.ledger.total p.places };
 }
 
 // The place of a connection's row.
-fn place_of(rows: &[Row], vc: Vc) -> Option<usize>
-    ensures { IsPlaceOf rows.now vc result }
+fn place_of(places: &IndexMap<Vc, usize>, vc: Vc) -> Option<usize>
+    ensures { result ≡ index.get same_channel places.now vc }
 {
-    rows.iter().position(|row| row.vc == vc)
+    places.get(&vc).copied()
 }
 
 impl Port {
@@ -68,11 +73,13 @@ impl Port {
         requires { capacity ≤ CAPACITY_MAX }
         ensures { IfOk result (λ port. port ≡ new_table id capacity) }
     {
+        let places = IndexMap::with_capacity(alloc, ROWS_AT_FIRST)?;
         let rows = Vec::with_capacity(alloc, ROWS_AT_FIRST)?;
         Ok(Port {
             id,
             ledger: Ledger::new(capacity),
             rows,
+            places,
         })
     }
 
@@ -153,6 +160,9 @@ impl Port {
         if self.rows.reserve(1).is_err() {
             return Err(AddFault::Memory);
         }
+        if self.places.insert(vc, self.rows.len()).is_err() {
+            return Err(AddFault::Memory);
+        }
         let row = Row::opening(&mut self.ledger, vc, tau);
         self.rows.push_reserved(row);
         Ok(())
@@ -163,7 +173,7 @@ impl Port {
         ensures value { result ≡ reply_to self.old request.now }
         ensures table { self.new ≡ table_after self.old request.now }
     {
-        let Some(place) = place_of(&self.rows, request.vc()) else {
+        let Some(place) = place_of(&self.places, request.vc()) else {
             return Onward::Drop(DropCause::UnknownVc);
         };
         self.rows[place]
@@ -176,7 +186,7 @@ impl Port {
         ensures value { result ≡ answer_to self.old answer.now }
         ensures table { self.new ≡ table_after_answer self.old answer.now }
     {
-        let Some(place) = place_of(&self.rows, answer.vc()) else {
+        let Some(place) = place_of(&self.places, answer.vc()) else {
             return Back::Drop(DropCause::UnknownVc);
         };
         self.rows[place]
@@ -196,7 +206,7 @@ impl Port {
         ensures time_range { IsErrOf result ArriveFault.TimeRange
             ↔ IsSomeAnd (policing_at self.old vc) (λ p. (p.clock ≤ at) × (ARRIVE_MAX < at)) }
     {
-        let Some(place) = place_of(&self.rows, vc) else {
+        let Some(place) = place_of(&self.places, vc) else {
             return Err(ArriveFault::UnknownVc);
         };
         self.rows[place].apply_arrival(at)
@@ -205,7 +215,7 @@ impl Port {
     fn row_of(&self, vc: Vc) -> Option<&Row>
         ensures { option_map (λ row. connection_of row.now) result ≡ connection_at self.now vc }
     {
-        let place = place_of(&self.rows, vc)?;
+        let place = place_of(&self.places, vc)?;
         Some(&self.rows[place])
     }
 }
@@ -216,6 +226,7 @@ impl Drop for Port {
             id: _,
             mut ledger,
             mut rows,
+            places: _,
         } = self;
         while let Some(row) = rows.pop() {
             let Row {

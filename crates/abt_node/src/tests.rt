@@ -209,6 +209,52 @@ fn a_full_port_serves_those_it_knows(rt: HostRuntime) -> Result<(), Fail> {
 }
 
 #[test]
+fn a_full_port_answers_each_connection_for_itself(rt: HostRuntime) -> Result<(), Fail> {
+    let (rest, most, _) = rates();
+    let (first, middle, last) = (channel(0)?, channel(512)?, channel(1023)?);
+    let mut port = new_port(rt.alloc())?;
+    for vci in 0..1024u16 {
+        let tau = if vci == 512 { Some(TAU) } else { None };
+        add(&rt, &mut port, channel(vci)?, tau);
+    }
+    let beyond = channel(1024)?;
+    assert_eq!(rt; port.add(beyond, None), Err(AddFault::Full));
+    assert_eq!(rt; port.held(beyond), None);
+
+    // 400 and 600 of 1,000 cells per second: nothing is left for the last one.
+    let asks = request(first, 1, Rate::ZERO, rest)?;
+    assert_eq!(rt; port.request(&asks), Onward::Pass);
+    assert_eq!(rt;
+        port.request(&request(middle, 7, Rate::ZERO, most)?),
+        Onward::Pass
+    );
+    let refused = request(last, 3, Rate::ZERO, rest)?;
+    assert_eq!(rt;
+        port.request(&refused),
+        Onward::Refuse(Answer::of(&refused, false))
+    );
+    assert_eq!(rt; port.newest(first), Some(1));
+    assert_eq!(rt; port.newest(middle), Some(7));
+    assert_eq!(rt; port.newest(last), Some(3));
+    for vci in [1, 511, 513, 1022] {
+        assert_eq!(rt; port.newest(channel(vci)?), Some(0));
+    }
+    assert_eq!(rt; port.arrive(first, 5), Err(ArriveFault::NotIngress));
+    assert_eq!(rt; port.arrive(middle, 5), Ok(Verdict::Conforming));
+
+    // A no to the first one makes room.
+    assert_eq!(rt; port.answer(&Answer::of(&asks, false)), Back::Pass);
+    assert_eq!(rt;
+        port.request(&request(last, 4, Rate::ZERO, rest)?),
+        Onward::Pass
+    );
+    assert_eq!(rt; port.held(first), Some(Rate::ZERO));
+    assert_eq!(rt; port.held(middle), Some(most));
+    assert_eq!(rt; port.held(last), Some(rest));
+    Ok(())
+}
+
+#[test]
 fn a_grant_opens_and_shuts(rt: HostRuntime) -> Result<(), Fail> {
     let (_, most, all) = rates();
     let fits = request(channel(100)?, 1, Rate::ZERO, most)?;

@@ -1,8 +1,8 @@
 //! The lines of reports.
-ghost use Rattle.std.specs.Prelude.{◌≡◌, IfOk, string_bytes};
+ghost use Rattle.std.specs.Prelude.{◌≡◌, ◌++◌, IfOk, OnOk, string_bytes};
 ghost use Rattle.abt_report.specs.Report.{count_line, outcome_line, rates_text, conn_line, port_line, safe_line};
 
-use crate::outcome::outcome_text;
+use crate::outcome::push_outcome;
 use abt_model::Outcome;
 use abt_rate::Rate;
 use abt_text::HexCode;
@@ -15,16 +15,17 @@ pub(crate) fn count_line(alloc: Global, count: usize) -> Result<String, AllocErr
     format!(in alloc; "events {count}\n")
 }
 
-// What the event of a number answered.
-pub(crate) fn outcome_line(
-    alloc: Global,
+// What the event of a number answered. There are many such lines, so none is a text of its own.
+pub(crate) fn push_outcome_line(
+    text: &mut String,
     number: u64,
     outcome: &Outcome,
-) -> Result<String, AllocError>
-    ensures { IfOk result (λ text. string_bytes text ≡ outcome_line number outcome.now) }
+) -> Result<(), AllocError>
+    ensures { OnOk result (string_bytes text.new ≡ string_bytes text.old ++ outcome_line number outcome.now) }
 {
-    let answer = outcome_text(alloc, outcome)?;
-    format!(in alloc; "{number} {answer}\n")
+    write!(text, "{number} ")?;
+    push_outcome(text, outcome)?;
+    text.push_str("\n")
 }
 
 // The rate of a connection, and what each of its hops holds for it.

@@ -1,5 +1,5 @@
 //! The texts of outcomes.
-ghost use Rattle.std.specs.Prelude.{◌≡◌, IfOk, string_bytes};
+ghost use Rattle.std.specs.Prelude.{◌≡◌, ◌++◌, OnOk, string_bytes};
 ghost use Rattle.abt_report.specs.OutcomeText.{outcome_text, refused_text, request_text, shape_fault_text, onward_text, back_text};
 
 use crate::names::{
@@ -10,72 +10,79 @@ use abt_model::Outcome;
 use abt_node::{Back, Onward};
 use abt_shaper::ShapeFault;
 use abt_text::HexCode;
-use std::alloc::{AllocError, Global};
+use std::alloc::AllocError;
 
 // What an event answered, as reports say it (docs/FORMATS.md, "Report").
-pub(crate) fn outcome_text(alloc: Global, outcome: &Outcome) -> Result<String, AllocError>
-    ensures { IfOk result (λ text. string_bytes text ≡ outcome_text outcome.now) }
+pub(crate) fn push_outcome(text: &mut String, outcome: &Outcome) -> Result<(), AllocError>
+    ensures { OnOk result (string_bytes text.new ≡ string_bytes text.old ++ outcome_text outcome.now) }
 {
     match outcome {
-        Outcome::Started => String::from_str(alloc, "started"),
-        Outcome::StartRefused(fault) => refused_text(alloc, start_fault_name(*fault)),
-        Outcome::Asked(request) => request_text(alloc, "asked", request),
-        Outcome::AskRefused(fault) => refused_text(alloc, ask_fault_name(*fault)),
-        Outcome::Repeated(request) => request_text(alloc, "again", request),
-        Outcome::Crashed => String::from_str(alloc, "crashed"),
-        Outcome::Emitted { cell, next } => format!(in alloc; "emitted {cell} {next}"),
-        Outcome::EmitRefused(fault) => shape_fault_text(alloc, *fault),
-        Outcome::Arrived(verdict) => format!(in alloc; "arrived {}", verdict_name(*verdict)),
-        Outcome::Requested(reply) => onward_text(alloc, *reply),
-        Outcome::Turned => String::from_str(alloc, "turned"),
-        Outcome::Answered(reply) => back_text(alloc, *reply),
-        Outcome::Told(heard) => format!(in alloc; "told {}", heard_name(*heard)),
-        Outcome::NotEnabled(cause) => format!(in alloc; "not-enabled {}", cause_name(*cause)),
+        Outcome::Started => text.push_str("started"),
+        Outcome::StartRefused(fault) => push_refused(text, start_fault_name(*fault)),
+        Outcome::Asked(request) => push_request(text, "asked", request),
+        Outcome::AskRefused(fault) => push_refused(text, ask_fault_name(*fault)),
+        Outcome::Repeated(request) => push_request(text, "again", request),
+        Outcome::Crashed => text.push_str("crashed"),
+        Outcome::Emitted { cell, next } => write!(text, "emitted {cell} {next}"),
+        Outcome::EmitRefused(fault) => push_shape_fault(text, *fault),
+        Outcome::Arrived(verdict) => push_both(text, "arrived ", verdict_name(*verdict)),
+        Outcome::Requested(reply) => push_onward(text, *reply),
+        Outcome::Turned => text.push_str("turned"),
+        Outcome::Answered(reply) => push_back(text, *reply),
+        Outcome::Told(heard) => push_both(text, "told ", heard_name(*heard)),
+        Outcome::NotEnabled(cause) => push_both(text, "not-enabled ", cause_name(*cause)),
     }
 }
 
-fn refused_text(alloc: Global, name: &str) -> Result<String, AllocError>
-    ensures { IfOk result (λ text. string_bytes text ≡ refused_text name.now) }
+fn push_both(text: &mut String, word: &str, name: &str) -> Result<(), AllocError>
+    ensures { OnOk result (string_bytes text.new ≡ string_bytes text.old ++ (word.now ++ name.now)) }
 {
-    format!(in alloc; "refused {name}")
+    text.push_str(word)?;
+    text.push_str(name)
+}
+
+fn push_refused(text: &mut String, name: &str) -> Result<(), AllocError>
+    ensures { OnOk result (string_bytes text.new ≡ string_bytes text.old ++ refused_text name.now) }
+{
+    push_both(text, "refused ", name)
 }
 
 // The number, the floor and the asked rate of a request, behind a word.
-fn request_text(alloc: Global, word: &str, request: &Request) -> Result<String, AllocError>
-    ensures { IfOk result (λ text. string_bytes text ≡ request_text word.now request.now) }
+fn push_request(text: &mut String, word: &str, request: &Request) -> Result<(), AllocError>
+    ensures { OnOk result (string_bytes text.new ≡ string_bytes text.old ++ request_text word.now request.now) }
 {
     let seq = request.seq();
     let floor = HexCode(request.floor().code());
     let ask = HexCode(request.ask().code());
-    format!(in alloc; "{word} {seq} {floor} {ask}")
+    write!(text, "{word} {seq} {floor} {ask}")
 }
 
-fn shape_fault_text(alloc: Global, fault: ShapeFault) -> Result<String, AllocError>
-    ensures { IfOk result (λ text. string_bytes text ≡ shape_fault_text fault) }
+fn push_shape_fault(text: &mut String, fault: ShapeFault) -> Result<(), AllocError>
+    ensures { OnOk result (string_bytes text.new ≡ string_bytes text.old ++ shape_fault_text fault) }
 {
     match fault {
-        ShapeFault::ClockBack => refused_text(alloc, "ClockBack"),
-        ShapeFault::TimeRange => refused_text(alloc, "TimeRange"),
-        ShapeFault::Zero => refused_text(alloc, "Zero"),
-        ShapeFault::TooSoon { next } => format!(in alloc; "refused TooSoon {next}"),
+        ShapeFault::ClockBack => push_refused(text, "ClockBack"),
+        ShapeFault::TimeRange => push_refused(text, "TimeRange"),
+        ShapeFault::Zero => push_refused(text, "Zero"),
+        ShapeFault::TooSoon { next } => write!(text, "refused TooSoon {next}"),
     }
 }
 
-fn onward_text(alloc: Global, reply: Onward) -> Result<String, AllocError>
-    ensures { IfOk result (λ text. string_bytes text ≡ onward_text reply) }
+fn push_onward(text: &mut String, reply: Onward) -> Result<(), AllocError>
+    ensures { OnOk result (string_bytes text.new ≡ string_bytes text.old ++ onward_text reply) }
 {
     match reply {
-        Onward::Pass => String::from_str(alloc, "passed"),
-        Onward::Refuse(_) => String::from_str(alloc, "refuses"),
-        Onward::Drop(cause) => format!(in alloc; "dropped {}", drop_name(cause)),
+        Onward::Pass => text.push_str("passed"),
+        Onward::Refuse(_) => text.push_str("refuses"),
+        Onward::Drop(cause) => push_both(text, "dropped ", drop_name(cause)),
     }
 }
 
-fn back_text(alloc: Global, reply: Back) -> Result<String, AllocError>
-    ensures { IfOk result (λ text. string_bytes text ≡ back_text reply) }
+fn push_back(text: &mut String, reply: Back) -> Result<(), AllocError>
+    ensures { OnOk result (string_bytes text.new ≡ string_bytes text.old ++ back_text reply) }
 {
     match reply {
-        Back::Pass => String::from_str(alloc, "passed"),
-        Back::Drop(cause) => format!(in alloc; "dropped {}", drop_name(cause)),
+        Back::Pass => text.push_str("passed"),
+        Back::Drop(cause) => push_both(text, "dropped ", drop_name(cause)),
     }
 }

@@ -2,7 +2,7 @@
 ghost use Rattle.std.specs.Prelude.{◌≡◌, ◌++◌, IfOk, OnOk, string_bytes};
 ghost use Rattle.abt_report.specs.Report.{report_of, outcome_lines, conn_lines, port_lines};
 
-use crate::lines::{conn_line, count_line, outcome_line, port_line, safe_line};
+use crate::lines::{conn_line, count_line, port_line, push_outcome_line, safe_line};
 use abt_list::Sequence;
 use abt_model::Outcome;
 use abt_net::Net;
@@ -19,7 +19,7 @@ pub fn report_text(alloc: Global, net: &Net, trace: &Trace) -> Result<String, Al
     ensures { IfOk result (λ text. string_bytes text ≡ report_of net.now.capacities trace.now) }
 {
     let mut text = count_line(alloc, trace.outcomes.len())?;
-    push_outcomes(alloc, &mut text, trace.outcomes.as_slice())?;
+    push_outcomes(&mut text, trace.outcomes.as_slice())?;
     push_conns(
         alloc,
         &mut text,
@@ -31,12 +31,11 @@ pub fn report_text(alloc: Global, net: &Net, trace: &Trace) -> Result<String, Al
     Ok(text)
 }
 
-fn push_outcomes(alloc: Global, text: &mut String, outcomes: &[Outcome]) -> Result<(), AllocError>
+fn push_outcomes(text: &mut String, outcomes: &[Outcome]) -> Result<(), AllocError>
     ensures { OnOk result (string_bytes text.new ≡ string_bytes text.old ++ outcome_lines 1 outcomes.now) }
 {
     for (index, outcome) in outcomes.iter().enumerate() {
-        let line = outcome_line(alloc, index as u64 + 1, outcome)?;
-        text.push_str(line.as_str())?;
+        push_outcome_line(text, index as u64 + 1, outcome)?;
     }
     Ok(())
 }

@@ -1,24 +1,28 @@
-use Rattle.std.proofs.Common.{◌≡◌, Some, None, sym, ap, ◌∙◌, subst, refl, rules, get_or}
-use Rattle.std.proofs.lemmas.List.{get_or_default}
-use Rattle.abt_node.specs.Table.{connection_at, with_connection, arrival_at, arrival_of, arrival_by, held_at, table_by_arrival}
+use Rattle.std.proofs.Common.{◌≡◌, Some, None, sym, ap, ◌∙◌, subst, refl, rules}
+use Rattle.abt_node.specs.Table.{connection_at, with_connection, arrival_at, arrival_of, table_by_arrival}
 use Rattle.abt_node.specs.Rows.{IsPlaceOf, connection_of, row_held}
-use Rattle.abt_node.specs.declared.row.Row.{Row}
 use Rattle.abt_node.proofs.RowsLemmas.{AreKept-set, IsServed, served, table_of, get-IsPlaceOf-None, same_total}
+use Rattle.abt_node.proofs.IndexLemmas.{IsIndexOf-set}
 use Rattle.abt_node.proofs.ServedLemmas.{arrival_is, table_is_by_arrival}
 use Rattle.abt_node.proofs.port.Port.arrive.Goals as goal
 
 is_served : (c : goal.After-self-1) → IsServed c.self.inside.id c.self.inside.ledger.capacity c.self.inside.ledger.total c.self.inside.rows.items c.in-Some.place c.args.vc c.index_mut.result.now c.apply_arrival.new.self
 is_served c =
     served c.self.inside.id c.self.inside.ledger.capacity c.self.inside.ledger.total c.self.inside.rows.items c.in-Some.place c.args.vc
-    c.index_mut.result.now c.apply_arrival.new.self c.self.invariant (search rules) c.index_mut.ensures.value (ap (λ row. row.vc) c.apply_arrival.ensures.row)
+    c.index_mut.result.now c.apply_arrival.new.self c.self.invariant.kept (search rules) c.index_mut.ensures.value (ap (λ row. row.vc) c.apply_arrival.ensures.row)
 
 pub invariant_of-self : goal.invariant_of-self
 invariant_of-self c =
     let there = c.index_mut.ensures.value in
     let place : IsPlaceOf c.self.inside.rows.items c.args.vc (Some c.in-Some.place) = search rules in
-    AreKept-set c.self.inside.rows.items c.in-Some.place _ c.index_mut.result.now c.self.inside.ledger.total c.self.inside.ledger.total
-    c.self.invariant place.0 (ap (λ row. row.vc) c.apply_arrival.ensures.row ∙ ap (λ row. row.vc) there)
-    (same_total c.self.inside.rows.items c.in-Some.place c.index_mut.result.now c.index_mut.result.now c.apply_arrival.new.self c.self.inside.ledger.total c.self.invariant there place.0 (ap row_held c.apply_arrival.ensures.row))
+    let same = ap (λ row. row.vc) c.apply_arrival.ensures.row ∙ ap (λ row. row.vc) there in
+    record {
+      kept = AreKept-set c.self.inside.rows.items c.in-Some.place _ c.index_mut.result.now c.self.inside.ledger.total c.self.inside.ledger.total
+          c.self.invariant.kept place.0 same
+          (same_total c.self.inside.rows.items c.in-Some.place c.index_mut.result.now c.index_mut.result.now c.apply_arrival.new.self c.self.inside.ledger.total
+          c.self.invariant.kept there place.0 (ap row_held c.apply_arrival.ensures.row));
+      indexed = IsIndexOf-set c.self.inside.places c.self.inside.rows.items c.in-Some.place _ c.index_mut.result.now same c.self.invariant.indexed;
+    }
 
 pub returns-clause-value : goal.returns-clause-value
 returns-clause-value c =

@@ -5,4 +5,4 @@ use Rattle.abt_node.proofs.port.Port.count.Goals as goal
 
 pub returns : goal.returns
 returns c =
-    search rules ∙ sym (len-connections_of c.self.inside.rows.items c.self.invariant.distinct) ∙ ap (λ t. map.len t.connections) c.self.view_is
+    search rules ∙ sym (len-connections_of c.self.inside.rows.items c.self.invariant.kept.distinct) ∙ ap (λ t. map.len t.connections) c.self.view_is

@@ -1,8 +1,9 @@
 use Rattle.std.proofs.Common.{◌≡◌, Some, sym, ap, ◌∙◌, subst, refl, rules}
-use Rattle.abt_node.specs.Table.{reply_to, table_after, reply_by, table_by, decision_at}
+use Rattle.abt_node.specs.Table.{reply_to, reply_by, table_by, decision_at}
 use Rattle.abt_node.specs.Rows.{IsPlaceOf, connection_of, reservation_of}
 use Rattle.abt_node.specs.declared.row.Row.{Row}
 use Rattle.abt_node.proofs.RowsLemmas.{AreKept-set, IsServed, served, table_of, get-IsPlaceOf-None}
+use Rattle.abt_node.proofs.IndexLemmas.{IsIndexOf-set}
 use Rattle.abt_node.proofs.ServedLemmas.{line_by_total, reply_is, table_is}
 use Rattle.abt_node.proofs.port.Port.request.Goals as goal
 
@@ -12,7 +13,7 @@ row_after c = record { vc = c.index_mut.result.now.vc; grant = c.apply_request.n
 is_served : (c : goal.After-self-1) → IsServed c.self.inside.id c.self.inside.ledger.capacity c.self.inside.ledger.total c.self.inside.rows.items c.in-Some.place c.args.request.now.vc c.index_mut.result.now (row_after c)
 is_served c =
     served c.self.inside.id c.self.inside.ledger.capacity c.self.inside.ledger.total c.self.inside.rows.items c.in-Some.place c.args.request.now.vc
-    c.index_mut.result.now (row_after c) c.self.invariant (search rules) c.index_mut.ensures.value refl
+    c.index_mut.result.now (row_after c) c.self.invariant.kept (search rules) c.index_mut.ensures.value refl
 
 line : (c : goal.After-self-1) → (c.apply_request.result, reservation_of c.apply_request.new.self) ≡ decision_at (table_of c.self.inside.id c.self.inside.ledger.capacity c.self.inside.rows.items) c.args.request.now (connection_of c.index_mut.result.now)
 line c =
@@ -23,8 +24,12 @@ pub invariant_of-self : goal.invariant_of-self
 invariant_of-self c =
     let there = c.index_mut.ensures.value in
     let place : IsPlaceOf c.self.inside.rows.items c.args.request.now.vc (Some c.in-Some.place) = search rules in
-    AreKept-set c.self.inside.rows.items c.in-Some.place _ c.index_mut.result.now c.self.inside.ledger.total c.apply_request.new.ledger.total
-    c.self.invariant place.0 (ap (λ row. row.vc) there) (rw (← there) c.apply_request.ensures.total)
+    let same = ap (λ row. row.vc) there in
+    record {
+      kept = AreKept-set c.self.inside.rows.items c.in-Some.place _ c.index_mut.result.now c.self.inside.ledger.total c.apply_request.new.ledger.total
+          c.self.invariant.kept place.0 same (rw (← there) c.apply_request.ensures.total);
+      indexed = IsIndexOf-set c.self.inside.places c.self.inside.rows.items c.in-Some.place _ c.index_mut.result.now same c.self.invariant.indexed;
+    }
 
 pub returns-clause-value : goal.returns-clause-value
 returns-clause-value c =

@@ -19,4 +19,4 @@ returns c =
     let place : IsPlaceOf rows c.args.vc (Some c.in_ok-place.place) = search rules in
     let there : c.index.result.now ≡ get_or rows c.in_ok-place.place c.index.result.now = search rules in
     ap (λ (row : Row). Some (connection_of row)) there
-    ∙ sym (get-IsPlaceOf-Some rows c.in_ok-place.place c.index.result.now c.args.vc c.self.invariant.distinct place) ∙ ap (λ t. connection_at t c.args.vc) c.self.view_is
+    ∙ sym (get-IsPlaceOf-Some rows c.in_ok-place.place c.index.result.now c.args.vc c.self.invariant.kept.distinct place) ∙ ap (λ t. connection_at t c.args.vc) c.self.view_is

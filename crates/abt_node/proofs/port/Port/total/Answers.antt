@@ -5,5 +5,5 @@ use Rattle.abt_node.proofs.port.Port.total.Goals as goal
 
 pub returns-clause-value : goal.returns-clause-value
 returns-clause-value c =
-    c.total.ensures.value ∙ c.self.invariant.counted
-    ∙ sym (sum_of-connections_of c.self.inside.rows.items c.self.invariant.distinct) ∙ ap sum_of c.self.view_is
+    c.total.ensures.value ∙ c.self.invariant.kept.counted
+    ∙ sym (sum_of-connections_of c.self.inside.rows.items c.self.invariant.kept.distinct) ∙ ap sum_of c.self.view_is
