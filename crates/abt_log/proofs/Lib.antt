@@ -1,1 +1,2 @@
-mod Searches
+mod Emitted
+mod Indexed
