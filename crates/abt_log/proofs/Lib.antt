@@ -1,2 +1,2 @@
-mod Emitted
-mod Indexed
+pub mod Emitted
+pub mod Indexed

@@ -1,5 +1,5 @@
 //! Sets of hops.
-ghost use Rattle.std.specs.Prelude.{◌≡◌, ◌<◌, ◌==◌};
+ghost use Rattle.std.specs.Prelude.{◌≡◌, ◌<◌, ◌≤◌, ◌==◌};
 ghost use Rattle.std.specs.Int.{bit_at};
 ghost use Rattle.abt_log.specs.Hops.{none, with_hop, has_hop};
 
@@ -25,13 +25,15 @@ impl Hops {
         Hops { bits: 0 }
     }
 
-    // The hops with one more.
+    // The hops with one more, which is one that a path can have.
     pub(crate) fn with(self, hop: u16) -> Hops
-        requires { hop < 32 }
-        ensures { result ≡ with_hop self hop }
+        ensures value { hop < 32 → result ≡ with_hop self hop }
+        ensures same { 32 ≤ hop → result ≡ self }
     {
-        Hops {
-            bits: self.bits | 1 << hop,
+        if hop < 32 {
+            Hops { bits: self.bits | 1 << hop }
+        } else {
+            self
         }
     }
 

@@ -81,11 +81,11 @@ impl Log {
         self.emissions.reserve()
     }
 
-    /// Notes one more fact, for which there is room.
+    /// Notes one more fact, for which there is room, and which is one that can follow those before: a hop is one that a path can
+    /// have, and a cell has the number of those before it.
     pub fn note(&mut self, fact: Fact, looks: &mut Looks)
-        requires room { 1 ≤ self.old.room }
-        requires follows { CanFollow self.old.index fact }
-        ensures index { self.new.index ≡ noted fact self.old.index }
+        requires { 1 ≤ self.old.room }
+        ensures index { CanFollow self.old.index fact → self.new.index ≡ noted fact self.old.index }
         ensures room { self.old.room ≤ self.new.room + 1 }
         ensures looks { looks.new ≤ looks.old + 2 }
     {
@@ -200,7 +200,8 @@ impl Log {
     /// Whether each cell that arrived was found conforming.
     #[tactic(auto, using(crate::proofs::Indexed::conform_is))]
     pub fn all_conform(&self) -> bool
-        ensures { (facts : List FactSpec) → IsLogOf facts self.now → result ≡ list_all conforms_if_arrived facts }
+        ensures value { (facts : List FactSpec) → IsLogOf facts self.now → result ≡ list_all conforms_if_arrived facts }
+        ensures index { result ≡ self.now.index.conform }
     {
         self.conform
     }

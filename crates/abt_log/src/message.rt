@@ -49,8 +49,7 @@ impl Message {
 
     // The message after one more fact of it.
     pub(crate) fn after(&self, fact: &Fact) -> Message
-        requires { HasFewHops fact.now }
-        ensures { result ≡ changed fact.now self.now }
+        ensures { HasFewHops fact.now → result ≡ changed fact.now self.now }
     {
         let mut message = *self;
         match *fact {

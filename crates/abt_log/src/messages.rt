@@ -56,10 +56,9 @@ impl Messages {
 
     // Notes one more fact of a number, for which there is room, and gives the mark of its ask, 0 where there was none.
     pub(crate) fn note(&mut self, seq: u32, fact: &Fact, looks: &mut Looks) -> u64
-        requires room { 1 ≤ self.old.room }
-        requires hops { HasFewHops fact.now }
+        requires { 1 ≤ self.old.room }
         ensures mark { result ≡ (message_in self.old.entries seq).mark }
-        ensures entries { self.new.entries ≡ with_change (changed fact.now) seq self.old.entries }
+        ensures entries { HasFewHops fact.now → self.new.entries ≡ with_change (changed fact.now) seq self.old.entries }
         ensures room { self.old.room ≤ self.new.room + 1 }
         ensures looks { looks.new ≤ looks.old + 2 }
     {

@@ -6,3 +6,5 @@ mod Standings
 mod Pushing
 mod Openings
 mod Final
+mod Noting
+mod Stepping
