@@ -3,11 +3,13 @@
 mod answers;
 mod cells;
 mod choices;
+mod crowd;
 mod draws;
 mod failing;
 mod generate;
 mod hops;
 mod lists;
+mod logs;
 mod sources;
 mod step;
 mod stories;
