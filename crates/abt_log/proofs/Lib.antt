@@ -1,1 +1,2 @@
-mod Searches
+pub mod Emitted
+pub mod Indexed

@@ -1,14 +1,9 @@
--- A log, as contracts see it.
+-- What is asked of the facts of a connection.
 use Rattle.std.specs.Prelude.{ℕ, Bool, true, false, List, Option, None, Some, if◌then◌else◌}
 use Rattle.abt_gcra.specs.declared.verdict.Verdict.TheVariants.{Conforming}
 use Rattle.abt_facts.specs.declared.fact.Fact.{Fact}
 use Rattle.abt_facts.specs.declared.fact.Fact.TheVariants.{Arrived}
 use Rattle.abt_facts.specs.Requests.{was_asked, floor_of, ask_of}
-
--- the facts of a connection, the newest first, and for how many more there is room
-pub record LogView : Type 0 where
-  pub facts : List Fact
-  pub room : ℕ
 
 -- the floor and the asked rate of a number, if it was asked
 abbrev pub asked_in : List Fact → ℕ → Option (ℕ × ℕ)

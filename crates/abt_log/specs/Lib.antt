@@ -1,1 +1,4 @@
 pub mod Kept
+pub mod Hops
+pub mod Index
+pub mod Log

@@ -1,7 +1,12 @@
-//! The facts of one connection, kept as a list that is searched.
+//! What happened to one connection, found by number.
 #![tactic(auto)]
 
+mod emissions;
+mod hops;
 mod log;
-mod search;
+mod looks;
+mod message;
+mod messages;
 
 pub use log::Log;
+pub use looks::Looks;

@@ -1,137 +1,208 @@
 //! Logs.
-ghost use Rattle.std.specs.Prelude.{◌≡◌, ◌+◌, ◌≤◌, [], ◌∷◌, nat_lt, OnOk};
+ghost use Rattle.std.specs.Prelude.{◌≡◌, ◌+◌, ◌≤◌, List, nat_lt, OnOk};
 ghost use Rattle.std.specs.List.{list_all};
+ghost use Rattle.abt_log.specs.Index.{empty, noted, CanFollow};
 ghost use Rattle.abt_log.specs.Kept.{asked_in, conforms_if_arrived};
-ghost use Rattle.abt_facts.specs.Sent.{was_passed, was_shut, was_turned, was_back};
+ghost use Rattle.abt_log.specs.Log.{IsLogOf};
+ghost use Rattle.abt_facts.specs.declared.fact.Fact.{Fact as FactSpec};
+ghost use Rattle.abt_facts.specs.Sent as sent;
 ghost use Rattle.abt_facts.specs.Cells.{moment_of, after_last_of, last_arrival_of, delivered_mark_of};
 
-use crate::search;
+use crate::emissions::Emissions;
+use crate::looks::Looks;
+use crate::messages::Messages;
 use abt_facts::Fact;
+use abt_gcra::Verdict;
 use abt_rate::Rate;
 use std::alloc::{AllocError, Global};
 use std::marker::Model;
 
-/// The facts of one connection. Each question is answered by a search of the whole list.
+/// A cell that arrived, and when.
+#[derive(Clone, Copy, Debug, PartialEq, Eq)]
+struct Arrival {
+    cell: u64,
+    at: u64,
+}
+
+/// The facts of one connection, found by number. Each question costs the same, however many facts there are.
 #[derive(Debug, Drop)]
 pub struct Log {
-    // The oldest first.
-    facts: Vec<Fact>,
+    messages: Messages,
+    emissions: Emissions,
+    // The greatest mark of a request that came to the first hop.
     delivered_mark: u64,
+    last_arrival: Option<Arrival>,
+    // Whether each cell that arrived was found conforming.
+    conform: bool,
 }
 
 impl Model for Log {
-    ghost use Rattle.std.specs.Prelude.{◌≡◌, ◌-◌, reverse};
-    ghost use Rattle.abt_facts.specs.Cells.{delivered_mark_of};
-    ghost use Rattle.std.specs.Vec.{vec_capacity, vec_len};
-    ghost use Rattle.abt_log.specs.Kept.{LogView};
+    ghost use Rattle.std.specs.Prelude.{min};
+    ghost use Rattle.std.specs.Option.{option_map};
+    ghost use Rattle.abt_log.specs.Log.{LogView};
 
     ghost Value = { LogView };
 
-    ghost view = { λ l. record { facts = reverse l.facts.items; room = vec_capacity l.facts - vec_len l.facts } };
-
-    ghost invariant = { λ l. l.delivered_mark ≡ delivered_mark_of (reverse l.facts.items) };
+    ghost view = { λ l. record {
+      index = record {
+        messages = l.messages.entries;
+        emissions = l.emissions.moments;
+        mark = l.delivered_mark;
+        last = option_map (λ a. (a.cell, a.at)) l.last_arrival;
+        conform = l.conform;
+      };
+      room = min l.messages.room l.emissions.room;
+    } };
 }
 
 impl Log {
     /// A log without facts.
     pub fn new(alloc: Global) -> Log
-        ensures { result.facts ≡ [] }
+        ensures { result.index ≡ empty }
     {
         Log {
-            facts: Vec::new(alloc),
+            messages: Messages::new(alloc),
+            emissions: Emissions::new(alloc),
             delivered_mark: 0,
+            last_arrival: None,
+            conform: true,
         }
     }
 
     /// Makes room for two more facts.
+    ///
+    /// # Errors
+    /// Where memory is refused the log is the same.
     pub fn reserve(&mut self) -> Result<(), AllocError>
         ensures ok { OnOk result (2 ≤ self.new.room) }
-        ensures same { self.new.facts ≡ self.old.facts }
+        ensures same { self.new.index ≡ self.old.index }
     {
-        self.facts.reserve(2)
+        self.messages.reserve()?;
+        self.emissions.reserve()
     }
 
-    /// Notes one more fact, for which there is room.
-    pub fn note(&mut self, fact: Fact)
+    /// Notes one more fact, for which there is room, and which is one that can follow those before: a hop is one that a path can
+    /// have, and a cell has the number of those before it.
+    pub fn note(&mut self, fact: Fact, looks: &mut Looks)
         requires { 1 ≤ self.old.room }
-        ensures facts { self.new.facts ≡ fact ∷ self.old.facts }
+        ensures index { CanFollow self.old.index fact → self.new.index ≡ noted fact self.old.index }
         ensures room { self.old.room ≤ self.new.room + 1 }
+        ensures looks { looks.new ≤ looks.old + 2 }
     {
-        if let Fact::Delivered { seq } = fact {
-            let mark = search::mark(&self.facts, seq);
-            self.delivered_mark = self.delivered_mark.max(mark);
+        match fact {
+            Fact::Asked { seq, .. }
+            | Fact::Passed { seq, .. }
+            | Fact::Shut { seq, .. }
+            | Fact::Turned { seq }
+            | Fact::Back { seq, .. } => {
+                self.messages.note(seq, &fact, looks);
+            }
+            Fact::Delivered { seq } => {
+                let mark = self.messages.note(seq, &fact, looks);
+                self.delivered_mark = self.delivered_mark.max(mark);
+            }
+            Fact::Emitted { at, .. } => self.emissions.note(at),
+            Fact::Arrived {
+                cell,
+                at,
+                verdict,
+                ..
+            } => {
+                self.last_arrival = Some(Arrival { cell, at });
+                self.conform = self.conform && verdict == Verdict::Conforming;
+            }
+            Fact::Started { .. } | Fact::Crashed | Fact::Stored { .. } | Fact::Heard { .. } => {}
         }
-        self.facts.push_reserved(fact);
     }
 
     /// The floor and the asked rate of a number, if it was asked.
-    pub fn asked(&self, seq: u32) -> Option<(Rate, Rate)>
-        ensures { result ≡ asked_in self.now.facts seq }
+    pub fn asked(&self, seq: u32, looks: &mut Looks) -> Option<(Rate, Rate)>
+        ensures value { (facts : List FactSpec) → IsLogOf facts self.now → result ≡ asked_in facts seq }
+        ensures looks { looks.new ≤ looks.old + 1 }
     {
-        search::asked(&self.facts, seq)
+        let message = self.messages.of(seq, looks);
+        if message.asked {
+            Some((message.floor, message.ask))
+        } else {
+            None
+        }
     }
 
     /// Whether a hop passed a request on.
-    pub fn was_passed(&self, seq: u32, hop: u16) -> bool
-        ensures { result ≡ was_passed self.now.facts seq hop }
+    pub fn was_passed(&self, seq: u32, hop: u16, looks: &mut Looks) -> bool
+        ensures value { (facts : List FactSpec) → IsLogOf facts self.now → result ≡ sent.was_passed facts seq hop }
+        ensures looks { looks.new ≤ looks.old + 1 }
     {
-        search::was_passed(&self.facts, seq, hop)
+        self.messages.of(seq, looks).passed.has(hop)
     }
 
     /// Whether a hop shut a number.
-    pub fn was_shut(&self, seq: u32, hop: u16) -> bool
-        ensures { result ≡ was_shut self.now.facts seq hop }
+    pub fn was_shut(&self, seq: u32, hop: u16, looks: &mut Looks) -> bool
+        ensures value { (facts : List FactSpec) → IsLogOf facts self.now → result ≡ sent.was_shut facts seq hop }
+        ensures looks { looks.new ≤ looks.old + 1 }
     {
-        search::was_shut(&self.facts, seq, hop)
+        self.messages.of(seq, looks).shut.has(hop)
     }
 
     /// Whether what the last hop passed was turned into a yes.
-    pub fn was_turned(&self, seq: u32) -> bool
-        ensures { result ≡ was_turned self.now.facts seq }
+    pub fn was_turned(&self, seq: u32, looks: &mut Looks) -> bool
+        ensures value { (facts : List FactSpec) → IsLogOf facts self.now → result ≡ sent.was_turned facts seq }
+        ensures looks { looks.new ≤ looks.old + 1 }
     {
-        search::was_turned(&self.facts, seq)
+        self.messages.of(seq, looks).turned
     }
 
     /// Whether a hop passed a yes back.
-    pub fn was_back(&self, seq: u32, hop: u16) -> bool
-        ensures { result ≡ was_back self.now.facts seq hop }
+    pub fn was_back(&self, seq: u32, hop: u16, looks: &mut Looks) -> bool
+        ensures value { (facts : List FactSpec) → IsLogOf facts self.now → result ≡ sent.was_back facts seq hop }
+        ensures looks { looks.new ≤ looks.old + 1 }
     {
-        search::was_back(&self.facts, seq, hop)
+        self.messages.of(seq, looks).back.has(hop)
     }
 
     /// The moment at which a cell was emitted, in picoseconds.
-    pub fn emission(&self, cell: u64) -> u64
-        ensures { result ≡ moment_of self.now.facts cell }
+    #[tactic(auto, using(crate::proofs::Indexed::moment_is))]
+    pub fn emission(&self, cell: u64, looks: &mut Looks) -> u64
+        ensures value { (facts : List FactSpec) → IsLogOf facts self.now → result ≡ moment_of facts cell }
+        ensures looks { looks.new ≤ looks.old + 1 }
     {
-        search::emission(&self.facts, cell)
+        self.emissions.of(cell, looks)
     }
 
     /// The greatest mark of a request that came to the first hop.
+    #[tactic(auto, using(crate::proofs::Indexed::mark_is))]
     pub fn delivered_mark(&self) -> u64
-        ensures { result ≡ delivered_mark_of self.now.facts }
+        ensures { (facts : List FactSpec) → IsLogOf facts self.now → result ≡ delivered_mark_of facts }
     {
         self.delivered_mark
     }
 
     /// The moment of the last arrival, in picoseconds.
     pub fn last_arrival(&self) -> u64
-        ensures { result ≡ last_arrival_of self.now.facts }
+        ensures { (facts : List FactSpec) → IsLogOf facts self.now → result ≡ last_arrival_of facts }
     {
-        search::last_arrival(&self.facts)
+        match self.last_arrival {
+            Some(arrival) => arrival.at,
+            None => 0,
+        }
     }
 
     /// Whether a cell is one of those after the last that arrived.
     pub fn is_behind_last(&self, cell: u64) -> bool
-        ensures { result ≡ nat_lt cell (after_last_of self.now.facts) }
+        ensures { (facts : List FactSpec) → IsLogOf facts self.now → result ≡ nat_lt cell (after_last_of facts) }
     {
-        search::is_behind_last(&self.facts, cell)
+        match self.last_arrival {
+            Some(arrival) => cell <= arrival.cell,
+            None => false,
+        }
     }
 
     /// Whether each cell that arrived was found conforming.
-    #[tactic(auto, using(crate::proofs::Searches::all_of_reverse))]
+    #[tactic(auto, using(crate::proofs::Indexed::conform_is))]
     pub fn all_conform(&self) -> bool
-        ensures { result ≡ list_all conforms_if_arrived self.now.facts }
+        ensures value { (facts : List FactSpec) → IsLogOf facts self.now → result ≡ list_all conforms_if_arrived facts }
+        ensures index { result ≡ self.now.index.conform }
     {
-        search::all_conform(&self.facts)
+        self.conform
     }
 }

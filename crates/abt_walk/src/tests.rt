@@ -1,8 +1,10 @@
 //! Lists of events, answered by a slow walk of the definitions and by the code. The walk shares nothing with the code but
 //! the types of what it is given and answers.
 mod answers;
+mod crowd;
 mod failing;
 mod lists;
+mod logs;
 mod stories;
 
 use crate::drawn::Walked;

@@ -10,7 +10,9 @@ use Rattle.abt_facts.specs.declared.fact.Fact.{Fact}
 use Rattle.abt_facts.specs.declared.fact.Fact.TheVariants.{Started, Crashed, Stored, Asked, Heard, Emitted, Delivered, Passed, Shut, Turned, Back, Arrived}
 use Rattle.abt_facts.specs.Source.{rate_of}
 use Rattle.abt_facts.specs.Hop.{held_of}
+use Rattle.abt_log.specs.Index.{Index, index_of}
 use Rattle.abt_log.specs.Kept.{conforms_if_arrived}
+use Rattle.abt_log.proofs.Indexed.{conform_is}
 use Rattle.abt_net.specs.declared.conn.Conn.{Conn}
 use Rattle.abt_net.specs.Topology.{Topology, IsWithinRules}
 use Rattle.abt_node.specs.Table.{Table, sum_of, held_at, connection_at}
@@ -28,9 +30,10 @@ use Rattle.abt_model.proofs.EveryPasts.{every_safe}
 use Rattle.abt_model.proofs.Worlds.{cases_option}
 use Rattle.abt_trace.specs.Traces.{rates_after, held_after, held_along, totals_after}
 use Rattle.abt_world.specs.declared.course.Course.{Course}
-use Rattle.abt_world.specs.Courses.{seen}
+use Rattle.abt_world.specs.Seen.{seen}
 use Rattle.abt_safety.specs.Holding.{held_by_port, is_held_along}
-use Rattle.abt_world.specs.Standing.{CourseView, course_of, StandsFor}
+use Rattle.abt_world.specs.Standing.{StandsFor}
+use Rattle.abt_world.specs.Courses.{CourseView, course_of}
 use Rattle.abt_world.specs.Steps.{IsConnAt, port_at}
 use Rattle.abt_world.proofs.Arriving.{rate_there}
 use Rattle.abt_model.proofs.Served.{conn_within}
@@ -69,7 +72,8 @@ all_pairs_pass test (x ∷ xs) (y ∷ ys) h =
 -- the connections and the ports that a past gives
 pub record AreOfPast (net : Topology) (events : List Event) (courses : List Course) (ports : List Table) : Type 0 where
   pub rules : IsWithinRules net
-  pub stands : StandsFor net events (record { net = net; ports = ports; courses = map seen courses })
+  pub looks : ℕ
+  pub stands : StandsFor net events (record { net = net; ports = ports; courses = map seen courses; looks = looks })
 
 -- a connection that is there, and what is kept of it
 course_there :
@@ -210,13 +214,13 @@ sums_pass net events courses ports are =
 
 pub cells_pass :
     (net : Topology) (events : List Event) (courses : List Course) (ports : List Table) → AreOfPast net events courses ports →
-    list_all (λ (course : Course). list_all conforms_if_arrived course.log.facts) courses ≡ true
+    list_all (λ (course : Course). course.log.index.conform) courses ≡ true
 cells_pass net events courses ports are =
     let past = facts_after net events in
-    all_pass (λ (course : Course). list_all conforms_if_arrived course.log.facts) courses
+    all_pass (λ (course : Course). course.log.index.conform) courses
     (λ c course at. elim (cases_option (conn_at net c)) [
       | inl none ↦ absurd (let e = sym (slice_get-map seen courses c ∙ ap (option_map seen) at) ∙ are.stands.stands.courses c ∙ ap (option_map (λ (k : Conn). course_of k.vc (facts_of c past))) none in cc)
       | inr some ↦ (
-          let facts : course.log.facts ≡ facts_of c past = ap (λ (view : CourseView). view.facts) (course_there net events courses ports c some.0 course are some.1 at) in
-          subst (λ fs. list_all conforms_if_arrived fs ≡ true) (sym facts) (conforming_pass (facts_of c past) ((every_safe net events are.rules are.stands.rates).cells c)))
+          let index : course.log.index ≡ index_of (facts_of c past) = ap (λ (view : CourseView). view.index) (course_there net events courses ports c some.0 course are some.1 at) in
+          ap (λ (i : Index). i.conform) index ∙ conform_is (facts_of c past) ∙ conforming_pass (facts_of c past) ((every_safe net events are.rules are.stands.rates).cells c))
     ])

@@ -6,3 +6,5 @@ pub mod Standings
 mod Pushing
 mod Openings
 mod Final
+mod Noting
+mod Stepping

@@ -9,6 +9,7 @@ use Rattle.abt_net.specs.declared.conn.Conn.{Conn}
 use Rattle.abt_net.specs.Topology.{Topology, IsWithinRules}
 use Rattle.abt_node.specs.Table.{Table}
 use Rattle.abt_facts.specs.declared.fact.Fact.{Fact}
+use Rattle.abt_log.specs.Index.{Index, index_of}
 use Rattle.abt_actor.specs.Actor.{ActorView, actor_of}
 use Rattle.abt_model.specs.declared.connection_fact.ConnectionFact.{ConnectionFact}
 use Rattle.abt_model.specs.declared.event.Event.{Event}
@@ -24,7 +25,8 @@ use Rattle.abt_model.specs.Run.{facts_after}
 use Rattle.abt_model.proofs.EveryPasts.{every_safe, every_never_disputes, every_one_answer, every_rates_wait, every_yes_stands, every_arrival_conforms, every_next_is_due}
 use Rattle.abt_model.proofs.Runs.{facts_from_push}
 use Rattle.abt_model.proofs.Worlds.{after_event-unknown, facts_of-other}
-use Rattle.abt_world.specs.Standing.{CourseView, WorldView, course_of, IsOfPast, StandsFor}
+use Rattle.abt_world.specs.Standing.{WorldView, IsOfPast, StandsFor}
+use Rattle.abt_world.specs.Courses.{CourseView, course_of}
 use Rattle.abt_world.specs.Headline.{HeadlineHolds}
 use Rattle.abt_world.specs.Steps.{ArePorts, Leaves}
 use Rattle.abt_world.proofs.Serving.{set_here, set_other}
@@ -71,37 +73,43 @@ all_ask events e rates asks = All-append AsksRate events (e ∷ []) rates (All-c
 
 -- an event of no connection
 pub step_unknown :
-    (net : Topology) (events : List Event) (world : WorldView) (e : Event) → StandsFor net events world → AsksRate e → length net.conns ≤ conn_of e →
-    (NotEnabled Unknown ≡ outcome_of net (facts_after net events) e) × StandsFor net (events ++ e ∷ []) world
-step_unknown net events world e stands asks past_end =
+    (net : Topology) (events : List Event) (world : WorldView) (e : Event) (looks : ℕ) → StandsFor net events world → AsksRate e → length net.conns ≤ conn_of e →
+    (NotEnabled Unknown ≡ outcome_of net (facts_after net events) e) × StandsFor net (events ++ e ∷ []) (record { net = world.net; ports = world.ports; courses = world.courses; looks = looks })
+step_unknown net events world e looks stands asks past_end =
     let past = facts_after net events in
     let unknown : conn_at net (conn_of e) ≡ None = slice_get_past net.conns (conn_of e) past_end in
     let said : outcome_of net past e ≡ NotEnabled Unknown = ap (λ (o : Option Conn). outcome_at net past o e) unknown in
-    let same : facts_after net (events ++ e ∷ []) ≡ past = one_more net events e ∙ after_event-unknown net past e unknown in
-    (sym said, record { rates = all_ask events e stands.rates asks; stands = subst (λ (p : List ConnectionFact). IsOfPast net p world) (sym same) stands.stands })
+    let same : facts_after net (events ++ e ∷ []) ≡ past = one_more net events e ∙ after_event-unknown net past e unknown in (
+      sym said,
+      record {
+        rates = all_ask events e stands.rates asks;
+        stands = subst (λ (p : List ConnectionFact). IsOfPast net p (record { net = world.net; ports = world.ports; courses = world.courses; looks = looks })) (sym same)
+            (record { net_is = stands.stands.net_is; ports = stands.stands.ports; courses = stands.stands.courses });
+      },
+    )
 
 -- the connection that the event comes to
 pub course_at : (net : Topology) (past : List ConnectionFact) (world : WorldView) (c : ℕ) (conn : Conn) → IsOfPast net past world → conn_at net c ≡ Some conn →
     slice_get world.courses c ≡ Some (course_of conn.vc (facts_of c past))
 course_at net past world c conn is known = is.courses c ∙ ap (option_map (λ (k : Conn). course_of k.vc (facts_of c past))) known
 
-same_course : (course : CourseView) (actor : ActorView) (facts : List Fact) → course.actor ≡ actor → course.facts ≡ facts → course ≡ record { actor = actor; facts = facts }
-same_course course actor facts a f =
-    ap {A = ActorView} {B = CourseView} (λ x. record { actor = x; facts = course.facts }) a ∙ ap {A = List Fact} {B = CourseView} (λ x. record { actor = actor; facts = x }) f
+same_course : (course : CourseView) (actor : ActorView) (index : Index) → course.actor ≡ actor → course.index ≡ index → course ≡ record { actor = actor; index = index }
+same_course course actor index a i =
+    ap {A = ActorView} {B = CourseView} (λ x. record { actor = x; index = course.index }) a ∙ ap {A = Index} {B = CourseView} (λ x. record { actor = actor; index = x }) i
 
 pub some_same : {A : Type 0} (x y : A) → Some x ≡ Some y → x ≡ y
 some_same x y e = ap (λ o. unwrap_or o x) e
 
 -- an event that its connection took
 pub step_taken :
-    (net : Topology) (events : List Event) (world : WorldView) (e : Event) (conn : Conn) (outcome : Outcome) (course : CourseView) (ports : List Table) →
+    (net : Topology) (events : List Event) (world : WorldView) (e : Event) (conn : Conn) (outcome : Outcome) (course : CourseView) (ports : List Table) (looks : ℕ) →
     StandsFor net events world → AsksRate e → conn_at net (conn_of e) ≡ Some conn → conn_of e < length world.courses →
-    Leaves net (facts_after net events) e conn outcome course.actor course.facts ports →
-    (outcome ≡ outcome_of net (facts_after net events) e) × StandsFor net (events ++ e ∷ []) (record { net = world.net; ports = ports; courses = slice_set world.courses (conn_of e) course })
-step_taken net events world e conn outcome course ports stands asks known low leaves =
+    Leaves net (facts_after net events) e conn outcome course.actor course.index ports →
+    (outcome ≡ outcome_of net (facts_after net events) e) × StandsFor net (events ++ e ∷ []) (record { net = world.net; ports = ports; courses = slice_set world.courses (conn_of e) course; looks = looks })
+step_taken net events world e conn outcome course ports looks stands asks known low leaves =
     let past = facts_after net events in
     let c = conn_of e in
-    let course_is : course ≡ course_of conn.vc (facts_of c (after_event net past e)) = same_course course (actor_of conn.vc (facts_of c (after_event net past e))) (facts_of c (after_event net past e)) leaves.actor_is leaves.facts_are in
+    let course_is : course ≡ course_of conn.vc (facts_of c (after_event net past e)) = same_course course (actor_of conn.vc (facts_of c (after_event net past e))) (index_of (facts_of c (after_event net past e))) leaves.actor_is leaves.index_is in
     let each : (d : ℕ) → slice_get (slice_set world.courses c course) d ≡ option_map (λ (k : Conn). course_of k.vc (facts_of d (after_event net past e))) (conn_at net d) =
     λ d. elim (cases_eq c d) [
       | inl here ↦ subst (λ n. slice_get (slice_set world.courses c course) n ≡ option_map (λ (k : Conn). course_of k.vc (facts_of n (after_event net past e))) (conn_at net n)) here
@@ -112,7 +120,7 @@ step_taken net events world e conn outcome course ports stands asks known low le
       leaves.answer,
       record {
         rates = all_ask events e stands.rates asks;
-        stands = subst (λ (p : List ConnectionFact). IsOfPast net p (record { net = world.net; ports = ports; courses = slice_set world.courses c course })) (sym (one_more net events e))
+        stands = subst (λ (p : List ConnectionFact). IsOfPast net p (record { net = world.net; ports = ports; courses = slice_set world.courses c course; looks = looks })) (sym (one_more net events e))
             (record { net_is = stands.stands.net_is; ports = leaves.tables; courses = each });
       },
     )

@@ -1,6 +1,15 @@
--- What is kept of a connection, as contracts see it.
-use Rattle.abt_world.specs.declared.course.Course.{Course}
-use Rattle.abt_world.specs.Standing.{CourseView}
+-- A connection of a world, as contracts see it.
+use Rattle.std.specs.Prelude.{List}
+use Rattle.abt_cell.specs.Channel.{Channel}
+use Rattle.abt_facts.specs.declared.fact.Fact.{Fact}
+use Rattle.abt_actor.specs.Actor.{ActorView, actor_of}
+use Rattle.abt_log.specs.Index.{Index, index_of}
 
-abbrev pub seen : Course → CourseView
-seen course = record { actor = course.actor; facts = course.log.facts }
+-- a connection: the actor of its source, and the index of the facts that were noted of it
+pub record CourseView : Type 0 where
+  pub actor : ActorView
+  pub index : Index
+
+-- the connection that its facts give
+abbrev pub course_of : Channel → List Fact → CourseView
+course_of vc facts = record { actor = actor_of vc facts; index = index_of facts }

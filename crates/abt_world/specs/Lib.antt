@@ -1,6 +1,8 @@
+pub mod Courses
 pub mod Standing
 pub mod Steps
+pub mod Notes
 pub mod Opening
-pub mod Courses
+pub mod Seen
 pub mod Readings
 pub mod Headline

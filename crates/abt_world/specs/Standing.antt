@@ -1,11 +1,8 @@
 -- What a world stands for.
 use Rattle.std.specs.Prelude.{◌≡◌, ℕ, List, All, slice_get, option_map}
-use Rattle.abt_cell.specs.Channel.{Channel}
 use Rattle.abt_net.specs.declared.conn.Conn.{Conn}
 use Rattle.abt_net.specs.Topology.{Topology}
-use Rattle.abt_facts.specs.declared.fact.Fact.{Fact}
 use Rattle.abt_node.specs.Table.{Table}
-use Rattle.abt_actor.specs.Actor.{ActorView, actor_of}
 use Rattle.abt_model.specs.declared.connection_fact.ConnectionFact.{ConnectionFact}
 use Rattle.abt_model.specs.declared.event.Event.{Event}
 use Rattle.abt_model.specs.Conns.{conn_at}
@@ -13,21 +10,14 @@ use Rattle.abt_model.specs.Events.{AsksRate}
 use Rattle.abt_model.specs.Past.{facts_of}
 use Rattle.abt_model.specs.Run.{facts_after}
 use Rattle.abt_model.specs.PortTable.{port_table}
+use Rattle.abt_world.specs.Courses.{CourseView, course_of}
 
--- a connection: the actor of its source, and the facts that were noted of it
-pub record CourseView : Type 0 where
-  pub actor : ActorView
-  pub facts : List Fact
-
--- a world: its net, the tables of its ports, and its connections
+-- a world: its net, the tables of its ports, its connections, and how many entries its last event looked up
 pub record WorldView : Type 0 where
   pub net : Topology
   pub ports : List Table
   pub courses : List CourseView
-
--- the connection that its facts give
-abbrev pub course_of : Channel → List Fact → CourseView
-course_of vc facts = record { actor = actor_of vc facts; facts = facts }
+  pub looks : ℕ
 
 -- Each port has the table, and each connection the actor and the facts, that a past gives.
 pub record IsOfPast (net : Topology) (past : List ConnectionFact) (world : WorldView) : Type 0 where

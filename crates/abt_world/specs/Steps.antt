@@ -15,6 +15,7 @@ use Rattle.abt_model.specs.Answers.{is_hop}
 use Rattle.abt_model.specs.Conns.{conn_at}
 use Rattle.abt_model.specs.Events.{AsksRate}
 use Rattle.abt_model.specs.Past.{facts_of}
+use Rattle.abt_log.specs.Index.{Index, index_of}
 use Rattle.abt_actor.specs.Actor.{ActorView, actor_of}
 use Rattle.abt_model.specs.Outcomes.{conn_of, outcome_of, facts_added, after_event}
 use Rattle.abt_model.specs.Run.{facts_after}
@@ -57,8 +58,8 @@ unless None outcome = outcome
 unless (Some cause) outcome = NotEnabled cause
 
 -- what an event leaves of the course of its connection and of the ports
-pub record Leaves (net : Topology) (past : List ConnectionFact) (event : Event) (conn : Conn) (outcome : Outcome) (actor : ActorView) (facts : List Fact) (ports : List Table) : Type 0 where
+pub record Leaves (net : Topology) (past : List ConnectionFact) (event : Event) (conn : Conn) (outcome : Outcome) (actor : ActorView) (index : Index) (ports : List Table) : Type 0 where
   pub answer : outcome ≡ outcome_of net past event
-  pub facts_are : facts ≡ facts_of (conn_of event) (after_event net past event)
+  pub index_is : index ≡ index_of (facts_of (conn_of event) (after_event net past event))
   pub actor_is : actor ≡ actor_of conn.vc (facts_of (conn_of event) (after_event net past event))
   pub tables : ArePorts net (after_event net past event) ports

@@ -1,7 +1,9 @@
 //! What the arrival of a cell answers and adds, and what it makes of the port.
-ghost use Rattle.std.specs.Prelude.{◌≡◌, ◌+◌, ◌&&◌, nat_lt, nat_le, List};
+ghost use Rattle.std.specs.Prelude.{◌≡◌, ◌+◌, ◌≤◌, ◌&&◌, nat_lt, nat_le, List};
 ghost use Rattle.abt_actor.specs.Facts.{facts_in};
+ghost use Rattle.abt_facts.specs.declared.fact.Fact.{Fact as FactSpec};
 ghost use Rattle.abt_facts.specs.Cells.{emitted_of, fence_of};
+ghost use Rattle.abt_log.specs.Log.{IsLogOf};
 ghost use Rattle.abt_model.specs.declared.connection_fact.ConnectionFact.{ConnectionFact};
 ghost use Rattle.abt_model.specs.declared.event.Event.TheVariants.{Arrive};
 ghost use Rattle.abt_model.specs.Outcomes.{after_event};
@@ -13,14 +15,14 @@ use crate::hops::port_at;
 use crate::messages::not_enabled;
 use abt_actor::Added;
 use abt_facts::Fact;
-use abt_log::Log;
+use abt_log::{Log, Looks};
 use abt_model::{Cause, Outcome};
 use abt_net::Conn;
 use abt_node::Port;
 
 // Whether a cell is below the fence.
 fn is_fenced(log: &Log, cell: u64) -> bool
-    ensures { result ≡ nat_lt cell (fence_of log.now.facts) }
+    ensures { (facts : List FactSpec) → IsLogOf facts log.now → result ≡ nat_lt cell (fence_of facts) }
 {
     log.is_behind_last(cell) || cell < log.delivered_mark()
 }
@@ -36,14 +38,23 @@ fn is_in_time(conn: &Conn, emission: u64, at: u64) -> bool
 }
 
 // Why a cell can't arrive, if it can't.
-fn arrival_cause(conn: &Conn, log: &Log, emitted: u64, cell: u64, at: u64) -> Option<Cause>
-    ensures { emitted ≡ emitted_of log.now.facts → result ≡ steps.arrival_cause conn.now log.now.facts cell at }
+fn arrival_cause(
+    conn: &Conn,
+    log: &Log,
+    emitted: u64,
+    cell: u64,
+    at: u64,
+    looks: &mut Looks,
+) -> Option<Cause>
+    ensures value { (facts : List FactSpec) → IsLogOf facts log.now → emitted ≡ emitted_of facts →
+        result ≡ steps.arrival_cause conn.now facts cell at }
+    ensures looks { looks.new ≤ looks.old + 1 }
 {
     if cell >= emitted {
         Some(Cause::NotSent)
     } else if is_fenced(log, cell) {
         Some(Cause::Fenced)
-    } else if !is_in_time(conn, log.emission(cell), at) {
+    } else if !is_in_time(conn, log.emission(cell, looks), at) {
         Some(Cause::Delay)
     } else if at < log.last_arrival() {
         Some(Cause::ClockBack)
@@ -61,13 +72,16 @@ pub(crate) fn arrive(
     ports: &mut [Port],
     cell: u64,
     at: u64,
+    looks: &mut Looks,
 ) -> (Outcome, Added)
-    ensures { (net : Topology) (past : List ConnectionFact) → IsConnAt net past place conn.now log.now.facts →
-        ArePorts net past ports.old → emitted ≡ emitted_of log.now.facts →
+    ensures outcome { (net : Topology) (past : List ConnectionFact) (facts : List FactSpec) → IsLogOf facts log.now →
+        IsConnAt net past place conn.now facts →
+        ArePorts net past ports.old → emitted ≡ emitted_of facts →
         Happens net past (Arrive place cell at) result.0 (facts_in result.1)
         × ArePorts net (after_event net past (Arrive place cell at)) ports.new }
+    ensures looks { looks.new ≤ looks.old + 3 }
 {
-    if let Some(cause) = arrival_cause(conn, log, emitted, cell, at) {
+    if let Some(cause) = arrival_cause(conn, log, emitted, cell, at, looks) {
         return not_enabled(cause);
     }
     let Some(port) = port_at(conn, 1) else {
@@ -77,10 +91,10 @@ pub(crate) fn arrive(
     if port >= ports.len() {
         return not_enabled(Cause::Unknown);
     }
-    let Some(rate) = ports[port].held(conn.vc) else {
+    let Some(rate) = ports[looks.counting(port)].held(conn.vc) else {
         return not_enabled(Cause::Unknown);
     };
-    let Ok(verdict) = ports[port].arrive(conn.vc, at) else {
+    let Ok(verdict) = ports[looks.counting(port)].arrive(conn.vc, at) else {
         return not_enabled(Cause::Unknown);
     };
     let fact = Fact::Arrived {

@@ -1,16 +1,19 @@
 //! The course of one connection.
-ghost use Rattle.std.specs.Prelude.{◌≡◌, ◌≤◌, ◌++◌, List, MatchResult};
+ghost use Rattle.std.specs.Prelude.{◌≡◌, ◌+◌, ◌≤◌, List, MatchResult};
 ghost use Rattle.abt_actor.specs.Actor.{actor_of};
 ghost use Rattle.abt_actor.specs.Facts.{facts_in};
+ghost use Rattle.abt_facts.specs.declared.fact.Fact.{Fact as FactSpec};
+ghost use Rattle.abt_log.specs.Log.{IsLogOf};
 ghost use Rattle.abt_model.specs.declared.connection_fact.ConnectionFact.{ConnectionFact};
 ghost use Rattle.abt_model.specs.Events.{AsksRate};
 ghost use Rattle.abt_model.specs.Outcomes.{conn_of};
 ghost use Rattle.abt_net.specs.Topology.{Topology};
+ghost use Rattle.abt_world.specs.Notes.{all_noted, CanAllFollow};
 ghost use Rattle.abt_world.specs.Steps.{IsConnAt, ArePorts, Leaves};
 
 use crate::happen::happen;
 use abt_actor::{Added, SourceActor};
-use abt_log::Log;
+use abt_log::{Log, Looks};
 use abt_model::{Event, Outcome};
 use abt_net::Conn;
 use abt_node::Port;
@@ -24,16 +27,17 @@ pub(crate) struct Course {
 }
 
 // Notes what was added, for which there is room.
-fn note(log: &mut Log, added: Added)
+fn note(log: &mut Log, added: Added, looks: &mut Looks)
     requires { 2 ≤ log.old.room }
-    ensures { log.new.facts ≡ facts_in added ++ log.old.facts }
+    ensures index { CanAllFollow (facts_in added) log.old.index → log.new.index ≡ all_noted (facts_in added) log.old.index }
+    ensures looks { looks.new ≤ looks.old + 4 }
 {
     match added {
         Added::Nothing => {}
-        Added::One(fact) => log.note(fact),
+        Added::One(fact) => log.note(fact, looks),
         Added::Two(newer, older) => {
-            log.note(older);
-            log.note(newer);
+            log.note(older, looks);
+            log.note(newer, looks);
         }
     }
 }
@@ -45,16 +49,18 @@ impl Course {
         conn: &Conn,
         ports: &mut [Port],
         event: &Event,
+        looks: &mut Looks,
     ) -> Result<Outcome, AllocError>
-        ensures { (net : Topology) (past : List ConnectionFact) → AsksRate event.now →
-            IsConnAt net past (conn_of event.now) conn.now self.old.log.facts → ArePorts net past ports.old →
-            self.old.actor ≡ actor_of conn.now.vc self.old.log.facts → MatchResult result
-            (λ outcome. Leaves net past event.now conn.now outcome self.new.actor self.new.log.facts ports.new)
-            (λ _. (self.new.actor ≡ self.old.actor) × (self.new.log.facts ≡ self.old.log.facts) × (ports.new ≡ ports.old)) }
+        ensures outcome { (net : Topology) (past : List ConnectionFact) (facts : List FactSpec) → IsLogOf facts self.old.log →
+            AsksRate event.now → IsConnAt net past (conn_of event.now) conn.now facts → ArePorts net past ports.old →
+            self.old.actor ≡ actor_of conn.now.vc facts → MatchResult result
+            (λ outcome. Leaves net past event.now conn.now outcome self.new.actor self.new.log.index ports.new)
+            (λ _. (self.new.actor ≡ self.old.actor) × (self.new.log.index ≡ self.old.log.index) × (ports.new ≡ ports.old)) }
+        ensures looks { looks.new ≤ looks.old + 7 }
     {
         self.log.reserve()?;
-        let (outcome, added) = happen(conn, &self.log, &mut self.actor, ports, event);
-        note(&mut self.log, added);
+        let (outcome, added) = happen(conn, &self.log, &mut self.actor, ports, event, looks);
+        note(&mut self.log, added, looks);
         Ok(outcome)
     }
 }

@@ -1,9 +1,9 @@
 //! A world before the first event.
 ghost use Rattle.std.specs.Prelude.{◌≡◌, ◌≤◌, ◌^◌, ℕ, [], All, IfOk, length, map, slice_get, option_map};
 ghost use Rattle.abt_net.specs.declared.conn.Conn.{Conn};
-ghost use Rattle.abt_world.specs.Courses.{seen};
+ghost use Rattle.abt_world.specs.Courses.{course_of};
+ghost use Rattle.abt_world.specs.Seen.{seen};
 ghost use Rattle.abt_world.specs.Opening.{opening_table};
-ghost use Rattle.abt_world.specs.Standing.{course_of};
 
 use crate::course::Course;
 use crate::opening::opening_port;

@@ -1,7 +1,9 @@
 //! What one event does to its connection.
-ghost use Rattle.std.specs.Prelude.{◌≡◌, ◌++◌, List};
+ghost use Rattle.std.specs.Prelude.{◌≡◌, ◌+◌, ◌≤◌, ◌++◌, List};
 ghost use Rattle.abt_actor.specs.Actor.{actor_of};
 ghost use Rattle.abt_actor.specs.Facts.{facts_in};
+ghost use Rattle.abt_facts.specs.declared.fact.Fact.{Fact as FactSpec};
+ghost use Rattle.abt_log.specs.Log.{IsLogOf};
 ghost use Rattle.abt_model.specs.declared.connection_fact.ConnectionFact.{ConnectionFact};
 ghost use Rattle.abt_model.specs.Events.{AsksRate};
 ghost use Rattle.abt_model.specs.Outcomes.{conn_of, after_event};
@@ -12,7 +14,7 @@ use crate::cells::arrive;
 use crate::hops::{answer, request};
 use crate::messages::{told, turn};
 use abt_actor::{Added, SourceActor};
-use abt_log::Log;
+use abt_log::{Log, Looks};
 use abt_model::{Event, Outcome, SourceCommand};
 use abt_net::Conn;
 use abt_node::Port;
@@ -51,12 +53,14 @@ pub(crate) fn happen(
     actor: &mut SourceActor,
     ports: &mut [Port],
     event: &Event,
+    looks: &mut Looks,
 ) -> (Outcome, Added)
-    ensures { (net : Topology) (past : List ConnectionFact) → AsksRate event.now →
-        IsConnAt net past (conn_of event.now) conn.now log.now.facts → ArePorts net past ports.old →
-        actor.old ≡ actor_of conn.now.vc log.now.facts →
+    ensures outcome { (net : Topology) (past : List ConnectionFact) (facts : List FactSpec) → IsLogOf facts log.now →
+        AsksRate event.now → IsConnAt net past (conn_of event.now) conn.now facts → ArePorts net past ports.old →
+        actor.old ≡ actor_of conn.now.vc facts →
         Happens net past event.now result.0 (facts_in result.1) × ArePorts net (after_event net past event.now) ports.new
-        × (actor.new ≡ actor_of conn.now.vc (facts_in result.1 ++ log.now.facts)) }
+        × (actor.new ≡ actor_of conn.now.vc (facts_in result.1 ++ facts)) }
+    ensures looks { looks.new ≤ looks.old + 3 }
 {
     match *event {
         Event::Start { now, .. } => actor.carry_out(&SourceCommand::Start { now }),
@@ -68,23 +72,23 @@ pub(crate) fn happen(
             conn: place,
             cell,
             at,
-        } => arrive(place, conn, log, actor.cells(), ports, cell, at),
+        } => arrive(place, conn, log, actor.cells(), ports, cell, at, looks),
         Event::Request {
             conn: place,
             hop,
             seq,
-        } => request(place, conn, log, ports, hop, seq),
-        Event::Turn { conn: place, seq } => turn(place, conn, log, seq),
+        } => request(place, conn, log, ports, hop, seq, looks),
+        Event::Turn { conn: place, seq } => turn(place, conn, log, seq, looks),
         Event::Answer {
             conn: place,
             hop,
             seq,
             granted,
-        } => answer(place, conn, log, ports, hop, seq, granted),
+        } => answer(place, conn, log, ports, hop, seq, granted, looks),
         Event::Told {
             conn: place,
             seq,
             granted,
-        } => told(place, conn, log, actor, seq, granted),
+        } => told(place, conn, log, actor, seq, granted, looks),
     }
 }

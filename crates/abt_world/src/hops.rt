@@ -1,7 +1,9 @@
 //! What one connection's events answer and add that come to a port, and what they make of the port.
-ghost use Rattle.std.specs.Prelude.{◌≡◌, ◌≤◌, ◌<◌, List};
+ghost use Rattle.std.specs.Prelude.{◌≡◌, ◌+◌, ◌≤◌, ◌<◌, List};
+ghost use Rattle.abt_facts.specs.declared.fact.Fact.{Fact as FactSpec};
 ghost use Rattle.abt_facts.specs.Sent.{request_is_at, yes_is_at, no_is_at, answer_is_at};
 ghost use Rattle.abt_actor.specs.Facts.{facts_in};
+ghost use Rattle.abt_log.specs.Log.{IsLogOf};
 ghost use Rattle.abt_model.specs.declared.connection_fact.ConnectionFact.{ConnectionFact};
 ghost use Rattle.abt_model.specs.declared.event.Event.TheVariants as event;
 ghost use Rattle.abt_model.specs.Outcomes as outcomes;
@@ -13,7 +15,7 @@ use crate::messages::{hops_of, not_enabled, request_of};
 use abt_actor::Added;
 use abt_cell::Answer;
 use abt_facts::Fact;
-use abt_log::Log;
+use abt_log::{Log, Looks};
 use abt_model::{Cause, Outcome};
 use abt_net::Conn;
 use abt_node::{Back, Onward, Port};
@@ -55,42 +57,47 @@ fn answer_adds(hop: u16, seq: u32, granted: bool, back: &Back) -> Added
 }
 
 // Whether a request lies at a hop.
-fn is_request_at(log: &Log, hop: u16, seq: u32) -> bool
-    ensures { 1 ≤ hop → result ≡ request_is_at log.now.facts seq hop }
+fn is_request_at(log: &Log, hop: u16, seq: u32, looks: &mut Looks) -> bool
+    ensures value { (facts : List FactSpec) → IsLogOf facts log.now → 1 ≤ hop → result ≡ request_is_at facts seq hop }
+    ensures looks { looks.new ≤ looks.old + 1 }
 {
     if hop == 1 {
-        log.asked(seq).is_some()
+        log.asked(seq, looks).is_some()
     } else {
-        hop > 0 && log.was_passed(seq, hop - 1)
+        hop > 0 && log.was_passed(seq, hop - 1, looks)
     }
 }
 
 // Whether a yes lies at a hop of so many.
-fn is_yes_at(log: &Log, hops: u16, hop: u16, seq: u32) -> bool
-    ensures { hop < u16.MAX → result ≡ yes_is_at hops log.now.facts seq hop }
+fn is_yes_at(log: &Log, hops: u16, hop: u16, seq: u32, looks: &mut Looks) -> bool
+    ensures value { (facts : List FactSpec) → IsLogOf facts log.now → hop < u16.MAX → result ≡ yes_is_at hops facts seq hop }
+    ensures looks { looks.new ≤ looks.old + 1 }
 {
     if hop == hops {
-        log.was_turned(seq)
+        log.was_turned(seq, looks)
     } else {
-        hop < u16::MAX && log.was_back(seq, hop + 1)
+        hop < u16::MAX && log.was_back(seq, hop + 1, looks)
     }
 }
 
 // Whether a no lies at a hop of so many.
-fn is_no_at(log: &Log, hops: u16, hop: u16, seq: u32) -> bool
-    ensures { result ≡ no_is_at hops log.now.facts seq hop }
+fn is_no_at(log: &Log, hops: u16, hop: u16, seq: u32, looks: &mut Looks) -> bool
+    ensures value { (facts : List FactSpec) → IsLogOf facts log.now → result ≡ no_is_at hops facts seq hop }
+    ensures looks { looks.new ≤ looks.old + 1 }
 {
-    hop < hops && log.was_shut(seq, hop + 1)
+    hop < hops && log.was_shut(seq, hop + 1, looks)
 }
 
 // Whether an answer lies at a hop of so many.
-fn is_answer_at(log: &Log, hops: u16, hop: u16, seq: u32, granted: bool) -> bool
-    ensures { hop < u16.MAX → result ≡ answer_is_at hops log.now.facts seq hop granted }
+fn is_answer_at(log: &Log, hops: u16, hop: u16, seq: u32, granted: bool, looks: &mut Looks) -> bool
+    ensures value { (facts : List FactSpec) → IsLogOf facts log.now → hop < u16.MAX →
+        result ≡ answer_is_at hops facts seq hop granted }
+    ensures looks { looks.new ≤ looks.old + 1 }
 {
     if granted {
-        is_yes_at(log, hops, hop, seq)
+        is_yes_at(log, hops, hop, seq, looks)
     } else {
-        is_no_at(log, hops, hop, seq)
+        is_no_at(log, hops, hop, seq, looks)
     }
 }
 
@@ -102,26 +109,29 @@ pub(crate) fn request(
     ports: &mut [Port],
     hop: u16,
     seq: u32,
+    looks: &mut Looks,
 ) -> (Outcome, Added)
-    ensures { (net : Topology) (past : List ConnectionFact) → IsConnAt net past place conn.now log.now.facts →
+    ensures outcome { (net : Topology) (past : List ConnectionFact) (facts : List FactSpec) → IsLogOf facts log.now →
+        IsConnAt net past place conn.now facts →
         ArePorts net past ports.old →
         Happens net past (event.Request place hop seq) result.0 (facts_in result.1)
         × ArePorts net (outcomes.after_event net past (event.Request place hop seq)) ports.new }
+    ensures looks { looks.new ≤ looks.old + 3 }
 {
     let Some(port) = port_at(conn, hop) else {
         return not_enabled(Cause::Unknown);
     };
-    if !is_request_at(log, hop, seq) {
+    if !is_request_at(log, hop, seq, looks) {
         return not_enabled(Cause::NotSent);
     }
-    let Some(request) = request_of(conn, log, seq) else {
+    let Some(request) = request_of(conn, log, seq, looks) else {
         return not_enabled(Cause::NotSent);
     };
     let port = usize::from(port);
     if port >= ports.len() {
         return not_enabled(Cause::Unknown);
     }
-    let onward = ports[port].request(&request);
+    let onward = ports[looks.counting(port)].request(&request);
     (Outcome::Requested(onward), request_adds(hop, seq, &onward))
 }
 
@@ -134,26 +144,29 @@ pub(crate) fn answer(
     hop: u16,
     seq: u32,
     granted: bool,
+    looks: &mut Looks,
 ) -> (Outcome, Added)
-    ensures { (net : Topology) (past : List ConnectionFact) → IsConnAt net past place conn.now log.now.facts →
+    ensures outcome { (net : Topology) (past : List ConnectionFact) (facts : List FactSpec) → IsLogOf facts log.now →
+        IsConnAt net past place conn.now facts →
         ArePorts net past ports.old →
         Happens net past (event.Answer place hop seq granted) result.0 (facts_in result.1)
         × ArePorts net (outcomes.after_event net past (event.Answer place hop seq granted)) ports.new }
+    ensures looks { looks.new ≤ looks.old + 3 }
 {
     let Some(port) = port_at(conn, hop) else {
         return not_enabled(Cause::Unknown);
     };
-    if !is_answer_at(log, hops_of(conn), hop, seq, granted) {
+    if !is_answer_at(log, hops_of(conn), hop, seq, granted, looks) {
         return not_enabled(Cause::NotSent);
     }
-    let Some(request) = request_of(conn, log, seq) else {
+    let Some(request) = request_of(conn, log, seq, looks) else {
         return not_enabled(Cause::NotSent);
     };
     let port = usize::from(port);
     if port >= ports.len() {
         return not_enabled(Cause::Unknown);
     }
-    let back = ports[port].answer(&Answer::of(&request, granted));
+    let back = ports[looks.counting(port)].answer(&Answer::of(&request, granted));
     (
         Outcome::Answered(back),
         answer_adds(hop, seq, granted, &back),

@@ -1,9 +1,11 @@
 //! What one connection's events answer and add that come to no port.
-ghost use Rattle.std.specs.Prelude.{◌≡◌, ◌≤◌, ◌++◌, List, length, IsSome, IfSome, true};
+ghost use Rattle.std.specs.Prelude.{◌≡◌, ◌+◌, ◌≤◌, ◌++◌, List, length, IsSome, IfSome, true};
+ghost use Rattle.abt_facts.specs.declared.fact.Fact.{Fact as FactSpec};
 ghost use Rattle.abt_facts.specs.Requests.{was_asked, floor_of, ask_of};
 ghost use Rattle.abt_facts.specs.Sent.{answer_is_home};
 ghost use Rattle.abt_actor.specs.Actor.{actor_of};
 ghost use Rattle.abt_actor.specs.Facts.{facts_in};
+ghost use Rattle.abt_log.specs.Log.{IsLogOf};
 ghost use Rattle.abt_model.specs.declared.connection_fact.ConnectionFact.{ConnectionFact};
 ghost use Rattle.abt_model.specs.declared.event.Event.TheVariants.{Turn, Told};
 ghost use Rattle.abt_model.specs.Decision as decision;
@@ -13,17 +15,19 @@ ghost use Rattle.abt_world.specs.Steps.{IsConnAt, Happens};
 use abt_actor::{Added, SourceActor};
 use abt_cell::{Answer, Request};
 use abt_facts::Fact;
-use abt_log::Log;
+use abt_log::{Log, Looks};
 use abt_model::{Cause, Outcome, SourceCommand};
 use abt_net::Conn;
 
 // The request of a number, if it was asked.
-pub(crate) fn request_of(conn: &Conn, log: &Log, seq: u32) -> Option<Request>
-    ensures value { IfSome result (λ request. request ≡ decision.request_of conn.now.vc log.now.facts seq) }
-    ensures some { (was_asked log.now.facts seq ≡ true) → 1 ≤ seq →
-        floor_of log.now.facts seq ≤ ask_of log.now.facts seq → IsSome result }
+pub(crate) fn request_of(conn: &Conn, log: &Log, seq: u32, looks: &mut Looks) -> Option<Request>
+    ensures value { (facts : List FactSpec) → IsLogOf facts log.now →
+        IfSome result (λ request. request ≡ decision.request_of conn.now.vc facts seq) }
+    ensures some { (facts : List FactSpec) → IsLogOf facts log.now → (was_asked facts seq ≡ true) → 1 ≤ seq →
+        floor_of facts seq ≤ ask_of facts seq → IsSome result }
+    ensures looks { looks.new ≤ looks.old + 1 }
 {
-    let (floor, ask) = log.asked(seq)?;
+    let (floor, ask) = log.asked(seq, looks)?;
     Request::new(conn.vc, seq, floor, ask)
 }
 
@@ -42,11 +46,19 @@ pub(crate) fn hops_of(conn: &Conn) -> u16
 }
 
 // What the last hop passed is turned into a yes.
-pub(crate) fn turn(place: u16, conn: &Conn, log: &Log, seq: u32) -> (Outcome, Added)
-    ensures { (net : Topology) (past : List ConnectionFact) → IsConnAt net past place conn.now log.now.facts →
+pub(crate) fn turn(
+    place: u16,
+    conn: &Conn,
+    log: &Log,
+    seq: u32,
+    looks: &mut Looks,
+) -> (Outcome, Added)
+    ensures outcome { (net : Topology) (past : List ConnectionFact) (facts : List FactSpec) → IsLogOf facts log.now →
+        IsConnAt net past place conn.now facts →
         Happens net past (Turn place seq) result.0 (facts_in result.1) }
+    ensures looks { looks.new ≤ looks.old + 1 }
 {
-    if log.was_passed(seq, hops_of(conn)) {
+    if log.was_passed(seq, hops_of(conn), looks) {
         (Outcome::Turned, Added::One(Fact::Turned { seq }))
     } else {
         not_enabled(Cause::NotSent)
@@ -54,13 +66,14 @@ pub(crate) fn turn(place: u16, conn: &Conn, log: &Log, seq: u32) -> (Outcome, Ad
 }
 
 // Whether an answer lies at its source.
-fn is_home(log: &Log, seq: u32, granted: bool) -> bool
-    ensures { result ≡ answer_is_home log.now.facts seq granted }
+fn is_home(log: &Log, seq: u32, granted: bool, looks: &mut Looks) -> bool
+    ensures value { (facts : List FactSpec) → IsLogOf facts log.now → result ≡ answer_is_home facts seq granted }
+    ensures looks { looks.new ≤ looks.old + 1 }
 {
     if granted {
-        log.was_back(seq, 1)
+        log.was_back(seq, 1, looks)
     } else {
-        log.was_shut(seq, 1)
+        log.was_shut(seq, 1, looks)
     }
 }
 
@@ -72,16 +85,19 @@ pub(crate) fn told(
     actor: &mut SourceActor,
     seq: u32,
     granted: bool,
+    looks: &mut Looks,
 ) -> (Outcome, Added)
-    ensures { (net : Topology) (past : List ConnectionFact) → IsConnAt net past place conn.now log.now.facts →
-        actor.old ≡ actor_of conn.now.vc log.now.facts →
+    ensures outcome { (net : Topology) (past : List ConnectionFact) (facts : List FactSpec) → IsLogOf facts log.now →
+        IsConnAt net past place conn.now facts →
+        actor.old ≡ actor_of conn.now.vc facts →
         Happens net past (Told place seq granted) result.0 (facts_in result.1)
-        × (actor.new ≡ actor_of conn.now.vc (facts_in result.1 ++ log.now.facts)) }
+        × (actor.new ≡ actor_of conn.now.vc (facts_in result.1 ++ facts)) }
+    ensures looks { looks.new ≤ looks.old + 2 }
 {
-    if !is_home(log, seq, granted) {
+    if !is_home(log, seq, granted, looks) {
         return not_enabled(Cause::NotSent);
     }
-    let Some(request) = request_of(conn, log, seq) else {
+    let Some(request) = request_of(conn, log, seq, looks) else {
         return not_enabled(Cause::NotSent);
     };
     actor.carry_out(&SourceCommand::Told(Answer::of(&request, granted)))

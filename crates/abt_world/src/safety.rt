@@ -1,7 +1,6 @@
 //! Whether what is reserved covers what is sent.
 ghost use Rattle.std.specs.Prelude.{◌≡◌};
 ghost use Rattle.std.specs.List.{list_all, zip};
-ghost use Rattle.abt_log.specs.Kept.{conforms_if_arrived};
 ghost use Rattle.abt_net.specs.declared.conn.Conn.{Conn};
 ghost use Rattle.abt_world.specs.declared.course.Course.{Course};
 ghost use Rattle.abt_safety.specs.Holding.{is_held_along};
@@ -22,7 +21,7 @@ pub(crate) fn rates_are_held(conns: &[Conn], courses: &[Course], ports: &[Port])
 
 // Whether each cell that arrived was found conforming.
 pub(crate) fn cells_conform(courses: &[Course]) -> bool
-    ensures { result ≡ list_all (λ (course : Course). list_all conforms_if_arrived course.log.facts) courses.now }
+    ensures { result ≡ list_all (λ (course : Course). course.log.index.conform) courses.now }
 {
     courses.iter().all(|course| course.log.all_conform())
 }

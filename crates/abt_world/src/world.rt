@@ -1,5 +1,5 @@
 //! Worlds.
-ghost use Rattle.std.specs.Prelude.{◌≡◌, ◌↔◌, ◌++◌, true, [], ◌∷◌, List, IfOk, OnOk, MatchResult};
+ghost use Rattle.std.specs.Prelude.{◌≡◌, ◌≤◌, ◌↔◌, ◌++◌, true, [], ◌∷◌, List, IfOk, OnOk, MatchResult};
 ghost use Rattle.abt_net.specs.Topology.{Topology};
 ghost use Rattle.abt_model.specs.Outcomes.{outcome_of};
 ghost use Rattle.abt_model.specs.Run.{facts_after, outcomes_of};
@@ -17,6 +17,7 @@ use crate::happen::{asks_rate, conn_number};
 use crate::hops::port_at;
 use crate::safety::{cells_conform, rates_are_held};
 use abt_list::Sequence;
+use abt_log::Looks;
 use abt_model::{Cause, Event, Outcome};
 use abt_net::Net;
 use abt_node::Port;
@@ -33,6 +34,8 @@ pub struct World<'net> {
     ports: Vec<Port>,
     // One for each connection.
     courses: Vec<Course>,
+    // How many entries the last event looked up.
+    looks: u64,
 }
 
 impl<'net> Model for World<'net> {
@@ -50,7 +53,8 @@ impl<'net> Model for World<'net> {
     ghost view = { λ w. record {
       net = w.net.now;
       ports = w.ports.items;
-      courses = list_map (λ course. record { actor = course.actor; facts = course.log.facts }) w.courses.items;
+      courses = list_map (λ course. record { actor = course.actor; index = course.log.index }) w.courses.items;
+      looks = w.looks;
     } };
 
     ghost invariant = { λ w. length w.courses.items ≡ length w.net.now.conns };
@@ -59,7 +63,8 @@ impl<'net> Model for World<'net> {
 impl<'net> World<'net> {
     /// The net before the first event: nothing is reserved, and each source is down.
     pub fn new(alloc: Global, net: &'net Net) -> Result<World<'net>, AllocError>
-        ensures { IfOk result (StandsFor net.now []) }
+        ensures value { IfOk result (StandsFor net.now []) }
+        ensures looks { IfOk result (λ world. world.looks ≡ 0) }
     {
         let ports = opening_ports(alloc, net.capacities(), net.conns())?;
         let courses = fresh_courses(alloc, net.conns())?;
@@ -67,6 +72,7 @@ impl<'net> World<'net> {
             net,
             ports,
             courses,
+            looks: 0,
         })
     }
 
@@ -81,14 +87,31 @@ impl<'net> World<'net> {
             (λ _. StandsFor net events self.new) }
         ensures headline { (net : Topology) (events : List Event) → StandsFor net events self.old →
             OnOk result (HeadlineHolds net (facts_after net (events ++ event.now ∷ []))) }
+        ensures looks { OnOk result (self.new.looks ≤ 128) }
     {
         asks_rate(event);
         let place = usize::from(conn_number(event));
         let net = self.net;
         if place >= net.conns().len() {
+            self.looks = 0;
             return Ok(Outcome::NotEnabled(Cause::Unknown));
         }
-        self.courses[place].take(&net.conns()[place], &mut self.ports, event)
+        let mut looks = Looks::new();
+        let course = &mut self.courses[looks.counting(place)];
+        match course.take(&net.conns()[place], &mut self.ports, event, &mut looks) {
+            Ok(outcome) => {
+                self.looks = looks.count();
+                Ok(outcome)
+            }
+            Err(refused) => Err(refused),
+        }
+    }
+
+    /// How many entries of the world's own maps and lists the last event that was answered looked up, 0 before the first.
+    pub fn looks(&self) -> u64
+        ensures { result ≡ self.now.looks }
+    {
+        self.looks
     }
 
     /// The rate at which the source of a connection shapes.

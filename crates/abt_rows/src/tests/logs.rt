@@ -1,7 +1,7 @@
 //! Facts that no connection of a world has, so that what looks for them is seen to find them.
 use super::*;
 use abt_facts::Fact;
-use abt_log::Log;
+use abt_log::{Log, Looks};
 
 #[test]
 fn a_cell_that_came_too_early_is_found(rt: HostRuntime) -> Result<(), Fail> {
@@ -10,13 +10,16 @@ fn a_cell_that_came_too_early_is_found(rt: HostRuntime) -> Result<(), Fail> {
         if log.reserve().is_err() {
             log.reserve()?;
         }
-        log.note(Fact::Arrived {
-            cell: 0,
-            at: 5,
-            rate: Rate::from_code(0x5120),
-            verdict,
-        });
-        log.note(Fact::Crashed);
+        log.note(
+            Fact::Arrived {
+                cell: 0,
+                at: 5,
+                rate: Rate::from_code(0x5120),
+                verdict,
+            },
+            &mut Looks::new(),
+        );
+        log.note(Fact::Crashed, &mut Looks::new());
         assert_eq!(rt; log.all_conform(), verdict == Verdict::Conforming);
     }
     Ok(())

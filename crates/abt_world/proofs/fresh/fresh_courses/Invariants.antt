@@ -1,7 +1,7 @@
 use Rattle.std.proofs.Common.{◌≡◌, [], map, take}
 use Rattle.abt_net.specs.declared.conn.Conn.{Conn}
-use Rattle.abt_world.specs.Courses.{seen}
-use Rattle.abt_world.specs.Standing.{course_of}
+use Rattle.abt_world.specs.Seen.{seen}
+use Rattle.abt_world.specs.Courses.{course_of}
 use Rattle.abt_world.proofs.fresh.fresh_courses.Given as goal
 
 abbrev pub invariant-loop-conn : goal.invariant-loop-conn

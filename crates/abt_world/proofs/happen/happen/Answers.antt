@@ -7,69 +7,69 @@ use Rattle.abt_model.specs.Past.{facts_of}
 use Rattle.abt_world.proofs.Happening.{Takes, command_takes, tables_kept, actor_left, request_kind, answer_kind, turn_kind, arrive_kind}
 use Rattle.abt_world.proofs.happen.happen.Goals as goal
 
-pub returns-in-Start : goal.returns-in-Start
-returns-in-Start c net past = subst (λ (e : Event). Takes net past c.args.conn.now c.args.log.now.facts e c.args.ports.now c.args.ports.now c.args.actor.now c.carry_out.new.self c.carry_out.result.0 (facts_in c.carry_out.result.1))
-    (sym c.in-Start.is) (command_takes net past c.args.conn.now c.args.log.now.facts c.in-Start.conn (command.Start c.in-Start.now) c.args.ports.now c.args.actor.now c.carry_out.new.self c.carry_out.result.0 (facts_in c.carry_out.result.1) tt c.carry_out.ensures)
+pub returns-in-Start-clause-outcome : goal.returns-in-Start-clause-outcome
+returns-in-Start-clause-outcome c net past facts log = subst (λ (e : Event). Takes net past c.args.conn.now facts e c.args.ports.now c.args.ports.now c.args.actor.now c.carry_out.new.self c.carry_out.result.0 (facts_in c.carry_out.result.1))
+    (sym c.in-Start.is) (command_takes net past c.args.conn.now facts c.in-Start.conn (command.Start c.in-Start.now) c.args.ports.now c.args.actor.now c.carry_out.new.self c.carry_out.result.0 (facts_in c.carry_out.result.1) tt c.carry_out.ensures)
 
-pub returns-in-Ask : goal.returns-in-Ask
-returns-in-Ask c net past = subst (λ (e : Event). Takes net past c.args.conn.now c.args.log.now.facts e c.args.ports.now c.args.ports.now c.args.actor.now c.carry_out-in-Ask.new.self c.carry_out-in-Ask.result.0 (facts_in c.carry_out-in-Ask.result.1))
-    (sym c.in-Ask.is) (command_takes net past c.args.conn.now c.args.log.now.facts c.in-Ask.conn (command.Ask c.in-Ask.rate c.in-Ask.plan) c.args.ports.now c.args.actor.now c.carry_out-in-Ask.new.self c.carry_out-in-Ask.result.0 (facts_in c.carry_out-in-Ask.result.1) tt c.carry_out-in-Ask.ensures)
+pub returns-in-Ask-clause-outcome : goal.returns-in-Ask-clause-outcome
+returns-in-Ask-clause-outcome c net past facts log = subst (λ (e : Event). Takes net past c.args.conn.now facts e c.args.ports.now c.args.ports.now c.args.actor.now c.carry_out-in-Ask.new.self c.carry_out-in-Ask.result.0 (facts_in c.carry_out-in-Ask.result.1))
+    (sym c.in-Ask.is) (command_takes net past c.args.conn.now facts c.in-Ask.conn (command.Ask c.in-Ask.rate c.in-Ask.plan) c.args.ports.now c.args.actor.now c.carry_out-in-Ask.new.self c.carry_out-in-Ask.result.0 (facts_in c.carry_out-in-Ask.result.1) tt c.carry_out-in-Ask.ensures)
 
-pub returns-in-Crash : goal.returns-in-Crash
-returns-in-Crash c net past = subst (λ (e : Event). Takes net past c.args.conn.now c.args.log.now.facts e c.args.ports.now c.args.ports.now c.args.actor.now c.carry_out-in-Crash.new.self c.carry_out-in-Crash.result.0 (facts_in c.carry_out-in-Crash.result.1))
-    (sym c.in-Crash.is) (command_takes net past c.args.conn.now c.args.log.now.facts c.in-Crash.conn command.Crash c.args.ports.now c.args.actor.now c.carry_out-in-Crash.new.self c.carry_out-in-Crash.result.0 (facts_in c.carry_out-in-Crash.result.1) tt c.carry_out-in-Crash.ensures)
+pub returns-in-Crash-clause-outcome : goal.returns-in-Crash-clause-outcome
+returns-in-Crash-clause-outcome c net past facts log = subst (λ (e : Event). Takes net past c.args.conn.now facts e c.args.ports.now c.args.ports.now c.args.actor.now c.carry_out-in-Crash.new.self c.carry_out-in-Crash.result.0 (facts_in c.carry_out-in-Crash.result.1))
+    (sym c.in-Crash.is) (command_takes net past c.args.conn.now facts c.in-Crash.conn command.Crash c.args.ports.now c.args.actor.now c.carry_out-in-Crash.new.self c.carry_out-in-Crash.result.0 (facts_in c.carry_out-in-Crash.result.1) tt c.carry_out-in-Crash.ensures)
 
-pub returns-in-Emit : goal.returns-in-Emit
-returns-in-Emit c net past = subst (λ (e : Event). Takes net past c.args.conn.now c.args.log.now.facts e c.args.ports.now c.args.ports.now c.args.actor.now c.carry_out-in-Emit.new.self c.carry_out-in-Emit.result.0 (facts_in c.carry_out-in-Emit.result.1))
-    (sym c.in-Emit.is) (command_takes net past c.args.conn.now c.args.log.now.facts c.in-Emit.conn (command.Emit c.in-Emit.now) c.args.ports.now c.args.actor.now c.carry_out-in-Emit.new.self c.carry_out-in-Emit.result.0 (facts_in c.carry_out-in-Emit.result.1) tt c.carry_out-in-Emit.ensures)
+pub returns-in-Emit-clause-outcome : goal.returns-in-Emit-clause-outcome
+returns-in-Emit-clause-outcome c net past facts log = subst (λ (e : Event). Takes net past c.args.conn.now facts e c.args.ports.now c.args.ports.now c.args.actor.now c.carry_out-in-Emit.new.self c.carry_out-in-Emit.result.0 (facts_in c.carry_out-in-Emit.result.1))
+    (sym c.in-Emit.is) (command_takes net past c.args.conn.now facts c.in-Emit.conn (command.Emit c.in-Emit.now) c.args.ports.now c.args.actor.now c.carry_out-in-Emit.new.self c.carry_out-in-Emit.result.0 (facts_in c.carry_out-in-Emit.result.1) tt c.carry_out-in-Emit.ensures)
 
-pub returns-in-Arrive : goal.returns-in-Arrive
-returns-in-Arrive c net past = subst (λ (e : Event). Takes net past c.args.conn.now c.args.log.now.facts e c.args.ports.now c.arrive.new.ports c.args.actor.now c.args.actor.now c.arrive.result.0 (facts_in c.arrive.result.1))
+pub returns-in-Arrive-clause-outcome : goal.returns-in-Arrive-clause-outcome
+returns-in-Arrive-clause-outcome c net past facts log = subst (λ (e : Event). Takes net past c.args.conn.now facts e c.args.ports.now c.arrive.new.ports c.args.actor.now c.args.actor.now c.arrive.result.0 (facts_in c.arrive.result.1))
     (sym c.in-Arrive.is) (λ asks at are is. (
     let e = Arrive c.in-Arrive.place c.in-Arrive.cell c.in-Arrive.at in
-    let served = c.arrive.ensures net past at are (c.cells.ensures ∙ ap (λ a. a.cells) is) in (
+    let served = c.arrive.ensures.outcome net past facts log at are (c.cells.ensures ∙ ap (λ a. a.cells) is) in (
       served.0,
       served.1,
-      actor_left net past e c.args.conn.now c.args.log.now.facts c.args.actor.now c.arrive.result.0 (facts_in c.arrive.result.1) served.0
+      actor_left net past e c.args.conn.now facts c.args.actor.now c.arrive.result.0 (facts_in c.arrive.result.1) served.0
           (arrive_kind (facts_of c.in-Arrive.place past) c.in-Arrive.place c.in-Arrive.cell c.in-Arrive.at c.arrive.result.0) is,
     )))
 
-pub returns-in-Request : goal.returns-in-Request
-returns-in-Request c net past = subst (λ (e : Event). Takes net past c.args.conn.now c.args.log.now.facts e c.args.ports.now c.request.new.ports c.args.actor.now c.args.actor.now c.request.result.0 (facts_in c.request.result.1))
+pub returns-in-Request-clause-outcome : goal.returns-in-Request-clause-outcome
+returns-in-Request-clause-outcome c net past facts log = subst (λ (e : Event). Takes net past c.args.conn.now facts e c.args.ports.now c.request.new.ports c.args.actor.now c.args.actor.now c.request.result.0 (facts_in c.request.result.1))
     (sym c.in-Request.is) (λ asks at are is. (
     let e = Request c.in-Request.place c.in-Request.hop c.in-Request.seq in
-    let served = c.request.ensures net past at are in (
+    let served = c.request.ensures.outcome net past facts log at are in (
       served.0,
       served.1,
-      actor_left net past e c.args.conn.now c.args.log.now.facts c.args.actor.now c.request.result.0 (facts_in c.request.result.1) served.0
+      actor_left net past e c.args.conn.now facts c.args.actor.now c.request.result.0 (facts_in c.request.result.1) served.0
           (request_kind (facts_of c.in-Request.place past) c.in-Request.place c.in-Request.hop c.in-Request.seq c.request.result.0) is,
     )))
 
-pub returns-in-Turn : goal.returns-in-Turn
-returns-in-Turn c net past = subst (λ (e : Event). Takes net past c.args.conn.now c.args.log.now.facts e c.args.ports.now c.args.ports.now c.args.actor.now c.args.actor.now c.turn.result.0 (facts_in c.turn.result.1))
+pub returns-in-Turn-clause-outcome : goal.returns-in-Turn-clause-outcome
+returns-in-Turn-clause-outcome c net past facts log = subst (λ (e : Event). Takes net past c.args.conn.now facts e c.args.ports.now c.args.ports.now c.args.actor.now c.args.actor.now c.turn.result.0 (facts_in c.turn.result.1))
     (sym c.in-Turn.is) (λ asks at are is. (
     let e = Turn c.in-Turn.place c.in-Turn.seq in
-    let served = c.turn.ensures net past at in (
+    let served = c.turn.ensures.outcome net past facts log at in (
       served,
-      tables_kept net past e c.args.conn.now c.args.log.now.facts c.args.ports.now asks at are refl,
-      actor_left net past e c.args.conn.now c.args.log.now.facts c.args.actor.now c.turn.result.0 (facts_in c.turn.result.1) served
+      tables_kept net past e c.args.conn.now facts c.args.ports.now asks at are refl,
+      actor_left net past e c.args.conn.now facts c.args.actor.now c.turn.result.0 (facts_in c.turn.result.1) served
           (turn_kind (facts_of c.in-Turn.place past) c.in-Turn.place c.in-Turn.seq c.turn.result.0) is,
     )))
 
-pub returns-in-Answer : goal.returns-in-Answer
-returns-in-Answer c net past = subst (λ (e : Event). Takes net past c.args.conn.now c.args.log.now.facts e c.args.ports.now c.answer.new.ports c.args.actor.now c.args.actor.now c.answer.result.0 (facts_in c.answer.result.1))
+pub returns-in-Answer-clause-outcome : goal.returns-in-Answer-clause-outcome
+returns-in-Answer-clause-outcome c net past facts log = subst (λ (e : Event). Takes net past c.args.conn.now facts e c.args.ports.now c.answer.new.ports c.args.actor.now c.args.actor.now c.answer.result.0 (facts_in c.answer.result.1))
     (sym c.in-Answer.is) (λ asks at are is. (
     let e = Answer c.in-Answer.place c.in-Answer.hop c.in-Answer.seq c.in-Answer.granted in
-    let served = c.answer.ensures net past at are in (
+    let served = c.answer.ensures.outcome net past facts log at are in (
       served.0,
       served.1,
-      actor_left net past e c.args.conn.now c.args.log.now.facts c.args.actor.now c.answer.result.0 (facts_in c.answer.result.1) served.0
+      actor_left net past e c.args.conn.now facts c.args.actor.now c.answer.result.0 (facts_in c.answer.result.1) served.0
           (answer_kind (facts_of c.in-Answer.place past) c.in-Answer.place c.in-Answer.hop c.in-Answer.seq c.in-Answer.granted c.answer.result.0) is,
     )))
 
-pub returns-in-Told : goal.returns-in-Told
-returns-in-Told c net past = subst (λ (e : Event). Takes net past c.args.conn.now c.args.log.now.facts e c.args.ports.now c.args.ports.now c.args.actor.now c.told.new.actor c.told.result.0 (facts_in c.told.result.1))
+pub returns-in-Told-clause-outcome : goal.returns-in-Told-clause-outcome
+returns-in-Told-clause-outcome c net past facts log = subst (λ (e : Event). Takes net past c.args.conn.now facts e c.args.ports.now c.args.ports.now c.args.actor.now c.told.new.actor c.told.result.0 (facts_in c.told.result.1))
     (sym c.in-Told.is) (λ asks at are is. (
     let e = Told c.in-Told.place c.in-Told.seq c.in-Told.granted in
-    let heard = c.told.ensures net past at is in
-    (heard.0, tables_kept net past e c.args.conn.now c.args.log.now.facts c.args.ports.now asks at are refl, heard.1)))
+    let heard = c.told.ensures.outcome net past facts log at is in
+    (heard.0, tables_kept net past e c.args.conn.now facts c.args.ports.now asks at are refl, heard.1)))

@@ -1,4 +1,4 @@
-use Rattle.std.proofs.Common.{sym, ◌∙◌, ap, arith}
+use Rattle.std.proofs.Common.{◌<◌, sym, ◌∙◌, ap, arith, length}
 use Rattle.std.specs.Prelude.{Some}
 use Rattle.std.proofs.lemmas.Bool.{false≢true}
 use Rattle.std.proofs.lemmas.Option.{slice_get-get_or}
@@ -12,51 +12,50 @@ use Rattle.abt_world.proofs.Sendings.{conn_lawful, few_hops, answer_asked, is_re
 use Rattle.abt_world.proofs.Serving.{answer_served, answer_absent, port_within, port_tells}
 use Rattle.abt_world.proofs.hops.answer.Goals as goal
 
-pub returns-then-not-is_answer_at : goal.returns-then-not-is_answer_at
-returns-then-not-is_answer_at c net past at are =
-    let facts = c.args.log.now.facts in
+pub returns-then-not-is_answer_at-clause-outcome : goal.returns-then-not-is_answer_at-clause-outcome
+returns-then-not-is_answer_at-clause-outcome c net past facts is at are =
     let conn = c.args.conn.now in
     let few = few_hops net past c.args.place conn facts at in
     let tells = port_tells conn.path c.args.hop c.in-Some.port (sym c.in-Some.ensures) in
     let hop = is_hop_tells _ c.args.hop tells.0 in
     let high = hop.1 in
     let hops = c.hops_of.ensures few in
-    let absent = c.if-not-is_answer_at.ensures (omega arith) ∙ ap (λ h. answer_is_at h facts c.args.seq c.args.hop c.args.granted) hops in
+    let absent = c.if-not-is_answer_at.ensures.value facts is (omega arith) ∙ ap (λ h. answer_is_at h facts c.args.seq c.args.hop c.args.granted) hops in
     rw c.not_enabled-then-not-is_answer_at.ensures (answer_absent net past c.args.place conn facts c.args.hop c.args.seq c.args.granted c.args.ports.now at are tells.0 (sym absent))
 
-pub returns-in_default-request_of : goal.returns-in_default-request_of
-returns-in_default-request_of c net past at are =
-    let facts = c.args.log.now.facts in
+pub returns-in_default-request_of-clause-outcome : goal.returns-in_default-request_of-clause-outcome
+returns-in_default-request_of-clause-outcome c net past facts is at are =
     let conn = c.args.conn.now in
     let few = few_hops net past c.args.place conn facts at in
     let l = route_of conn in
     let lawful = conn_lawful net past c.args.place conn facts at in
     let hop = is_hop_tells _ c.args.hop (port_tells conn.path c.args.hop c.in-Some.port (sym c.in-Some.ensures)).0 in
     let high = hop.1 in
-    let there = c.if-not-is_answer_at.ensures (omega arith) in
+    let there = c.if-not-is_answer_at.ensures.value facts is (omega arith) in
     let r = is_request l facts lawful c.args.seq (answer_asked l facts lawful c.hops_of.result c.args.seq c.args.hop c.args.granted (sym there)) in
-    absurd (false≢true (c.in_default-request_of.ensures.some r.asked r.positive r.order))
+    absurd (false≢true (c.in_default-request_of.ensures.some facts is r.asked r.positive r.order))
 
-pub returns-then-port-ports : goal.returns-then-port-ports
-returns-then-port-ports c net past at are =
-    let low = port_within net past c.args.place c.args.conn.now c.args.log.now.facts c.args.hop c.in-Some.port c.args.ports.now at are (sym c.in-Some.ensures) in
+pub returns-then-port-ports-clause-outcome : goal.returns-then-port-ports-clause-outcome
+returns-then-port-ports-clause-outcome c net past facts is at are =
+    let low = port_within net past c.args.place c.args.conn.now facts c.args.hop c.in-Some.port c.args.ports.now at are (sym c.in-Some.ensures) in
     let place = c.from-port.ensures in
     let past_end = c.if-port-ports.true in
     absurd (omega arith)
 
-pub returns : goal.returns
-returns c net past at are =
-    let facts = c.args.log.now.facts in
+pub returns-clause-outcome : goal.returns-clause-outcome
+returns-clause-outcome c net past facts is at are =
     let conn = c.args.conn.now in
     let few = few_hops net past c.args.place conn facts at in
-    let place = c.from-port.ensures in
-    let low = c.if-port-ports.false in
-    let has = sym c.in-Some.ensures ∙ ap Some (sym place) in
-    let hop = is_hop_tells _ c.args.hop (port_tells conn.path c.args.hop c.from-port.result has).0 in
+    let counted = c.counting.ensures.value in
+    let within = c.if-port-ports.false in
+    let port = c.counting.result in
+    let low : port < length c.args.ports.now = omega arith in
+    let has = sym c.in-Some.ensures ∙ ap Some (sym (counted ∙ c.from-port.ensures)) in
+    let hop = is_hop_tells _ c.args.hop (port_tells conn.path c.args.hop port has).0 in
     let high = hop.1 in
     let hops = c.hops_of.ensures few in
-    let there = c.if-not-is_answer_at.ensures (omega arith) ∙ ap (λ h. answer_is_at h facts c.args.seq c.args.hop c.args.granted) hops in
-    answer_served net past c.args.place conn facts c.args.hop c.args.seq c.from-port.result c.args.granted c.args.ports.now at are has
+    let there = c.if-not-is_answer_at.ensures.value facts is (omega arith) ∙ ap (λ h. answer_is_at h facts c.args.seq c.args.hop c.args.granted) hops in
+    answer_served net past c.args.place conn facts c.args.hop c.args.seq port c.args.granted c.args.ports.now at are has
     (sym there) low _ c.answer-back.new.self c.of.result c.answer-back.result (facts_in c.answer_adds.result)
-    (slice_get-get_or c.args.ports.now c.from-port.result c.index-ports-port.result low)
-    (c.of.ensures ∙ ap (λ (r : Terms). answer_to r c.args.granted) c.in-Some-request_of.ensures.value) c.answer-back.ensures.value c.answer-back.ensures.table c.answer_adds.ensures
+    (slice_get-get_or c.args.ports.now port c.index-ports-counting.result low)
+    (c.of.ensures ∙ ap (λ (r : Terms). answer_to r c.args.granted) (c.in-Some-request_of.ensures.value facts is)) c.answer-back.ensures.value c.answer-back.ensures.table c.answer_adds.ensures

@@ -15,21 +15,19 @@ use Rattle.abt_model.proofs.Lawful.{route_of}
 use Rattle.abt_world.proofs.Sendings.{happens, conn_lawful, home_asked, is_request, heard_same}
 use Rattle.abt_world.proofs.messages.told.Goals as goal
 
-pub returns-in_default : goal.returns-in_default
-returns-in_default c net past at is =
-    let facts = c.args.log.now.facts in
+pub returns-in_default-clause-outcome : goal.returns-in_default-clause-outcome
+returns-in_default-clause-outcome c net past facts is at actor =
     let l = route_of c.args.conn.now in
     let lawful = conn_lawful net past c.args.place c.args.conn.now facts at in
-    let r = is_request l facts lawful c.args.seq (home_asked l facts lawful c.args.seq c.args.granted (sym c.if-not-is_home.ensures)) in
-    absurd (false≢true (c.in_default.ensures.some r.asked r.positive r.order))
+    let r = is_request l facts lawful c.args.seq (home_asked l facts lawful c.args.seq c.args.granted (sym (c.if-not-is_home.ensures.value facts is))) in
+    absurd (false≢true (c.in_default.ensures.some facts is r.asked r.positive r.order))
 
-pub returns : goal.returns
-returns c net past at is =
-    let facts = c.args.log.now.facts in
+pub returns-clause-outcome : goal.returns-clause-outcome
+returns-clause-outcome c net past facts is at actor =
     let vc = c.args.conn.now.vc in
-    let home = c.if-not-is_home.ensures in
-    let carried = c.carry_out.ensures vc facts is in
-    let answer : c.of.result ≡ answer_to (request_of vc facts c.args.seq) c.args.granted = c.of.ensures ∙ ap (λ r. answer_to r c.args.granted) c.in-Some.ensures.value in
+    let home = c.if-not-is_home.ensures.value facts is in
+    let carried = c.carry_out.ensures vc facts actor in
+    let answer : c.of.result ≡ answer_to (request_of vc facts c.args.seq) c.args.granted = c.of.ensures ∙ ap (λ r. answer_to r c.args.granted) (c.in-Some.ensures.value facts is) in
     let heard = ap (λ (a : Reply). HasTold (heard_by vc facts (state_of facts) a)) answer ∙ ap HasTold (heard_same vc facts (state_of facts) c.args.seq c.args.granted) in (
       happens net past (Told c.args.place c.args.seq c.args.granted) c.args.conn.now facts at c.carry_out.result.0 (facts_in c.carry_out.result.1)
           (carried.answer ∙ heard ∙ ap (λ b. if not b then NotEnabled NotSent else HasTold (told_answer (state_of facts) c.args.seq c.args.granted)) home)

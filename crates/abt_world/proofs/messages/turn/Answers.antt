@@ -8,18 +8,16 @@ use Rattle.abt_model.specs.declared.outcome.Outcome.TheVariants.{Turned, NotEnab
 use Rattle.abt_world.proofs.Sendings.{happens, few_hops}
 use Rattle.abt_world.proofs.messages.turn.Goals as goal
 
-pub returns-then-was_passed : goal.returns-then-was_passed
-returns-then-was_passed c net past at =
-    let facts = c.args.log.now.facts in
+pub returns-then-was_passed-clause-outcome : goal.returns-then-was_passed-clause-outcome
+returns-then-was_passed-clause-outcome c net past facts is at =
     let hops = c.hops_of.ensures (few_hops net past c.args.place c.args.conn.now facts at) in
-    let passed = c.if-was_passed.ensures ∙ ap (was_passed facts c.args.seq) hops in
+    let passed = c.if-was_passed.ensures.value facts is ∙ ap (was_passed facts c.args.seq) hops in
     happens net past (Turn c.args.place c.args.seq) c.args.conn.now facts at Turned (FactTurned c.args.seq ∷ [])
     (ap (λ b. if not b then NotEnabled NotSent else Turned) passed) refl
 
-pub returns-else-was_passed : goal.returns-else-was_passed
-returns-else-was_passed c net past at =
-    let facts = c.args.log.now.facts in
+pub returns-else-was_passed-clause-outcome : goal.returns-else-was_passed-clause-outcome
+returns-else-was_passed-clause-outcome c net past facts is at =
     let hops = c.hops_of.ensures (few_hops net past c.args.place c.args.conn.now facts at) in
-    let unpassed = c.if-was_passed.ensures ∙ ap (was_passed facts c.args.seq) hops in
+    let unpassed = c.if-was_passed.ensures.value facts is ∙ ap (was_passed facts c.args.seq) hops in
     rw c.not_enabled.ensures (happens net past (Turn c.args.place c.args.seq) c.args.conn.now facts at (NotEnabled NotSent) []
     (ap (λ b. if not b then NotEnabled NotSent else Turned) unpassed) refl)

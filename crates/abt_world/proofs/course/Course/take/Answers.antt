@@ -2,30 +2,36 @@ use Rattle.std.proofs.Common.{◌≡◌, List, ◌++◌, ◌∙◌, sym, subst, 
 use Rattle.abt_actor.specs.Actor.{actor_of}
 use Rattle.abt_actor.specs.Facts.{facts_in}
 use Rattle.abt_facts.specs.declared.fact.Fact.{Fact}
+use Rattle.abt_log.specs.Index.{index_of}
 use Rattle.abt_model.specs.declared.outcome.Outcome.{Outcome}
-use Rattle.abt_model.specs.Outcomes.{conn_of, facts_added}
+use Rattle.abt_model.specs.Outcomes.{conn_of, outcome_of, facts_added, after_event}
 use Rattle.abt_model.specs.Past.{facts_of}
-use Rattle.abt_model.proofs.Worlds.{facts_of-own}
-use Rattle.abt_world.specs.Steps.{IsConnAt}
+use Rattle.abt_model.proofs.Lawful.{route_of, IsLawful}
+use Rattle.abt_model.proofs.Worlds.{facts_of-own, after_event_lawful, lawful_at}
+use Rattle.abt_world.specs.Notes.{all_noted, CanAllFollow}
+use Rattle.abt_world.proofs.Noting.{noted_on, can_all_follow}
+use Rattle.abt_world.proofs.Sendings.{all_lawful, few_hops}
 use Rattle.abt_world.proofs.course.Course.take.Goals as goal
 
-pub returns : goal.returns
-returns c net past asks at are is =
+pub returns-clause-outcome : goal.returns-clause-outcome
+returns-clause-outcome c net past facts log asks at are is =
     let e = c.args.event.now in
-    let vc = c.args.conn.now.vc in
-    let before = facts_of (conn_of e) past in
-    let kept = c.reserve.new.self.facts in
-    let same = c.reserve.ensures.same in
-    let at' = subst (λ (facts : List Fact). IsConnAt net past (conn_of e) c.args.conn.now facts) (sym same) at in
-    let h = c.happen-outcome.ensures net past asks at' are (is ∙ ap (actor_of vc) (sym same)) in
-    let added : facts_in c.happen-outcome.result.1 ++ kept ≡ facts_of (conn_of e) (Rattle.abt_model.specs.Outcomes.after_event net past e) =
-    ap (λ (fs : List Fact). fs ++ kept) h.0.adds
-    ∙ ap (λ (o : Outcome). facts_added before e o ++ kept) h.0.answer
-    ∙ ap (λ (fs : List Fact). facts_added before e (Rattle.abt_model.specs.Outcomes.outcome_of net past e) ++ fs) at'.facts_are
+    let conn = c.args.conn.now in
+    let added = facts_in c.happen-outcome.result.1 in
+    let kept = c.reserve.ensures.same ∙ log in
+    let h = c.happen-outcome.ensures.outcome net past facts kept asks at are is in
+    let all : added ++ facts ≡ facts_of (conn_of e) (after_event net past e) =
+    ap (λ (fs : List Fact). fs ++ facts) h.0.adds
+    ∙ ap (λ (o : Outcome). facts_added (facts_of (conn_of e) past) e o ++ facts) h.0.answer
+    ∙ ap (λ (fs : List Fact). facts_added (facts_of (conn_of e) past) e (outcome_of net past e) ++ fs) at.facts_are
     ∙ sym (facts_of-own net past e) in
+    let lawful : IsLawful (route_of conn) (added ++ facts) =
+    subst (IsLawful (route_of conn)) (sym all) (lawful_at net (after_event net past e) (after_event_lawful net past (all_lawful net past (conn_of e) conn facts at) e asks) (conn_of e) conn at.known) in
+    let follow : CanAllFollow added c.reserve.new.self.index =
+    subst (CanAllFollow added) (sym kept) (can_all_follow (route_of conn) added facts (few_hops net past (conn_of e) conn facts at) lawful) in
     record {
       answer = h.0.answer;
-      facts_are = c.note.ensures ∙ added;
-      actor_is = h.2 ∙ ap (actor_of vc) added;
+      index_is = c.note.ensures.index follow ∙ ap (all_noted added) kept ∙ noted_on added facts ∙ ap index_of all;
+      actor_is = h.2 ∙ ap (actor_of conn.vc) all;
       tables = h.1;
     }

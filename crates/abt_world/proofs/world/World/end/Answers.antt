@@ -4,7 +4,7 @@ use Rattle.abt_net.specs.declared.conn.Conn.{Conn}
 use Rattle.abt_net.specs.Topology.{Topology, IsWithinRules}
 use Rattle.abt_node.specs.Table.{Table, sum_of}
 use Rattle.abt_world.specs.declared.course.Course.{Course}
-use Rattle.abt_world.specs.Courses.{seen}
+use Rattle.abt_world.specs.Seen.{seen}
 use Rattle.abt_safety.specs.Holding.{held_by_port}
 use Rattle.abt_world.specs.Standing.{WorldView, StandsFor}
 use Rattle.abt_world.proofs.Standings.{headline_before}
@@ -18,8 +18,8 @@ returns-clause-trace c net events stands said =
     let conns : c.conns.result.now ≡ net.conns = c.conns.ensures.value ∙ ap (λ (n : Topology). n.conns) net_is in
     let courses = c.self.inside.courses.items in
     let ports = c.self.inside.ports.items in
-    let inside : StandsFor net events (record { net = c.self.inside.net.now; ports = ports; courses = map seen courses }) = subst (StandsFor net events) (sym c.self.view_is) stands in
-    let are : AreOfPast net events courses ports = record { rules = rules; stands = subst (λ n. StandsFor net events (record { net = n; ports = ports; courses = map seen courses })) net_is inside } in
+    let inside : StandsFor net events (record { net = c.self.inside.net.now; ports = ports; courses = map seen courses; looks = c.self.inside.looks }) = subst (StandsFor net events) (sym c.self.view_is) stands in
+    let are : AreOfPast net events courses ports = record { rules = rules; looks = c.self.inside.looks; stands = subst (λ n. StandsFor net events (record { net = n; ports = ports; courses = map seen courses; looks = c.self.inside.looks })) net_is inside } in
     let read = λ (ks : List Conn) (ps : List Table). map (λ (conn : Conn). map (held_by_port conn.vc ps) conn.path) ks in
     record {
       outcomes = said;

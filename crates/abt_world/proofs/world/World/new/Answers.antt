@@ -5,12 +5,12 @@ use Rattle.std.proofs.lemmas.List.Elements.{All-nil}
 use Rattle.abt_net.specs.declared.conn.Conn.{Conn}
 use Rattle.abt_model.specs.Events.{AsksRate}
 use Rattle.abt_world.specs.Opening.{opening_table}
-use Rattle.abt_world.specs.Standing.{CourseView, course_of}
+use Rattle.abt_world.specs.Courses.{CourseView, course_of}
 use Rattle.abt_world.proofs.Openings.{opening_is}
 use Rattle.abt_world.proofs.world.World.new.Goals as goal
 
-pub returns : goal.returns
-returns c =
+pub returns-clause-value : goal.returns-clause-value
+returns-clause-value c =
     let net = c.args.net.now in
     let fresh = λ (conn : Conn). course_of conn.vc [] in
     record {

@@ -1,0 +1,73 @@
+//! What is known of each request of a connection, by its number.
+ghost use Rattle.std.specs.Prelude.{◌≡◌, ◌+◌, ◌≤◌, [], OnOk};
+ghost use Rattle.abt_log.specs.Index.{message_in, changed, with_change, HasFewHops};
+
+use crate::looks::Looks;
+use crate::message::Message;
+use abt_facts::Fact;
+use indexmap::IndexMap;
+use std::alloc::{AllocError, Global};
+use std::marker::Model;
+
+/// What happened to the requests of one connection.
+#[derive(Debug, Drop)]
+pub(crate) struct Messages {
+    entries: IndexMap<u32, Message>,
+}
+
+impl Model for Messages {
+    ghost use Rattle.indexmap.specs.IndexMap.{spare};
+    ghost use Rattle.abt_log.specs.Log.{MessagesView};
+
+    ghost Value = { MessagesView };
+
+    ghost view = { λ m. record { entries = m.entries.entries; room = spare m.entries } };
+}
+
+impl Messages {
+    // Nothing happened to any.
+    pub(crate) fn new(alloc: Global) -> Messages
+        ensures { result.entries ≡ [] }
+    {
+        Messages {
+            entries: IndexMap::new(alloc),
+        }
+    }
+
+    // Makes room for two more.
+    pub(crate) fn reserve(&mut self) -> Result<(), AllocError>
+        ensures ok { OnOk result (2 ≤ self.new.room) }
+        ensures same { self.new.entries ≡ self.old.entries }
+        ensures room { self.old.room ≤ self.new.room }
+    {
+        self.entries.reserve(2)
+    }
+
+    // What is known of a number.
+    pub(crate) fn of(&self, seq: u32, looks: &mut Looks) -> Message
+        ensures value { result ≡ message_in self.now.entries seq }
+        ensures looks { looks.new ≤ looks.old + 1 }
+    {
+        match self.entries.get(&looks.counting(seq)) {
+            Some(message) => *message,
+            None => Message::blank(),
+        }
+    }
+
+    // Notes one more fact of a number, for which there is room, and gives the mark of its ask, 0 where there was none.
+    pub(crate) fn note(&mut self, seq: u32, fact: &Fact, looks: &mut Looks) -> u64
+        requires { 1 ≤ self.old.room }
+        ensures mark { result ≡ (message_in self.old.entries seq).mark }
+        ensures entries { HasFewHops fact.now → self.new.entries ≡ with_change (changed fact.now) seq self.old.entries }
+        ensures room { self.old.room ≤ self.new.room + 1 }
+        ensures looks { looks.new ≤ looks.old + 2 }
+    {
+        let message = self.of(seq, looks);
+        let after = message.after(fact);
+        let key = looks.counting(seq);
+        match self.entries.insert(key, after) {
+            Ok(_) => message.mark,
+            Err(_) => unreachable!(),
+        }
+    }
+}
