@@ -14,3 +14,8 @@ pub mod Ends
 pub mod Whole
 pub mod Lefts
 pub mod Wovens
+pub mod OwnFacts
+pub mod Replays
+pub mod OwnReplays
+pub mod Leavings
+pub mod Sweeps

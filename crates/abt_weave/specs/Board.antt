@@ -86,3 +86,8 @@ pub record IsPass (net : Topology) (journals : Journaled) (old new : Board) (n m
   pub board : IsBoard net journals new
   pub progress : MatchBool seen.moved (count old < count new)
       (AreSettled (IsSourceSettled net journals (reverse new.events.items)) n seen.sources.items × AreSettled (IsPortSettled net journals (reverse new.events.items)) m seen.ports.items)
+
+-- the board after some looks, at least as far, and further where something was placed
+pub record IsFurther (net : Topology) (journals : Journaled) (old new : Board) (moved : Bool) : Type 0 where
+  pub board : IsBoard net journals new
+  pub progress : MatchBool moved (count old < count new) (count old ≡ count new)

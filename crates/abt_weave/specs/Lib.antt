@@ -5,3 +5,4 @@ pub mod Tried
 pub mod Comes
 pub mod Marks
 pub mod Faults
+pub mod Leaving

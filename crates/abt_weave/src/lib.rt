@@ -13,6 +13,7 @@ mod pass;
 mod port;
 mod same;
 mod source;
+mod sweep;
 mod trying;
 mod weaving;
 

@@ -8,6 +8,7 @@ use crate::given::{Given, conn_count, port_count};
 use crate::look::Look;
 use crate::port::look_at_port;
 use crate::source::look_at_source;
+use crate::sweep::place_what_fits;
 use std::alloc::{AllocError, Global};
 
 /// What one look at each actor of a kind showed: whether an entry was placed, and if none was, whose next entry mismatches.
@@ -25,7 +26,7 @@ pub(crate) struct Seen {
     pub ports: Vec<bool>,
 }
 
-fn is_mismatch(look: Look) -> bool
+pub(crate) fn is_mismatch(look: Look) -> bool
     ensures { result ≡ seen.is_mismatch look }
 {
     match look {
@@ -34,7 +35,7 @@ fn is_mismatch(look: Look) -> bool
     }
 }
 
-fn has_moved(moved: bool, look: Look) -> bool
+pub(crate) fn has_moved(moved: bool, look: Look) -> bool
     ensures { result ≡ seen.has_moved moved look }
 {
     match look {
@@ -89,7 +90,7 @@ fn pass_ports<'run>(
     Ok(Looks { moved, marks })
 }
 
-fn either(one: bool, other: bool) -> bool
+pub(crate) fn either(one: bool, other: bool) -> bool
     ensures { result ≡ (one || other) }
 {
     one || other
@@ -116,7 +117,8 @@ fn pass<'run>(
     })
 }
 
-/// Looks at all actors again and again, until a pass places nothing, and gives what that one showed.
+/// Places what fits until nothing does, and gives what a last look at all actors showed, also at those whose entry mismatched
+/// before.
 pub(crate) fn settle<'run>(
     alloc: Global,
     given: &Given<'run>,
@@ -132,6 +134,7 @@ pub(crate) fn settle<'run>(
         IfOk result (λ seen. AreSettled (IsPortSettled given.now.net.now journals (reverse board.new.events.items)) (length given.now.ports.now) seen.ports.items) }
 {
     loop {
+        place_what_fits(alloc, given, board)?;
         let seen = pass(alloc, given, board)?;
         if !seen.moved {
             return Ok(seen);

@@ -1,8 +1,12 @@
 //! Journals woven into events.
-ghost use Rattle.std.specs.Prelude.{◌≡◌, length, IfOk, IfErr};
+ghost use Rattle.std.specs.Prelude.{◌≡◌, ◌++◌, List, length, IfOk, IfErr};
+ghost use Rattle.abt_model.specs.declared.event.Event.{Event as EventSpec};
+ghost use Rattle.abt_model.specs.Run.{facts_after};
 ghost use Rattle.abt_woven.specs.Woven.{IsWoven};
 ghost use Rattle.abt_weave.specs.Board.{journaled};
 ghost use Rattle.abt_weave.specs.Faults.{IsWeaveFault};
+ghost use Rattle.abt_weave.specs.Leaving.{LeavesAsJournaled};
+ghost use Rattle.abt_world.specs.Headline.{HeadlineHolds};
 
 use crate::board::Board;
 use crate::fault::WeaveFault;
@@ -32,6 +36,9 @@ pub fn weave(
     requires ports { length journals.now ≡ length net.now.capacities }
     requires sources { length sources.now ≡ length net.now.conns }
     ensures ok { IfOk result (λ events. IsWoven net.now journals.now sources.now events) }
+    ensures leaves { IfOk result (λ events. LeavesAsJournaled net.now journals.now sources.now (facts_after net.now events)) }
+    ensures headline { IfOk result (λ events. (before after : List EventSpec) → before ++ after ≡ events →
+        HeadlineHolds net.now (facts_after net.now before)) }
     ensures err { IfErr result (IsWeaveFault net.now (record { ports = journals.now; sources = sources.now })) }
 {
     let given = Given {
@@ -47,6 +54,10 @@ fn weave_given(alloc: Global, given: &Given) -> Result<Sequence<Event>, WeaveFau
     requires ports { length given.now.ports.now ≡ length given.now.net.now.capacities }
     ensures ok { let journals = journaled given.now.ports.now given.now.sources.now in
         IfOk result (λ events. IsWoven given.now.net.now journals.ports journals.sources events) }
+    ensures leaves { let journals = journaled given.now.ports.now given.now.sources.now in
+        IfOk result (λ events. LeavesAsJournaled given.now.net.now journals.ports journals.sources (facts_after given.now.net.now events)) }
+    ensures headline { IfOk result (λ events. (before after : List EventSpec) → before ++ after ≡ events →
+        HeadlineHolds given.now.net.now (facts_after given.now.net.now before)) }
     ensures err { IfErr result (IsWeaveFault given.now.net.now (journaled given.now.ports.now given.now.sources.now)) }
 {
     let mut board = Board::new(alloc, given)?;

@@ -1,8 +1,8 @@
 mod Sendings
-mod Serving
+pub mod Serving
 mod Arriving
 mod Happening
-mod Standings
+pub mod Standings
 mod Pushing
 mod Openings
 mod Final

@@ -8,6 +8,10 @@ use Rattle.abt_weave.specs.Board.{journaled, AreSettled, IsSourceSettled, IsPort
 use Rattle.abt_weave.specs.Faults.{all_left}
 use Rattle.abt_weave.specs.Marks.{AreUnmarked, IsFirstMark}
 use Rattle.abt_weave.proofs.Wovens.{source_first, port_first, none_mismatch, all_woven, empty_is, some_left}
+use Rattle.abt_model.specs.Run.{facts_after}
+use Rattle.abt_world.proofs.Standings.{headline_before}
+use Rattle.abt_weave.specs.Leaving.{LeavesAsJournaled}
+use Rattle.abt_weave.proofs.Leavings.{leaves}
 use Rattle.abt_weave.proofs.Ends.{all_still}
 use Rattle.abt_weave.proofs.weaving.weave_given.Goals as goal
 
@@ -91,3 +95,19 @@ returns-clause-ok c =
     let ps = subst (λ n. AreSettled (IsPortSettled net js (reverse events)) n mp) (sym (length-map ports (λ (entries : Vec Entry Global). entries.items))) c.in_ok-seen.ensures.ports in
     let none : all_left net js (reverse events) ≡ [] = sym c.in_ok-left.ensures ∙ empty_is c.in_ok-left.left (sym c.is_empty.ensures ∙ c.if-not-is_empty.false) in
     subst (λ l. IsWoven net js.ports js.sources l) (sym c.from.ensures) (all_woven net js events world sp pp board none)
+
+pub returns-clause-leaves : goal.returns-clause-leaves
+returns-clause-leaves c =
+    let net = c.args.given.now.net.now in
+    let ports = c.args.given.now.ports.now in
+    let sources = c.args.given.now.sources.now in
+    let js = journaled ports sources in
+    let events = c.settle.new.board.events.items in
+    let board = c.in_ok-seen.ensures.board in
+    let none : all_left net js (reverse events) ≡ [] = sym c.in_ok-left.ensures ∙ empty_is c.in_ok-left.left (sym c.is_empty.ensures ∙ c.if-not-is_empty.false) in
+    let woven = all_woven net js events c.settle.new.board.world c.settle.new.board.source_places.items c.settle.new.board.port_places.items board none in
+    subst (λ l. LeavesAsJournaled net js.ports js.sources (facts_after net l)) (sym c.from.ensures) (leaves net js.ports js.sources events c.in_default.ensures.rules board.stands.rates woven)
+
+pub returns-clause-headline : goal.returns-clause-headline
+returns-clause-headline c before after is =
+    headline_before c.args.given.now.net.now before after c.settle.new.board.events.items c.in_default.ensures.rules c.in_ok-seen.ensures.board.stands.rates (is ∙ c.from.ensures)
