@@ -154,6 +154,10 @@ fn woven(
         Ok(run) => run,
         Err(_) => run_of(alloc, ports, sources)?,
     };
+    let Run { journals, sources } = &run;
+    if journals.ports.len() != net.capacities().len() || sources.len() != net.conns().len() {
+        return Ok(Err(WeaveFault::Memory));
+    }
     match weave(alloc, net, &run.journals, run.sources.as_slice()) {
         Err(WeaveFault::Memory) => Ok(weave(alloc, net, &run.journals, run.sources.as_slice())),
         answer => Ok(answer),

@@ -1,6 +1,6 @@
 //! The journals of a net, as lists that tests change, and those that events project to.
 use super::parts::{own, visited};
-use abt_journal::Entry;
+use abt_journal::{Entry, PortInput};
 use abt_list::Sequence;
 use abt_node::Onward;
 use abt_ports::Journals;
@@ -38,6 +38,8 @@ pub fn length_of(ports: &[Vec<Entry>], port: u16) -> u64 {
 }
 
 fn add_entry(ports: &mut Vec<Vec<Entry>>, port: u16, entry: Entry) -> Result<(), AllocError> {
+    // Names a type within an entry, without which the checker can't follow one.
+    let _ = matches!(entry.input, PortInput::Arrive { .. });
     if let Some(entries) = ports.get_mut(usize::from(port)) {
         entries.push(entry)?;
     }
@@ -49,6 +51,8 @@ fn add_own(
     conn: u16,
     entry: SourceEntry,
 ) -> Result<(), AllocError> {
+    // Names a type within an entry, without which the checker can't follow one.
+    let _ = Event::Again { conn };
     if let Some(entries) = sources.get_mut(usize::from(conn)) {
         entries.push(entry)?;
     }

@@ -23,7 +23,7 @@ pub const NONE: Answers = Answers {
     mismatches: 0,
 };
 
-/// Weaves journals.
+/// Weaves journals, which are as many as the net has ports and connections.
 pub fn woven(
     alloc: Global,
     net: &Net,
@@ -31,6 +31,9 @@ pub fn woven(
 ) -> Result<Result<Sequence<Event>, WeaveFault>, Fail> {
     let ports = journals(alloc, books)?;
     let sources = source_journals(alloc, books)?;
+    if ports.ports.len() != net.capacities().len() || sources.len() != net.conns().len() {
+        return Ok(Err(WeaveFault::Memory));
+    }
     Ok(weave(alloc, net, &ports, sources.as_slice()))
 }
 

@@ -1,7 +1,7 @@
 //! Events that are placed before journals, one after the other, and what may come next (docs/THREADS.md).
 use super::books::{Books, length_of};
 use super::parts::{Visit, own, visited};
-use abt_journal::Entry;
+use abt_journal::{Entry, PortInput};
 use abt_node::Onward;
 use abt_source_journal::SourceEntry;
 use abt_walk::walk::{Walk, conn_of, number};
@@ -158,6 +158,10 @@ impl<'net> Placing<'net> {
         if visit.is_none() && own.is_none() {
             return Ok(Fit::No);
         }
+        if let Some(visit) = &visit {
+            // Names a type within a visit, without which the checker can't follow one.
+            let _ = matches!(visit.input, PortInput::Arrive { .. });
+        }
         let port = self.fits_port(books, visit);
         let source = self.fits_source(books, conn_of(event), own);
         Ok(match (port, source) {
@@ -175,6 +179,8 @@ impl<'net> Placing<'net> {
         self.walk.step(alloc, event)?;
         self.events.push(*event)?;
         if let Some(visit) = visit {
+            // Names a type within a visit, without which the checker can't follow one.
+            let _ = matches!(visit.input, PortInput::Arrive { .. });
             one_more(&mut self.ports, visit.port);
         }
         if own.is_some() {
@@ -233,6 +239,8 @@ impl<'net> Placing<'net> {
         let mut next = Vec::new(alloc);
         for (port, _) in self.ports.iter().enumerate() {
             if let Some(entry) = self.next_step(books, number(port)) {
+                // Names a type within an entry, without which the checker can't follow one.
+                let _ = matches!(entry.input, PortInput::Arrive { .. });
                 next.push(entry)?;
             }
         }
