@@ -1,12 +1,12 @@
 //! The journals of a net, as lists that tests change, and those that events project to.
 use super::parts::{own, visited};
-use abt_journal::{Entry, PortInput};
+use abt_journal::{Entry, PortInput, PortReply};
 use abt_list::Sequence;
 use abt_node::Onward;
 use abt_ports::Journals;
 use abt_source_journal::{SourceEntry, SourceJournal};
 use abt_walk::walk::{Walk, conn_of};
-use abt_world::{Event, Net};
+use abt_world::{Event, Net, Outcome};
 use std::alloc::{AllocError, Global};
 
 /// The journals of all ports and of all sources of a net.
@@ -38,8 +38,9 @@ pub fn length_of(ports: &[Vec<Entry>], port: u16) -> u64 {
 }
 
 fn add_entry(ports: &mut Vec<Vec<Entry>>, port: u16, entry: Entry) -> Result<(), AllocError> {
-    // Names a type within an entry, without which the checker can't follow one.
+    // Names the types within an entry, without which the checker can't follow one.
     let _ = matches!(entry.input, PortInput::Arrive { .. });
+    let _ = PortReply::Requested(Onward::Pass);
     if let Some(entries) = ports.get_mut(usize::from(port)) {
         entries.push(entry)?;
     }
@@ -51,8 +52,9 @@ fn add_own(
     conn: u16,
     entry: SourceEntry,
 ) -> Result<(), AllocError> {
-    // Names a type within an entry, without which the checker can't follow one.
+    // Names the types within an entry, without which the checker can't follow one.
     let _ = Event::Again { conn };
+    let _ = Outcome::Requested(Onward::Pass);
     if let Some(entries) = sources.get_mut(usize::from(conn)) {
         entries.push(entry)?;
     }

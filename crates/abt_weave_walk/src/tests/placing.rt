@@ -1,7 +1,7 @@
 //! Events that are placed before journals, one after the other, and what may come next (docs/THREADS.md).
 use super::books::{Books, length_of};
 use super::parts::{Visit, own, visited};
-use abt_journal::{Entry, PortInput};
+use abt_journal::{Entry, PortInput, PortReply};
 use abt_node::Onward;
 use abt_source_journal::SourceEntry;
 use abt_walk::walk::{Walk, conn_of, number};
@@ -154,12 +154,14 @@ impl<'net> Placing<'net> {
 
     /// Whether an event may come next.
     pub fn fit(&mut self, alloc: Global, books: &Books, event: &Event) -> Result<Fit, AllocError> {
+        // Names the types within entries, without which the checker can't follow one.
+        let _ = PortReply::Requested(Onward::Pass);
+        let _ = SourceEntry::Did(*event, Outcome::Requested(Onward::Pass));
         let Parts { visit, own } = self.parts(alloc, event)?;
         if visit.is_none() && own.is_none() {
             return Ok(Fit::No);
         }
         if let Some(visit) = &visit {
-            // Names a type within a visit, without which the checker can't follow one.
             let _ = matches!(visit.input, PortInput::Arrive { .. });
         }
         let port = self.fits_port(books, visit);
@@ -173,13 +175,12 @@ impl<'net> Placing<'net> {
 
     /// Places an event that fits.
     pub fn place(&mut self, alloc: Global, event: &Event) -> Result<(), AllocError> {
-        // Names a type within an outcome, without which the checker can't follow one.
-        let _ = Onward::Pass;
+        // Names the types within a visit, without which the checker can't follow one.
+        let _ = PortReply::Requested(Onward::Pass);
         let Parts { visit, own } = self.parts(alloc, event)?;
         self.walk.step(alloc, event)?;
         self.events.push(*event)?;
         if let Some(visit) = visit {
-            // Names a type within a visit, without which the checker can't follow one.
             let _ = matches!(visit.input, PortInput::Arrive { .. });
             one_more(&mut self.ports, visit.port);
         }
@@ -236,10 +237,11 @@ impl<'net> Placing<'net> {
 
     /// The next entries of all ports.
     pub fn next_steps(&self, alloc: Global, books: &Books) -> Result<Vec<Entry>, AllocError> {
+        // Names the types within an entry, without which the checker can't follow one.
+        let _ = PortReply::Requested(Onward::Pass);
         let mut next = Vec::new(alloc);
         for (port, _) in self.ports.iter().enumerate() {
             if let Some(entry) = self.next_step(books, number(port)) {
-                // Names a type within an entry, without which the checker can't follow one.
                 let _ = matches!(entry.input, PortInput::Arrive { .. });
                 next.push(entry)?;
             }
