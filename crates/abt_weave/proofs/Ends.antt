@@ -43,7 +43,7 @@ seen_visit net rules past event brings on none =
     let clash = sym none ∙ made in cc
 
 -- what comes to no port is something that its source did
-own_or_visit : (net : Topology) → IsWithinRules net → (earlier : List Event) (event : Event) (x : SourceEntry) → visit net (past_of net earlier) event ≡ None →
+pub own_or_visit : (net : Topology) → IsWithinRules net → (earlier : List Event) (event : Event) (x : SourceEntry) → visit net (past_of net earlier) event ≡ None →
     entry_of (place_at_first net earlier event) event (outcome_of net (past_of net earlier) event) ≡ Some x → (y : Outcome) × (x ≡ Did event y)
 own_or_visit net rules earlier (Start c now) x none h = (outcome_of net (past_of net earlier) (Start c now), sym (some_same h))
 own_or_visit net rules earlier (Ask c rate plan) x none h = (outcome_of net (past_of net earlier) (Ask c rate plan), sym (some_same h))

@@ -25,7 +25,7 @@ use Rattle.abt_weave.proofs.OwnReplays.{own_replayed}
 use Rattle.abt_weave.proofs.Pasts.{past-is}
 use Rattle.abt_weave.proofs.Replays.{replayed, replay-steps, tables_replayed}
 
-all_reversed : {A : Type 0} → (P : A → Type 0) → (xs : List A) → All P xs → All P (reverse xs)
+pub all_reversed : {A : Type 0} → (P : A → Type 0) → (xs : List A) → All P xs → All P (reverse xs)
 all_reversed P [] all = all
 all_reversed P (x ∷ xs) all =
     subst (All P) (sym (reverse-append (x ∷ []) xs))

@@ -19,3 +19,13 @@ pub mod Replays
 pub mod OwnReplays
 pub mod Leavings
 pub mod Sweeps
+pub mod Prefixes
+pub mod Places
+pub mod SentBelow
+pub mod Asks
+pub mod LineFacts
+pub mod LineReplays
+pub mod Again
+pub mod VisitAgain
+pub mod NoneWoven
+pub mod AllBelow

@@ -39,7 +39,8 @@ use Rattle.abt_journal.specs.declared.entry.Entry.{Entry}
 use Rattle.abt_journal.specs.declared.input.PortInput.{PortInput}
 use Rattle.abt_journal.specs.declared.input.PortInput.TheVariants.{Request as RequestIn, Answer as AnswerIn, Arrive as ArriveIn}
 use Rattle.abt_journal.specs.declared.input.PortReply.{PortReply}
-use Rattle.abt_journal.specs.Replay.{table_after, replay}
+use Rattle.abt_journal.specs.declared.input.PortReply.TheVariants.{Requested as RequestedOut, Answered as AnsweredOut, Arrived as ArrivedOut}
+use Rattle.abt_journal.specs.Replay.{reply_by, table_after, replay}
 use Rattle.abt_woven.specs.Projections.{Step, step_of, Visit, is_enabled, reply_of, hop_met, input_of, visit_by, visit, past_of, step_at, steps_on}
 use Rattle.abt_weave.proofs.PortEvents.{IsVisit, visit_is, visit_made, has_reply, reply_enabled, some_same}
 use Rattle.abt_weave.proofs.PortLooks.{first_hop}
@@ -58,7 +59,7 @@ past_lawful net [] rates = nothing_lawful net
 past_lawful net (event ∷ earlier) rates = after_event_lawful net (past_of net earlier) (past_lawful net earlier (others_ask event earlier rates)) event (first_asks event earlier rates)
 
 -- an event that brings nothing comes to no port
-no_visit : (net : Topology) (past : List ConnectionFact) (event : Event) → ((vc : Channel) (facts : List Fact) → input_of vc facts event ≡ None) → visit net past event ≡ None
+pub no_visit : (net : Topology) (past : List ConnectionFact) (event : Event) → ((vc : Channel) (facts : List Fact) → input_of vc facts event ≡ None) → visit net past event ≡ None
 no_visit net past event none = go (reply_of (outcome_of net past event)) (conn_at net (conn_of event))
   where
     go : (r : Option PortReply) (o : Option Conn) → visit_by past event r o ≡ None
@@ -68,7 +69,7 @@ no_visit net past event none = go (reply_of (outcome_of net past event)) (conn_a
         ap (option_map (λ (input : PortInput). (let made : Visit = record { port = slice_index conn.path (hop_met event - 1); input = input; reply = reply } in made))) (none conn.vc (facts_of (conn_of event) past))
 
 -- the hop of the port that an event comes to
-hop_here : (net : Topology) (past : List ConnectionFact) → IsWithinRules net → (event : Event) (v : Visit) → (parts : IsVisit net past event v) → hop_of parts.conn.path v.port ≡ hop_met event
+pub hop_here : (net : Topology) (past : List ConnectionFact) → IsWithinRules net → (event : Event) (v : Visit) → (parts : IsVisit net past event v) → hop_of parts.conn.path v.port ≡ hop_met event
 hop_here net past rules event v parts =
     let enabled = reply_enabled (outcome_of net past event) v.reply parts.reply in
     let reply = has_reply net past event parts.conn v.input parts.known (first_hop net rules (conn_of event) parts.conn parts.known) parts.input enabled in
@@ -98,48 +99,76 @@ arrived_by true false false e v reply h = absurd (cc)
 arrived_by true false true true v reply h = absurd (cc)
 arrived_by true false true false v reply h = refl
 
--- what comes to a port makes of its table what its input does
-request_made : (net : Topology) (past : List ConnectionFact) → IsWithinRules net → AllLawful net past → (c hop seq : ℕ) (v : Visit) → visit net past (Request c hop seq) ≡ Some v →
-    port_table net (after_event net past (Request c hop seq)) v.port ≡ table_after (port_table net past v.port) v.input
-request_made net past rules lawful c hop seq v is =
+-- what comes to a port answers as its kind does
+pub request_said : (net : Topology) (past : List ConnectionFact) (c hop seq : ℕ) (v : Visit) → visit net past (Request c hop seq) ≡ Some v → (onward : Onward) × (outcome_of net past (Request c hop seq) ≡ Requested onward)
+request_said net past c hop seq v is =
     let event = Request c hop seq in
     let parts = visit_is net past event v is in
     let conn = parts.conn in
     let facts = facts_of c past in
     let known = outcome_of-known net past event conn parts.known in
     let onward = request_decision facts (reserved_on net past (port_of conn.path event)) (slice_index net.capacities (port_of conn.path event)) hop (request_of conn.vc facts seq) in
-    let said : outcome_of net past event ≡ Requested onward =
-    known ∙ requested_by (is_hop (length conn.path) hop) (request_is_at facts seq hop) onward v.reply (ap reply_of (sym known) ∙ parts.reply) in
-    let served = requests_served net past rules lawful c hop seq v.port conn onward parts.known (hop_here net past rules event v parts) said in
-    sym served.1 ∙ ap (table_after (port_table net past v.port)) (some_same parts.input)
+    (onward, known ∙ requested_by (is_hop (length conn.path) hop) (request_is_at facts seq hop) onward v.reply (ap reply_of (sym known) ∙ parts.reply))
 
-answer_made : (net : Topology) (past : List ConnectionFact) → IsWithinRules net → AllLawful net past → (c hop seq : ℕ) (granted : Bool) (v : Visit) → visit net past (Answer c hop seq granted) ≡ Some v →
-    port_table net (after_event net past (Answer c hop seq granted)) v.port ≡ table_after (port_table net past v.port) v.input
-answer_made net past rules lawful c hop seq granted v is =
+pub answer_said : (net : Topology) (past : List ConnectionFact) (c hop seq : ℕ) (granted : Bool) (v : Visit) → visit net past (Answer c hop seq granted) ≡ Some v → (back : Back) × (outcome_of net past (Answer c hop seq granted) ≡ Answered back)
+answer_said net past c hop seq granted v is =
     let event = Answer c hop seq granted in
     let parts = visit_is net past event v is in
     let conn = parts.conn in
     let facts = facts_of c past in
     let known = outcome_of-known net past event conn parts.known in
     let back = answer_decision facts hop (answer_to (request_of conn.vc facts seq) granted) in
-    let said : outcome_of net past event ≡ Answered back =
-    known ∙ answered_by (is_hop (length conn.path) hop) (answer_is_at (length conn.path) facts seq hop granted) back v.reply (ap reply_of (sym known) ∙ parts.reply) in
-    let served = answers_served net past rules lawful c hop seq v.port granted conn back parts.known (hop_here net past rules event v parts) said in
-    sym served.1 ∙ ap (table_after (port_table net past v.port)) (some_same parts.input)
+    (back, known ∙ answered_by (is_hop (length conn.path) hop) (answer_is_at (length conn.path) facts seq hop granted) back v.reply (ap reply_of (sym known) ∙ parts.reply))
 
-arrival_made : (net : Topology) (past : List ConnectionFact) → IsWithinRules net → AllLawful net past → (c cell at : ℕ) (v : Visit) → visit net past (Arrive c cell at) ≡ Some v →
-    port_table net (after_event net past (Arrive c cell at)) v.port ≡ table_after (port_table net past v.port) v.input
-arrival_made net past rules lawful c cell at v is =
+pub arrival_said : (net : Topology) (past : List ConnectionFact) (c cell at : ℕ) (v : Visit) → visit net past (Arrive c cell at) ≡ Some v → (verdict : Verdict) × (outcome_of net past (Arrive c cell at) ≡ Arrived verdict)
+arrival_said net past c cell at v is =
     let event = Arrive c cell at in
     let parts = visit_is net past event v is in
     let conn = parts.conn in
     let facts = facts_of c past in
     let known = outcome_of-known net past event conn parts.known in
     let verdict = verdict_at conn.tau facts at (held_of facts 1) in
-    let said : outcome_of net past event ≡ Arrived verdict =
-    known ∙ arrived_by (nat_lt cell (emitted_of facts)) (nat_lt cell (fence_of facts)) (is_in_time conn.delay conn.tau facts cell at) (nat_lt at (last_arrival_of facts)) verdict v.reply (ap reply_of (sym known) ∙ parts.reply) in
-    let served = arrivals_served net past rules lawful c cell at v.port conn verdict parts.known (hop_here net past rules event v parts) said in
-    sym served.1 ∙ ap (table_after (port_table net past v.port)) (some_same parts.input)
+    (verdict, known ∙ arrived_by (nat_lt cell (emitted_of facts)) (nat_lt cell (fence_of facts)) (is_in_time conn.delay conn.tau facts cell at) (nat_lt at (last_arrival_of facts)) verdict v.reply (ap reply_of (sym known) ∙ parts.reply))
+
+-- What comes to a port is replied to by its table, and makes of it what its input does.
+abbrev pub IsServed : Topology → List ConnectionFact → Event → Visit → Type 0
+IsServed net past event v = (v.reply ≡ reply_by (port_table net past v.port) v.input) × (port_table net (after_event net past event) v.port ≡ table_after (port_table net past v.port) v.input)
+
+request_made : (net : Topology) (past : List ConnectionFact) → IsWithinRules net → AllLawful net past → (c hop seq : ℕ) (v : Visit) → visit net past (Request c hop seq) ≡ Some v → IsServed net past (Request c hop seq) v
+request_made net past rules lawful c hop seq v is =
+    let event = Request c hop seq in
+    let parts = visit_is net past event v is in
+    let said = request_said net past c hop seq v is in
+    let served = requests_served net past rules lawful c hop seq v.port parts.conn said.0 parts.known (hop_here net past rules event v parts) said.1 in
+    let table = port_table net past v.port in
+    let input = some_same parts.input in (
+      some_same (sym parts.reply ∙ ap reply_of said.1) ∙ ap (λ (o : Onward). RequestedOut o) (sym served.0) ∙ ap (reply_by table) input,
+      sym served.1 ∙ ap (table_after table) input,
+    )
+
+answer_made : (net : Topology) (past : List ConnectionFact) → IsWithinRules net → AllLawful net past → (c hop seq : ℕ) (granted : Bool) (v : Visit) → visit net past (Answer c hop seq granted) ≡ Some v → IsServed net past (Answer c hop seq granted) v
+answer_made net past rules lawful c hop seq granted v is =
+    let event = Answer c hop seq granted in
+    let parts = visit_is net past event v is in
+    let said = answer_said net past c hop seq granted v is in
+    let served = answers_served net past rules lawful c hop seq v.port granted parts.conn said.0 parts.known (hop_here net past rules event v parts) said.1 in
+    let table = port_table net past v.port in
+    let input = some_same parts.input in (
+      some_same (sym parts.reply ∙ ap reply_of said.1) ∙ ap (λ (b : Back). AnsweredOut b) (sym served.0) ∙ ap (reply_by table) input,
+      sym served.1 ∙ ap (table_after table) input,
+    )
+
+arrival_made : (net : Topology) (past : List ConnectionFact) → IsWithinRules net → AllLawful net past → (c cell at : ℕ) (v : Visit) → visit net past (Arrive c cell at) ≡ Some v → IsServed net past (Arrive c cell at) v
+arrival_made net past rules lawful c cell at v is =
+    let event = Arrive c cell at in
+    let parts = visit_is net past event v is in
+    let said = arrival_said net past c cell at v is in
+    let served = arrivals_served net past rules lawful c cell at v.port parts.conn said.0 parts.known (hop_here net past rules event v parts) said.1 in
+    let table = port_table net past v.port in
+    let input = some_same parts.input in (
+      some_same (sym parts.reply ∙ ap reply_of said.1) ∙ ap ArrivedOut (sym served.0) ∙ ap (reply_by table) input,
+      sym served.1 ∙ ap (table_after table) input,
+    )
 
 -- the hop to which something comes is the one that it visits
 pub visited_met : (vc : Channel) (facts : List Fact) (event : Event) (input : PortInput) → input_of vc facts event ≡ Some input → hop_visited event ≡ hop_met event
@@ -154,8 +183,7 @@ visited_met vc facts (Emit c now) input h = absurd (cc)
 visited_met vc facts (Turn c seq) input h = absurd (cc)
 visited_met vc facts (Told c seq granted) input h = absurd (cc)
 
-event_made : (net : Topology) (past : List ConnectionFact) → IsWithinRules net → AllLawful net past → (event : Event) (v : Visit) → visit net past event ≡ Some v →
-    port_table net (after_event net past event) v.port ≡ table_after (port_table net past v.port) v.input
+pub event_made : (net : Topology) (past : List ConnectionFact) → IsWithinRules net → AllLawful net past → (event : Event) (v : Visit) → visit net past event ≡ Some v → IsServed net past event v
 event_made net past rules lawful (Request c hop seq) v is = request_made net past rules lawful c hop seq v is
 event_made net past rules lawful (Answer c hop seq granted) v is = answer_made net past rules lawful c hop seq granted v is
 event_made net past rules lawful (Arrive c cell at) v is = arrival_made net past rules lawful c cell at v is
@@ -224,7 +252,7 @@ unvisited net past rules lawful (Turn c seq) rate p none = stays net past rules 
 unvisited net past rules lawful (Told c seq granted) rate p none = stays net past rules lawful (Told c seq granted) rate refl p
 
 -- what one event makes of a table is what its step there does
-one_step : (net : Topology) (past : List ConnectionFact) → IsWithinRules net → AllLawful net past → (event : Event) → AsksRate event → (p place : ℕ) →
+pub one_step : (net : Topology) (past : List ConnectionFact) → IsWithinRules net → AllLawful net past → (event : Event) → AsksRate event → (p place : ℕ) →
     port_table net (after_event net past event) p ≡ replayed (port_table net past p) (step_at p place (visit net past event))
 one_step net past rules lawful event rate p place = elim (cases_option (visit net past event)) [
   | inl none ↦ unvisited net past rules lawful event rate p none ∙ ap (λ (o : Option Visit). replayed (port_table net past p) (step_at p place o)) (sym none)
@@ -232,7 +260,7 @@ one_step net past rules lawful event rate p place = elim (cases_option (visit ne
       let v = some.0 in
       let made : Step = record { place = place; input = v.input; reply = v.reply } in
       elim (cases_eq v.port p) [
-        | inl same ↦ subst (λ q. port_table net (after_event net past event) q ≡ table_after (port_table net past q) v.input) same (event_made net past rules lawful event v some.1)
+        | inl same ↦ subst (λ q. port_table net (after_event net past event) q ≡ table_after (port_table net past q) v.input) same (event_made net past rules lawful event v some.1).1
             ∙ ap (replayed (port_table net past p)) (sym (cond-true (v.port == p) (made ∷ []) [] (eq-eqb v.port p same)))
             ∙ ap (λ (o : Option Visit). replayed (port_table net past p) (step_at p place o)) (sym some.1)
         | inr differ ↦ tables_stay net past rules lawful event p rate (elsewhere net past event v p (visit_is net past event v some.1) differ)

@@ -1,12 +1,14 @@
 -- What it says that journals aren't woven.
-use Rattle.std.specs.Prelude.{◌≡◌, ◌≢◌, ℕ, zero, suc, ◌<◌, nat_lt, List, [], ◌∷◌, ◌++◌, length, reverse, if◌then◌else◌}
+use Rattle.std.specs.Prelude.{◌≡◌, ◌≢◌, ℕ, zero, suc, ◌<◌, nat_lt, List, [], ◌∷◌, ◌++◌, length, reverse, if◌then◌else◌, All}
 use Rattle.abt_net.specs.Topology.{Topology}
 use Rattle.abt_model.specs.declared.event.Event.{Event}
+use Rattle.abt_model.specs.Events.{AsksRate}
 use Rattle.abt_woven.specs.declared.actor.Actor.{Actor}
 use Rattle.abt_woven.specs.declared.actor.Actor.TheVariants.{Source, Port}
 use Rattle.abt_woven.specs.declared.actor.Stuck.{Stuck}
 use Rattle.abt_woven.specs.Projections.{steps_on, entries_on}
 use Rattle.abt_woven.specs.Stuck.{Journaled, port_journal, source_journal, StandsStill, PortMismatches, SourceMismatches}
+use Rattle.abt_woven.specs.Woven.{IsWoven}
 use Rattle.abt_weave.specs.declared.fault.WeaveFault.{WeaveFault}
 use Rattle.abt_weave.specs.declared.fault.WeaveFault.TheVariants.{Mismatch, NoOrder, Memory}
 
@@ -51,3 +53,13 @@ IsWeaveFault net journals (Mismatch actor place) =
 IsWeaveFault net journals (NoOrder stuck) =
     (events : List Event) × (StandsStill net journals (reverse events) × NoneMismatches net journals (reverse events) × (stuck ≡ all_left net journals (reverse events)) × (stuck ≢ []))
 IsWeaveFault net journals Memory = Unit {0}
+
+-- no list of events is woven from the journals
+abbrev pub NoneIsWoven : Topology → Journaled → Type 0
+NoneIsWoven net journals = (events : List Event) → All AsksRate events → IsWoven net journals.ports journals.sources events → ⊥
+
+-- a fault but want of memory says so
+abbrev pub SaysNoneIsWoven : Topology → Journaled → WeaveFault → Type 0
+SaysNoneIsWoven net journals (Mismatch actor place) = NoneIsWoven net journals
+SaysNoneIsWoven net journals (NoOrder stuck) = NoneIsWoven net journals
+SaysNoneIsWoven net journals Memory = Unit {0}

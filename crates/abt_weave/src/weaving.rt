@@ -4,7 +4,7 @@ ghost use Rattle.abt_model.specs.declared.event.Event.{Event as EventSpec};
 ghost use Rattle.abt_model.specs.Run.{facts_after};
 ghost use Rattle.abt_woven.specs.Woven.{IsWoven};
 ghost use Rattle.abt_weave.specs.Board.{journaled};
-ghost use Rattle.abt_weave.specs.Faults.{IsWeaveFault};
+ghost use Rattle.abt_weave.specs.Faults.{IsWeaveFault, SaysNoneIsWoven};
 ghost use Rattle.abt_weave.specs.Leaving.{LeavesAsJournaled};
 ghost use Rattle.abt_world.specs.Headline.{HeadlineHolds};
 
@@ -40,6 +40,7 @@ pub fn weave(
     ensures headline { IfOk result (λ events. (before after : List EventSpec) → before ++ after ≡ events →
         HeadlineHolds net.now (facts_after net.now before)) }
     ensures err { IfErr result (IsWeaveFault net.now (record { ports = journals.now; sources = sources.now })) }
+    ensures none { IfErr result (SaysNoneIsWoven net.now (record { ports = journals.now; sources = sources.now })) }
 {
     let given = Given {
         net,
@@ -59,6 +60,7 @@ fn weave_given(alloc: Global, given: &Given) -> Result<Sequence<Event>, WeaveFau
     ensures headline { IfOk result (λ events. (before after : List EventSpec) → before ++ after ≡ events →
         HeadlineHolds given.now.net.now (facts_after given.now.net.now before)) }
     ensures err { IfErr result (IsWeaveFault given.now.net.now (journaled given.now.ports.now given.now.sources.now)) }
+    ensures none { IfErr result (SaysNoneIsWoven given.now.net.now (journaled given.now.ports.now given.now.sources.now)) }
 {
     let mut board = Board::new(alloc, given)?;
     let seen = settle(alloc, given, &mut board)?;

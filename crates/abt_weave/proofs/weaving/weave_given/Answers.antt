@@ -11,7 +11,10 @@ use Rattle.abt_weave.proofs.Wovens.{source_first, port_first, none_mismatch, all
 use Rattle.abt_model.specs.Run.{facts_after}
 use Rattle.abt_world.proofs.Standings.{headline_before}
 use Rattle.abt_weave.specs.Leaving.{LeavesAsJournaled}
-use Rattle.abt_weave.proofs.Leavings.{leaves}
+use Rattle.abt_model.specs.Events.{AsksRate}
+use Rattle.abt_weave.proofs.AllBelow.{AreJournalsOf, source_none, port_none, order_none}
+use Rattle.abt_weave.proofs.Leavings.{all_reversed, leaves}
+use Rattle.abt_weave.proofs.NoneWoven.{HaveEnded}
 use Rattle.abt_weave.proofs.Ends.{all_still}
 use Rattle.abt_weave.proofs.weaving.weave_given.Goals as goal
 
@@ -111,3 +114,68 @@ returns-clause-leaves c =
 pub returns-clause-headline : goal.returns-clause-headline
 returns-clause-headline c before after is =
     headline_before c.args.given.now.net.now before after c.settle.new.board.events.items c.in_default.ensures.rules c.in_ok-seen.ensures.board.stands.rates (is ∙ c.from.ensures)
+
+pub returns-in-Some-clause-none : goal.returns-in-Some-clause-none
+returns-in-Some-clause-none c =
+    let net = c.args.given.now.net.now in
+    let ports = c.args.given.now.ports.now in
+    let sources = c.args.given.now.sources.now in
+    let js = journaled ports sources in
+    let events = c.settle.new.board.events.items in
+    let board = c.in_ok-seen.ensures.board in
+    let ms = c.in_ok-seen.seen.sources.items in
+    let mp = c.in_ok-seen.seen.ports.items in
+    let ss = c.in_ok-seen.ensures.sources in
+    let count = length-map ports (λ (entries : Vec Entry Global). entries.items) in
+    let ps = subst (λ n. AreSettled (IsPortSettled net js (reverse events)) n mp) (sym count) c.in_ok-seen.ensures.ports in
+    let are : AreJournalsOf net js = record { ports = count ∙ c.requires.ports; conns = c.requires.conns } in
+    let end : HaveEnded net js (reverse events) = record {
+      rules = c.in-Some.ensures.rules;
+      rates = all_reversed AsksRate events board.stands.rates;
+      stands = all_still net js c.in-Some.ensures.rules (reverse events) ms mp board.placed ss ps;
+    } in
+    let first = subst (λ m. IsFirstMark m Source c.settle.new.board.source_places.items c.in-Some.field-0) c.deref.ensures.value c.in-Some.ensures.first in
+    source_none net js (reverse events) first.number end are (ss.each first.number true first.marked).marks
+
+pub returns-in-Some-first_port-clause-none : goal.returns-in-Some-first_port-clause-none
+returns-in-Some-first_port-clause-none c =
+    let net = c.args.given.now.net.now in
+    let ports = c.args.given.now.ports.now in
+    let sources = c.args.given.now.sources.now in
+    let js = journaled ports sources in
+    let events = c.settle.new.board.events.items in
+    let board = c.in_ok-seen.ensures.board in
+    let ms = c.in_ok-seen.seen.sources.items in
+    let mp = c.in_ok-seen.seen.ports.items in
+    let ss = c.in_ok-seen.ensures.sources in
+    let count = length-map ports (λ (entries : Vec Entry Global). entries.items) in
+    let ps = subst (λ n. AreSettled (IsPortSettled net js (reverse events)) n mp) (sym count) c.in_ok-seen.ensures.ports in
+    let are : AreJournalsOf net js = record { ports = count ∙ c.requires.ports; conns = c.requires.conns } in
+    let end : HaveEnded net js (reverse events) = record {
+      rules = c.in_default.ensures.rules;
+      rates = all_reversed AsksRate events board.stands.rates;
+      stands = all_still net js c.in_default.ensures.rules (reverse events) ms mp board.placed ss ps;
+    } in
+    let first = subst (λ m. IsFirstMark m Port c.settle.new.board.port_places.items c.in-Some-first_port.field-0) c.deref-2.ensures.value c.in-Some-first_port.ensures in
+    port_none net js (reverse events) first.number end are (ps.each first.number true first.marked).marks
+
+pub returns-then-not-is_empty-clause-none : goal.returns-then-not-is_empty-clause-none
+returns-then-not-is_empty-clause-none c =
+    let net = c.args.given.now.net.now in
+    let ports = c.args.given.now.ports.now in
+    let sources = c.args.given.now.sources.now in
+    let js = journaled ports sources in
+    let events = c.settle.new.board.events.items in
+    let board = c.in_ok-seen.ensures.board in
+    let ms = c.in_ok-seen.seen.sources.items in
+    let mp = c.in_ok-seen.seen.ports.items in
+    let ss = c.in_ok-seen.ensures.sources in
+    let count = length-map ports (λ (entries : Vec Entry Global). entries.items) in
+    let ps = subst (λ n. AreSettled (IsPortSettled net js (reverse events)) n mp) (sym count) c.in_ok-seen.ensures.ports in
+    let are : AreJournalsOf net js = record { ports = count ∙ c.requires.ports; conns = c.requires.conns } in
+    let end : HaveEnded net js (reverse events) = record {
+      rules = c.in_default.ensures.rules;
+      rates = all_reversed AsksRate events board.stands.rates;
+      stands = all_still net js c.in_default.ensures.rules (reverse events) ms mp board.placed ss ps;
+    } in
+    order_none net js (reverse events) c.in_ok-left.left end are c.in_ok-left.ensures (some_left c.in_ok-left.left (sym c.is_empty.ensures ∙ c.if-not-is_empty.true))

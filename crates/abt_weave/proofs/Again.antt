@@ -1,0 +1,178 @@
+-- An event that comes where the journals stand as they stood answers the same again.
+use Rattle.std.proofs.Common.{◌≡◌, ◌≢◌, ℕ, ◌+◌, ◌-◌, ◌<◌, ◌≤◌, inl, inr, refl, ap, Bool, true, false, List, [], ◌∷◌, ◌++◌, length, ◌∙◌, sym, subst, Option, None, Some, arith}
+use Rattle.std.specs.Prelude.{◌==◌, ◌&&◌, ◌⊎◌, not, nat_lt, nat_le, if◌then◌else◌, slice_get, slice_index, max, min, All}
+use Rattle.std.proofs.lemmas.Bool.{false≢true, cond-true, cond-false, cases_Bool, cases_eq, eq-eqb, ne_eqb, eqb-true}
+use Rattle.std.proofs.lemmas.Option.{slice_get_within}
+use Rattle.abt_rate.specs.Rate.{spacing_of}
+use Rattle.abt_cell.specs.Channel.{Channel}
+use Rattle.abt_cell.specs.Message.{Terms}
+use Rattle.abt_gcra.specs.declared.verdict.Verdict.{Verdict}
+use Rattle.abt_keep.specs.declared.plan.StorePlan.{StorePlan}
+use Rattle.abt_shaper.specs.declared.fault.ShapeFault.TheVariants.{TimeRange, Zero, TooSoon}
+use Rattle.abt_source.specs.declared.fault.AskFault.TheVariants.{SeqExhausted}
+use Rattle.abt_net.specs.declared.conn.Conn.{Conn}
+use Rattle.abt_net.specs.Topology.{Topology, IsWithinRules}
+use Rattle.abt_facts.specs.declared.fact.Fact.{Fact}
+use Rattle.abt_facts.specs.Requests.{was_asked, floor_of, ask_of}
+use Rattle.abt_facts.specs.Source.{SourceState, Down, Idle, Asking, state_of, rate_of, last_of, clock_of, next_of}
+use Rattle.abt_facts.specs.Sent.{request_is_at, answer_is_at, answer_is_home, was_turned, was_back, was_shut, was_passed}
+use Rattle.abt_facts.specs.Cells.{emitted_of, moment_of, after_last_of, delivered_mark_of, last_arrival_of, fence_of, is_in_time, verdict_at}
+use Rattle.abt_facts.specs.Hop.{held_of}
+use Rattle.abt_node.specs.declared.reply.Onward.{Onward}
+use Rattle.abt_node.specs.declared.reply.Back.{Back}
+use Rattle.abt_model.specs.declared.connection_fact.ConnectionFact.{ConnectionFact}
+use Rattle.abt_model.specs.declared.event.Event.{Event}
+use Rattle.abt_model.specs.declared.event.Event.TheVariants.{Start, Ask, Again, Crash, Emit, Arrive, Request, Turn, Answer, Told}
+use Rattle.abt_model.specs.declared.outcome.Cause.TheVariants.{ClockBack, NotSent, Unknown, Fenced, Delay}
+use Rattle.abt_model.specs.declared.outcome.Outcome.{Outcome}
+use Rattle.abt_model.specs.declared.outcome.Outcome.TheVariants.{AskRefused, Crashed, Emitted, EmitRefused, Repeated, Requested, Answered, Arrived, Told as HasTold, NotEnabled}
+use Rattle.abt_model.specs.Answers.{emit_max, number_max, if_up, start_answer, next_request, stored_answer, ask_answer, again_answer, emit_answer, arrive_answer, told_answer, is_hop, answer_by}
+use Rattle.abt_model.specs.Conns.{conn_at}
+use Rattle.abt_model.specs.Decision.{request_of, answer_to, request_decision, answer_decision}
+use Rattle.abt_model.specs.Outcomes.{conn_of, port_of, outcome_at, outcome_of}
+use Rattle.abt_model.specs.Past.{facts_of}
+use Rattle.abt_model.specs.Reserved.{reserved_on}
+use Rattle.abt_model.proofs.Worlds.{outcome_of-known}
+use Rattle.abt_model.specs.Answers.{start_max}
+use Rattle.abt_source.specs.declared.fault.StartFault.TheVariants.{TimeRange as StartTimeRange}
+use Rattle.abt_model.specs.declared.outcome.Outcome.TheVariants.{Started, StartRefused}
+use Rattle.abt_model.proofs.Served.{conn_within}
+use Rattle.abt_woven.specs.Projections.{is_enabled, past_of, entries_on}
+use Rattle.abt_weave.specs.Candidates.{is_own_of, is_told}
+use Rattle.abt_weave.specs.Leaving.{facts_done}
+use Rattle.abt_weave.proofs.OwnReplays.{own_replayed}
+use Rattle.abt_weave.proofs.SentBelow.{IsBelow, back_below, shut_below}
+use Rattle.abt_weave.proofs.OwnFacts.{own, state_of-own, clock_of-own, last_of-own, rate_of-own, next_of-own, emitted_of-own, floor_of-own, ask_of-own}
+
+-- what a source answers is what its own facts say
+start_own : (facts : List Fact) (now : ℕ) (state : SourceState) → start_answer state (own facts) now ≡ start_answer state facts now
+start_own facts now Down = ap (λ (n : ℕ). if nat_lt now n then NotEnabled ClockBack else (if nat_lt start_max now then StartRefused StartTimeRange else Started)) (clock_of-own facts)
+start_own facts now Idle = refl
+start_own facts now (Asking s) = refl
+
+abbrev ask_by : Channel → (last rate_now rate : ℕ) → StorePlan → Outcome
+ask_by vc last rate_now rate plan = if last == number_max then AskRefused SeqExhausted else stored_answer plan (record { vc = vc; seq = last + 1; floor = min rate_now rate; ask = rate })
+
+ask_own : (vc : Channel) (facts : List Fact) (rate : ℕ) (plan : StorePlan) → ask_answer vc (own facts) rate plan ≡ ask_answer vc facts rate plan
+ask_own vc facts rate plan =
+    ap (λ (n : ℕ). ask_by vc n (rate_of (own facts)) rate plan) (last_of-own facts)
+    ∙ ap (λ (n : ℕ). ask_by vc (last_of facts) n rate plan) (rate_of-own facts)
+
+request_own : (vc : Channel) (facts : List Fact) (s : ℕ) → request_of vc (own facts) s ≡ request_of vc facts s
+request_own vc facts s =
+    ap (λ (n : ℕ). (let made : Terms = record { vc = vc; seq = s; floor = n; ask = ask_of (own facts) s } in made)) (floor_of-own facts s)
+    ∙ ap (λ (n : ℕ). (let made : Terms = record { vc = vc; seq = s; floor = floor_of facts s; ask = n } in made)) (ask_of-own facts s)
+
+again_own : (vc : Channel) (facts : List Fact) (state : SourceState) → again_answer vc state (own facts) ≡ again_answer vc state facts
+again_own vc facts Down = refl
+again_own vc facts Idle = refl
+again_own vc facts (Asking s) = ap Repeated (request_own vc facts s)
+
+abbrev emit_by : (clock rate next cells now : ℕ) → Outcome
+emit_by clock rate next cells now =
+    if nat_lt now clock then NotEnabled ClockBack
+    else (if nat_lt emit_max now then EmitRefused TimeRange
+    else (if rate == 0 then EmitRefused Zero
+    else (if nat_lt now next then EmitRefused (TooSoon next)
+    else Emitted cells (now + spacing_of rate))))
+
+emit_own : (facts : List Fact) (now : ℕ) → emit_answer (own facts) now ≡ emit_answer facts now
+emit_own facts now =
+    let others = own facts in
+    ap (λ (n : ℕ). emit_by n (rate_of others) (next_of others) (emitted_of others) now) (clock_of-own facts)
+    ∙ ap (λ (n : ℕ). emit_by (clock_of facts) n (next_of others) (emitted_of others) now) (rate_of-own facts)
+    ∙ ap (λ (n : ℕ). emit_by (clock_of facts) (rate_of facts) n (emitted_of others) now) (next_of-own facts)
+    ∙ ap (λ (n : ℕ). emit_by (clock_of facts) (rate_of facts) (next_of facts) n now) (emitted_of-own facts)
+
+-- a command, or an answer that lies at the source
+abbrev IsAtSource : List Fact → Event → Type 0
+IsAtSource facts (Told c seq granted) = answer_is_home facts seq granted ≡ true
+IsAtSource facts event = Unit {0}
+
+told_own : (conn : Conn) (r u : ℕ) (facts : List Fact) (c seq : ℕ) (granted : Bool) → answer_is_home facts seq granted ≡ true → answer_by conn r u facts (Told c seq granted) ≡ HasTold (told_answer (state_of (own facts)) seq granted)
+told_own conn r u facts c seq granted home =
+    ap (λ (b : Bool). if not b then NotEnabled NotSent else HasTold (told_answer (state_of facts) seq granted)) home
+    ∙ ap (λ (state : SourceState). HasTold (told_answer state seq granted)) (sym (state_of-own facts))
+
+-- where two connections' own facts are the same, a source answers the same
+own_answer : (conn : Conn) (c r u q w : ℕ) (facts others : List Fact) → own facts ≡ own others → (event : Event) → is_own_of c event ≡ true → IsAtSource facts event → IsAtSource others event →
+    answer_by conn r u facts event ≡ answer_by conn q w others event
+own_answer conn c r u q w facts others same (Start d now) mine home there =
+    sym (start_own facts now (state_of facts)) ∙ ap (λ s. start_answer s (own facts) now) (sym (state_of-own facts))
+    ∙ ap (λ (l : List Fact). start_answer (state_of l) l now) same
+    ∙ ap (λ s. start_answer s (own others) now) (state_of-own others) ∙ start_own others now (state_of others)
+own_answer conn c r u q w facts others same (Ask d rate plan) mine home there =
+    ap (if_up (state_of facts)) (sym (ask_own conn.vc facts rate plan)) ∙ ap (λ s. if_up s (ask_answer conn.vc (own facts) rate plan)) (sym (state_of-own facts))
+    ∙ ap (λ (l : List Fact). if_up (state_of l) (ask_answer conn.vc l rate plan)) same
+    ∙ ap (λ s. if_up s (ask_answer conn.vc (own others) rate plan)) (state_of-own others) ∙ ap (if_up (state_of others)) (ask_own conn.vc others rate plan)
+own_answer conn c r u q w facts others same (Again d) mine home there =
+    sym (again_own conn.vc facts (state_of facts)) ∙ ap (λ s. again_answer conn.vc s (own facts)) (sym (state_of-own facts))
+    ∙ ap (λ (l : List Fact). again_answer conn.vc (state_of l) l) same
+    ∙ ap (λ s. again_answer conn.vc s (own others)) (state_of-own others) ∙ again_own conn.vc others (state_of others)
+own_answer conn c r u q w facts others same (Crash d) mine home there =
+    ap (λ s. if_up s Crashed) (sym (state_of-own facts)) ∙ ap (λ (l : List Fact). if_up (state_of l) Crashed) same ∙ ap (λ s. if_up s Crashed) (state_of-own others)
+own_answer conn c r u q w facts others same (Emit d now) mine home there =
+    ap (if_up (state_of facts)) (sym (emit_own facts now)) ∙ ap (λ s. if_up s (emit_answer (own facts) now)) (sym (state_of-own facts))
+    ∙ ap (λ (l : List Fact). if_up (state_of l) (emit_answer l now)) same
+    ∙ ap (λ s. if_up s (emit_answer (own others) now)) (state_of-own others) ∙ ap (if_up (state_of others)) (emit_own others now)
+own_answer conn c r u q w facts others same (Told d seq granted) mine home there =
+    told_own conn r u facts d seq granted home ∙ ap (λ (l : List Fact). HasTold (told_answer (state_of l) seq granted)) same ∙ sym (told_own conn q w others d seq granted there)
+own_answer conn c r u q w facts others same (Arrive d cell at) mine home there = absurd (false≢true mine)
+own_answer conn c r u q w facts others same (Request d hop seq) mine home there = absurd (false≢true mine)
+own_answer conn c r u q w facts others same (Turn d seq) mine home there = absurd (false≢true mine)
+own_answer conn c r u q w facts others same (Answer d hop seq granted) mine home there = absurd (false≢true mine)
+
+-- an answer that was told lies at the source
+home_told : (facts : List Fact) (c seq : ℕ) (granted : Bool) (b : Bool) → is_enabled (if not b then NotEnabled NotSent else HasTold (told_answer (state_of facts) seq granted)) ≡ true → b ≡ true
+home_told facts c seq granted true on = refl
+home_told facts c seq granted false on = absurd (false≢true on)
+
+home_below : (net : Topology) → IsWithinRules net → (c : ℕ) (conn : Conn) → conn_at net c ≡ Some conn → (less more : List Event) → IsBelow net less more → (seq : ℕ) (granted : Bool) →
+    answer_is_home (facts_of c (past_of net less)) seq granted ≡ true → answer_is_home (facts_of c (past_of net more)) seq granted ≡ true
+home_below net rules c conn known less more below seq true home =
+    back_below net c conn seq 1 (record { rules = rules; known = known; low = omega arith; high = (let h = (conn_within net rules c conn known).has_hop in omega (arith, h)) }) less more below home
+home_below net rules c conn known less more below seq false home =
+    shut_below net c conn seq 1 (record { rules = rules; known = known; low = omega arith; high = (let h = (conn_within net rules c conn known).has_hop in omega (arith, h)) }) less more below home
+
+at_source : (net : Topology) (past : List ConnectionFact) (conn : Conn) (event : Event) → conn_at net (conn_of event) ≡ Some conn → is_told event && not (is_enabled (outcome_of net past event)) ≡ false → IsAtSource (facts_of (conn_of event) past) event
+at_source net past conn (Told c seq granted) known on =
+    let known_is = outcome_of-known net past (Told c seq granted) conn known in
+    home_told (facts_of c past) c seq granted (answer_is_home (facts_of c past) seq granted) (sym (ap is_enabled known_is) ∙ on_is (is_enabled (outcome_of net past (Told c seq granted))) on)
+  where
+    on_is : (b : Bool) → not b ≡ false → b ≡ true
+    on_is true h = refl
+    on_is false h = sym h
+at_source net past conn (Start c now) known on = tt
+at_source net past conn (Ask c rate plan) known on = tt
+at_source net past conn (Again c) known on = tt
+at_source net past conn (Crash c) known on = tt
+at_source net past conn (Emit c now) known on = tt
+at_source net past conn (Arrive c cell at) known on = tt
+at_source net past conn (Request c hop seq) known on = tt
+at_source net past conn (Turn c seq) known on = tt
+at_source net past conn (Answer c hop seq granted) known on = tt
+
+source_below : (net : Topology) → IsWithinRules net → (conn : Conn) (less more : List Event) → IsBelow net less more → (event : Event) → conn_at net (conn_of event) ≡ Some conn → IsAtSource (facts_of (conn_of event) (past_of net less)) event →
+    IsAtSource (facts_of (conn_of event) (past_of net more)) event
+source_below net rules conn less more below (Told c seq granted) known home = home_below net rules c conn known less more below seq granted home
+source_below net rules conn less more below (Start c now) known home = tt
+source_below net rules conn less more below (Ask c rate plan) known home = tt
+source_below net rules conn less more below (Again c) known home = tt
+source_below net rules conn less more below (Crash c) known home = tt
+source_below net rules conn less more below (Emit c now) known home = tt
+source_below net rules conn less more below (Arrive c cell at) known home = tt
+source_below net rules conn less more below (Request c hop seq) known home = tt
+source_below net rules conn less more below (Turn c seq) known home = tt
+source_below net rules conn less more below (Answer c hop seq granted) known home = tt
+
+-- what a source did where its journal stood so, it does again there
+pub own_again : (net : Topology) → IsWithinRules net → (less more : List Event) → IsBelow net less more → (conn : Conn) (event : Event) → conn_at net (conn_of event) ≡ Some conn → is_own_of (conn_of event) event ≡ true →
+    is_told event && not (is_enabled (outcome_of net (past_of net less) event)) ≡ false → entries_on net (conn_of event) less ≡ entries_on net (conn_of event) more →
+    outcome_of net (past_of net less) event ≡ outcome_of net (past_of net more) event
+own_again net rules less more below conn event known mine on same =
+    let c = conn_of event in
+    let home = at_source net (past_of net less) conn event known on in
+    let facts : own (facts_of c (past_of net less)) ≡ own (facts_of c (past_of net more)) = own_replayed net c less ∙ ap (facts_done []) same ∙ sym (own_replayed net c more) in
+    outcome_of-known net (past_of net less) event conn known
+    ∙ own_answer conn c _ _ _ _ (facts_of c (past_of net less)) (facts_of c (past_of net more)) facts event mine home (source_below net rules conn less more below event known home)
+    ∙ sym (outcome_of-known net (past_of net more) event conn known)

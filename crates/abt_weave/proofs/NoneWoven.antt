@@ -1,0 +1,306 @@
+-- Where events stand still with entries left, no list of events is woven from the journals.
+use Rattle.std.proofs.Common.{◌≡◌, ◌≢◌, ℕ, zero, suc, ◌+◌, ◌-◌, ◌<◌, ◌≤◌, inl, inr, refl, ap, Bool, true, false, List, [], ◌∷◌, ◌++◌, length, reverse, ◌∙◌, sym, subst, Option, None, Some, arith}
+use Rattle.std.specs.Prelude.{◌==◌, ◌&&◌, ◌||◌, ◌⊎◌, not, nat_lt, if◌then◌else◌, slice_get, slice_index, All}
+use Rattle.std.proofs.lemmas.Bool.{false≢true, cond-true, cond-false, cases_Bool, cases_eq, eq-eqb, ne_eqb, eqb-true}
+use Rattle.std.proofs.lemmas.List.{append_assoc, append-nil, length-append, length-map}
+use Rattle.std.proofs.lemmas.Option.{slice_get_within}
+use Rattle.abt_cell.specs.Message.{Terms}
+use Rattle.abt_net.specs.declared.conn.Conn.{Conn}
+use Rattle.abt_net.specs.Topology.{Topology, IsWithinRules}
+use Rattle.abt_facts.specs.declared.fact.Fact.{Fact}
+use Rattle.abt_facts.specs.declared.fact.Fact.TheVariants.{Turned as FactTurned}
+use Rattle.abt_facts.specs.Sent.{answer_is_at, was_turned, was_passed, was_back, was_shut}
+use Rattle.abt_model.specs.declared.connection_fact.ConnectionFact.{ConnectionFact}
+use Rattle.abt_model.specs.declared.event.Event.{Event}
+use Rattle.abt_model.specs.declared.event.Event.TheVariants.{Start, Ask, Again, Crash, Emit, Arrive, Request, Turn, Answer, Told}
+use Rattle.abt_model.specs.declared.outcome.Cause.TheVariants.{NotSent}
+use Rattle.abt_model.specs.declared.outcome.Outcome.{Outcome}
+use Rattle.abt_model.specs.declared.outcome.Outcome.TheVariants.{Turned, NotEnabled}
+use Rattle.abt_model.specs.Answers.{is_hop}
+use Rattle.abt_model.specs.Conns.{conn_at}
+use Rattle.abt_model.specs.Events.{AsksRate}
+use Rattle.abt_model.specs.Outcomes.{conn_of, outcome_of, facts_added}
+use Rattle.abt_model.specs.Past.{facts_of}
+use Rattle.abt_model.proofs.Chain.{turned_passed}
+use Rattle.abt_model.proofs.Lawful.{route_of}
+use Rattle.abt_model.proofs.Served.{conn_within}
+use Rattle.abt_model.proofs.Steps.{is_hop_tells}
+use Rattle.abt_model.proofs.Worlds.{cases_option, outcome_of-known, lawful_at, first_asks, others_ask, facts_of-own}
+use Rattle.abt_journal.specs.declared.entry.Entry.{Entry}
+use Rattle.abt_journal.specs.declared.input.PortInput.{PortInput}
+use Rattle.abt_journal.specs.declared.input.PortInput.TheVariants.{Request as RequestIn, Answer as AnswerIn, Arrive as ArriveIn}
+use Rattle.abt_source_journal.specs.declared.entry.SourceEntry.{SourceEntry}
+use Rattle.abt_source_journal.specs.declared.entry.SourceEntry.TheVariants.{Did, Sent, Arrived as ArrivedAt}
+use Rattle.abt_source_journal.specs.declared.journal.SourceJournal.{SourceJournal}
+use Rattle.abt_woven.specs.Projections.{Step, step_of, Visit, is_enabled, reply_of, hop_met, input_of, entry_of, place_at_first, past_of, visit, step_at, steps_on, entry_made, entry_at, entries_on}
+use Rattle.abt_woven.specs.Stuck.{Journaled, steps_in, entries_in, port_journal, source_journal, next_step, next_entry, step_next, Fits, IsTurn, AreTurns, IsBeginning, ArePlaced, StandsStill}
+use Rattle.abt_woven.specs.Woven.{IsWoven}
+use Rattle.abt_woven.proofs.Turns.{steps_turn, entries_turn, steps_turns, entries_turns}
+use Rattle.abt_weave.specs.Candidates.{is_own_of, is_told}
+use Rattle.abt_weave.specs.Comes.{entry_beside}
+use Rattle.abt_weave.proofs.Again.{own_again}
+use Rattle.abt_weave.proofs.Ends.{own_or_visit, whole_beginning}
+use Rattle.abt_weave.proofs.Growth.{entries_other, entries_none, steps_none, steps_other}
+use Rattle.abt_weave.proofs.OwnEvents.{IsDone, made_own, own_made, own_visit, own_fits}
+use Rattle.abt_weave.proofs.Places.{Names, IsFirstStep, IsBesideStep, IsNamed, less_if, step_made, entries_made, named_now, named_low, step_named}
+use Rattle.abt_weave.proofs.PortEvents.{IsVisit, visit_is, has_reply, reply_enabled, some_same}
+use Rattle.abt_weave.proofs.PortLooks.{first_hop}
+use Rattle.abt_weave.proofs.Candidates.{and_both}
+use Rattle.std.proofs.lemmas.List.Elements.{All-cons}
+use Rattle.abt_weave.proofs.Prefixes.{begins_more, get_whole, get_beginning, begins_next, get_last}
+use Rattle.abt_weave.proofs.Replays.{no_visit, past_lawful}
+use Rattle.abt_weave.proofs.SentBelow.{IsBelow, passed_below, back_below, shut_below}
+use Rattle.abt_weave.proofs.VisitAgain.{AreBoth, ComesAgain, came_back, request_again, answer_again, arrival_again}
+
+-- events that are beginnings of the journals, as far as the net goes
+pub record AreBegun (net : Topology) (js : Journaled) (events : List Event) : Type 0 where
+  pub ports : (p : ℕ) → p < length net.capacities → IsBeginning (steps_on net p events) (port_journal js p)
+  pub conns : (c : ℕ) → c < length net.conns → IsBeginning (entries_on net c events) (source_journal js c)
+
+shorter : {A : Type 0} → (xs ys zs : List A) → IsBeginning (xs ++ ys) zs → IsBeginning xs zs
+shorter xs ys zs begins = (ys ++ begins.0, begins.1 ∙ append_assoc xs ys begins.0)
+
+pub begun_before : (net : Topology) (js : Journaled) (event : Event) (earlier : List Event) → AreBegun net js (event ∷ earlier) → AreBegun net js earlier
+begun_before net js event earlier begun = record {
+  ports = λ p low. shorter (steps_on net p earlier) (step_at p (length (steps_on net p earlier)) (visit net (past_of net earlier) event)) (port_journal js p) (begun.ports p low);
+  conns = λ c low. shorter (entries_on net c earlier) (entry_at (conn_of event) c (entry_made net earlier event)) (source_journal js c) (begun.conns c low);
+}
+
+-- Events that stand still before journals.
+pub record HaveEnded (net : Topology) (js : Journaled) (ended : List Event) : Type 0 where
+  pub rules : IsWithinRules net
+  pub rates : All AsksRate ended
+  pub stands : StandsStill net js ended
+
+-- how far one beginning of a list goes, by another
+pub cases_less : {A : Type 0} → (xs ys : List A) → IsBeginning xs ys → (length xs < length ys) ⊎ (xs ≡ ys)
+cases_less xs ys (([], is)) = inr (sym (is ∙ append-nil xs))
+cases_less xs ys ((y ∷ rest, is)) = inl (let e = ap (λ l. length l) is ∙ length-append xs (y ∷ rest) in omega (arith, e))
+
+-- the next step and the next entry by the journals
+pub step_due : (net : Topology) (js : Journaled) (event : Event) (earlier : List Event) (v : Visit) → AreBegun net js (event ∷ earlier) → v.port < length net.capacities → visit net (past_of net earlier) event ≡ Some v →
+    slice_get (port_journal js v.port) (length (steps_on net v.port earlier)) ≡ Some (step_next net earlier v)
+step_due net js event earlier v begun low is =
+    get_whole (steps_on net v.port (event ∷ earlier)) (port_journal js v.port) (length (steps_on net v.port earlier)) (step_next net earlier v) (begun.ports v.port low)
+    (ap (λ l. slice_get l (length (steps_on net v.port earlier))) (step_made net earlier event v is) ∙ get_last (steps_on net v.port earlier) (step_next net earlier v))
+
+pub entry_due : (net : Topology) (js : Journaled) (event : Event) (earlier : List Event) (x : SourceEntry) → AreBegun net js (event ∷ earlier) → conn_of event < length net.conns → entry_made net earlier event ≡ Some x →
+    slice_get (source_journal js (conn_of event)) (length (entries_on net (conn_of event) earlier)) ≡ Some x
+entry_due net js event earlier x begun low made =
+    let c = conn_of event in
+    get_whole (entries_on net c (event ∷ earlier)) (source_journal js c) (length (entries_on net c earlier)) x (begun.conns c low)
+    (ap (λ l. slice_get l (length (entries_on net c earlier))) (entries_made net earlier event c x made refl) ∙ get_last (entries_on net c earlier) x)
+
+-- a list below another stays so by an event whose entries the other has already
+port_on : (net : Topology) (js : Journaled) (ended earlier : List Event) (event : Event) (p : ℕ) → IsBeginning (steps_on net p earlier) (steps_on net p ended) →
+    ((v : Visit) → visit net (past_of net earlier) event ≡ Some v → v.port ≡ p → slice_get (steps_on net p ended) (length (steps_on net p earlier)) ≡ Some (step_next net earlier v)) →
+    IsBeginning (steps_on net p (event ∷ earlier)) (steps_on net p ended)
+port_on net js ended earlier event p begins has = elim (cases_option (visit net (past_of net earlier) event)) [
+  | inl none ↦ subst (λ l. IsBeginning l (steps_on net p ended)) (sym (steps_none net earlier event p none)) begins
+  | inr some ↦ (elim (cases_eq some.0.port p) [
+    | inr differ ↦ subst (λ l. IsBeginning l (steps_on net p ended)) (sym (steps_other net earlier event p some.0 some.1 differ)) begins
+    | inl same ↦ (
+        let made = subst (λ q. steps_on net q (event ∷ earlier) ≡ steps_on net q earlier ++ record { place = length (steps_on net q earlier); input = some.0.input; reply = some.0.reply } ∷ []) same (step_made net earlier event some.0 some.1) in
+        let at = has some.0 some.1 same in
+        let at_p : slice_get (steps_on net p ended) (length (steps_on net p earlier)) ≡ Some (record { place = length (steps_on net p earlier); input = some.0.input; reply = some.0.reply }) =
+        at ∙ ap (λ q. Some (let s : Step = record { place = length (steps_on net q earlier); input = some.0.input; reply = some.0.reply } in s)) same in
+        subst (λ l. IsBeginning l (steps_on net p ended)) (sym made) (begins_next (steps_on net p earlier) (steps_on net p ended) _ begins at_p))
+  ])
+]
+
+conn_on : (net : Topology) (ended earlier : List Event) (event : Event) (c : ℕ) → IsBeginning (entries_on net c earlier) (entries_on net c ended) →
+    ((x : SourceEntry) → entry_made net earlier event ≡ Some x → conn_of event ≡ c → slice_get (entries_on net c ended) (length (entries_on net c earlier)) ≡ Some x) →
+    IsBeginning (entries_on net c (event ∷ earlier)) (entries_on net c ended)
+conn_on net ended earlier event c begins has = elim (cases_eq (conn_of event) c) [
+  | inr differ ↦ subst (λ l. IsBeginning l (entries_on net c ended)) (sym (entries_other net earlier event c differ)) begins
+  | inl same ↦ (elim (cases_option (entry_made net earlier event)) [
+    | inl none ↦ subst (λ l. IsBeginning l (entries_on net c ended)) (sym (entries_none net earlier event c none)) begins
+    | inr some ↦ subst (λ l. IsBeginning l (entries_on net c ended)) (sym (entries_made net earlier event c some.0 some.1 same)) (begins_next (entries_on net c earlier) (entries_on net c ended) some.0 begins (has some.0 some.1 same))
+  ])
+]
+
+-- What a list has where another has ended: the next step of a port, or the port is where it was.
+abbrev pub PortHas : Topology → List Event → List Event → Event → Type 0
+PortHas net ended earlier event = (v : Visit) → visit net (past_of net earlier) event ≡ Some v → slice_get (steps_on net v.port ended) (length (steps_on net v.port earlier)) ≡ Some (step_next net earlier v)
+
+abbrev pub ConnHas : Topology → List Event → List Event → Event → Type 0
+ConnHas net ended earlier event = (x : SourceEntry) → entry_made net earlier event ≡ Some x → conn_of event < length net.conns → slice_get (entries_on net (conn_of event) ended) (length (entries_on net (conn_of event) earlier)) ≡ Some x
+
+pub below_on : (net : Topology) (js : Journaled) (ended earlier : List Event) (event : Event) → IsBelow net earlier ended → PortHas net ended earlier event → ConnHas net ended earlier event → IsBelow net (event ∷ earlier) ended
+below_on net js ended earlier event below port conn = record {
+  ports = λ p low. port_on net js ended earlier event p (below.ports p low) (λ v is here. subst (λ q. slice_get (steps_on net q ended) (length (steps_on net q earlier)) ≡ Some (step_next net earlier v)) here (port v is));
+  conns = λ c low. conn_on net ended earlier event c (below.conns c low)
+      (λ x made same. subst (λ d. slice_get (entries_on net d ended) (length (entries_on net d earlier)) ≡ Some x) same (conn x made (subst (λ d. d < length net.conns) (sym same) low)));
+}
+
+-- a port that an event comes to is one of the net
+pub visit_low : (net : Topology) → IsWithinRules net → (past : List ConnectionFact) (event : Event) (v : Visit) → visit net past event ≡ Some v → v.port < length net.capacities
+visit_low net rules past event v is =
+    let parts = visit_is net past event v is in
+    let enabled = reply_enabled (outcome_of net past event) v.reply parts.reply in
+    let reply = has_reply net past event parts.conn v.input parts.known (first_hop net rules (conn_of event) parts.conn parts.known) parts.input enabled in
+    let hop = is_hop_tells (length parts.conn.path) (hop_met event) reply.within in
+    subst (λ n. n < length net.capacities) parts.port ((conn_within net rules (conn_of event) parts.conn parts.known).in_net (hop_met event - 1) 0 (omega (arith, hop.0, hop.1)))
+
+-- An event comes again where all has ended, also after Turns.
+pub record AgainAt (net : Topology) (ended earlier : List Event) (event : Event) (v : Visit) : Type 0 where
+  pub turns : List Event
+  pub all : AreTurns net ended turns
+  pub again : ComesAgain net earlier (turns ++ ended) event v
+
+-- what stands in the way of an end: an event that fits
+pub fits_again : (net : Topology) (js : Journaled) (ended earlier : List Event) (event : Event) (v : Visit) → HaveEnded net js ended → AreBegun net js (event ∷ earlier) → AgainAt net ended earlier event v → visit net (past_of net earlier) event ≡ Some v →
+    steps_on net v.port earlier ≡ steps_on net v.port ended → ((x : SourceEntry) → entry_made net earlier event ≡ Some x → entries_on net (conn_of event) earlier ≡ entries_on net (conn_of event) ended) → ⊥
+fits_again net js ended earlier event v end begun at is same beside =
+    let more = at.turns ++ ended in
+    let parts = visit_is net (past_of net earlier) event v is in
+    let low = visit_low net end.rules (past_of net earlier) event v is in
+    let steps : steps_on net v.port earlier ≡ steps_on net v.port more = same ∙ sym (steps_turns net ended at.turns at.all v.port) in
+    let due = step_due net js event earlier v begun low is in
+    let next : next_step net js more v.port ≡ Some (step_next net more v) =
+    ap (λ (l : List Step). slice_get (port_journal js v.port) (length l)) (sym steps) ∙ due
+    ∙ ap (λ (l : List Step). Some (let s : Step = record { place = length l; input = v.input; reply = v.reply } in s)) steps in
+    end.stands.still at.turns at.all event (record {
+      falls = inl (λ none. (let clash = sym none ∙ at.again.visits in cc));
+      step = λ w also.
+          (let here : v ≡ w = some_same (sym at.again.visits ∙ also) in
+          subst (λ (u : Visit). next_step net js more u.port ≡ Some (step_next net more u)) here next);
+      entry = λ x also.
+          (let made = sym at.again.beside ∙ also in
+          let c_low = slice_get_within net.conns (conn_of event) parts.conn parts.known in
+          ap (λ (l : List SourceEntry). slice_get (source_journal js (conn_of event)) (length l)) (entries_turns net ended at.turns at.all (conn_of event) ∙ sym (beside x made))
+          ∙ entry_due net js event earlier x begun c_low made);
+    })
+
+pub both_are : (net : Topology) (js : Journaled) (ended earlier : List Event) → HaveEnded net js ended → All AsksRate earlier → IsBelow net earlier ended → AreBoth net earlier ended
+both_are net js ended earlier end rates below = record { rules = end.rules; one = rates; other = end.rates; below = below }
+
+both_turned : (net : Topology) (js : Journaled) (ended earlier : List Event) → HaveEnded net js ended → All AsksRate earlier → IsBelow net earlier ended → (c seq : ℕ) → AreBoth net earlier (Turn c seq ∷ ended)
+both_turned net js ended earlier end rates below c seq = record {
+  rules = end.rules;
+  one = rates;
+  other = All-cons AsksRate (Turn c seq) ended tt end.rates;
+  below = record {
+    ports = λ p low. subst (λ l. IsBeginning (steps_on net p earlier) l) (sym (steps_turn net ended c seq p)) (below.ports p low);
+    conns = λ d low. subst (λ l. IsBeginning (entries_on net d earlier) l) (sym (entries_turn net ended c seq d)) (below.conns d low);
+  };
+}
+
+-- a yes that was turned is turned already, or can be
+record CanTurn (net : Topology) (ended : List Event) (c seq : ℕ) : Type 0 where
+  turns : List Event
+  all : AreTurns net ended turns
+  is : (turns ≡ []) ⊎ (turns ≡ Turn c seq ∷ [])
+  turned : was_turned (facts_of c (past_of net (turns ++ ended))) seq ≡ true
+
+turn_on : (b : Bool) → b ≡ true → (if not b then NotEnabled NotSent else Turned) ≡ Turned
+turn_on true h = refl
+turn_on false h = absurd (false≢true h)
+
+can_turn : (net : Topology) (js : Journaled) (ended earlier : List Event) → HaveEnded net js ended → All AsksRate earlier → IsBelow net earlier ended → (c seq : ℕ) (conn : Conn) → conn_at net c ≡ Some conn →
+    was_turned (facts_of c (past_of net earlier)) seq ≡ true → CanTurn net ended c seq
+can_turn net js ended earlier end rates below c seq conn known turned =
+    let past = past_of net ended in
+    let facts = facts_of c past in
+    elim (cases_Bool (was_turned facts seq)) [
+      | inl already ↦ record { turns = []; all = tt; is = inl refl; turned = already }
+      | inr before ↦ (
+          let within = conn_within net end.rules c conn known in
+          let passed = turned_passed (route_of conn) (facts_of c (past_of net earlier)) (lawful_at net (past_of net earlier) (past_lawful net earlier rates) c conn known) seq turned in
+          let through = passed_below net c conn seq (length conn.path) (record { rules = end.rules; known = known; low = (let h = within.has_hop in omega (arith, h)); high = omega arith }) earlier ended below passed in
+          let happens : outcome_of net past (Turn c seq) ≡ Turned = outcome_of-known net past (Turn c seq) conn known ∙ turn_on (was_passed facts seq (length conn.path)) through in
+          let now : facts_of c (past_of net (Turn c seq ∷ ended)) ≡ FactTurned seq ∷ facts = facts_of-own net past (Turn c seq) ∙ ap (λ o. facts_added facts (Turn c seq) o ++ facts) happens in
+          record {
+            turns = Turn c seq ∷ [];
+            all = (record { conn = c; seq = seq; is = refl; happens = happens }, tt);
+            is = inr refl;
+            turned = ap (λ l. was_turned l seq) now ∙ ap (λ b. b || was_turned facts seq) (eq-eqb seq seq refl);
+          })
+    ]
+
+both_by : (net : Topology) (js : Journaled) (ended earlier : List Event) → HaveEnded net js ended → All AsksRate earlier → IsBelow net earlier ended → (c seq : ℕ) (turns : List Event) → (turns ≡ []) ⊎ (turns ≡ Turn c seq ∷ []) → AreBoth net earlier (turns ++ ended)
+both_by net js ended earlier end rates below c seq turns (inl none) = subst (λ l. AreBoth net earlier (l ++ ended)) (sym none) (both_are net js ended earlier end rates below)
+both_by net js ended earlier end rates below c seq turns (inr one) = subst (λ l. AreBoth net earlier (l ++ ended)) (sym one) (both_turned net js ended earlier end rates below c seq)
+
+-- an answer comes again
+yes_sent : (hops hop seq : ℕ) (facts : List Fact) → (hop ≡ hops → was_turned facts seq ≡ true) → (hop ≢ hops → was_back facts seq (hop + 1) ≡ true) → answer_is_at hops facts seq hop true ≡ true
+yes_sent hops hop seq facts last other = elim (cases_eq hop hops) [
+  | inl same ↦ cond-true _ _ _ (eq-eqb hop hops same) ∙ last same
+  | inr differ ↦ cond-false _ _ _ (ne_eqb hop hops differ) ∙ other differ
+]
+
+yes_was : (hops hop seq : ℕ) (facts : List Fact) → answer_is_at hops facts seq hop true ≡ true → (hop ≡ hops → was_turned facts seq ≡ true) × (hop ≢ hops → was_back facts seq (hop + 1) ≡ true)
+yes_was hops hop seq facts h = (λ same. sym (cond-true _ _ _ (eq-eqb hop hops same)) ∙ h, λ differ. sym (cond-false _ _ _ (ne_eqb hop hops differ)) ∙ h)
+
+yes_again : (net : Topology) (js : Journaled) (ended earlier : List Event) → HaveEnded net js ended → All AsksRate earlier → IsBelow net earlier ended → (c hop seq : ℕ) (v : Visit) → visit net (past_of net earlier) (Answer c hop seq true) ≡ Some v →
+    steps_on net v.port earlier ≡ steps_on net v.port ended → AgainAt net ended earlier (Answer c hop seq true) v
+yes_again net js ended earlier end rates below c hop seq v is same =
+    let back = came_back net earlier c hop seq true v is in
+    let conn = back.conn in
+    let hops = length conn.path in
+    let within = is_hop_tells hops hop back.within in
+    let was = yes_was hops hop seq (facts_of c (past_of net earlier)) back.sent in
+    elim (cases_eq hop hops) [
+      | inr differ ↦ (
+          let behind = back_below net c conn seq (hop + 1) (record { rules = end.rules; known = back.known; low = omega arith; high = omega (arith, within.1, differ) }) earlier ended below (was.1 differ) in
+          let both = both_are net js ended earlier end rates below in
+          record {
+            turns = [];
+            all = tt;
+            again = answer_again net earlier ended both c hop seq true v is same (λ k known. (
+                let its : conn ≡ k = some_same (sym back.known ∙ known) in
+                subst (λ (w : Conn). answer_is_at (length w.path) (facts_of c (past_of net ended)) seq hop true ≡ true) its
+                (yes_sent hops hop seq (facts_of c (past_of net ended)) (λ e. absurd (differ e)) (λ e. behind))));
+          })
+      | inl last ↦ (
+          let turn = can_turn net js ended earlier end rates below c seq conn back.known (was.0 last) in
+          let more = turn.turns ++ ended in
+          let both = both_by net js ended earlier end rates below c seq turn.turns turn.is in
+          record {
+            turns = turn.turns;
+            all = turn.all;
+            again = answer_again net earlier more both c hop seq true v is (same ∙ sym (steps_turns net ended turn.turns turn.all v.port)) (λ k known. (
+                let its : conn ≡ k = some_same (sym back.known ∙ known) in
+                subst (λ (w : Conn). answer_is_at (length w.path) (facts_of c (past_of net more)) seq hop true ≡ true) its
+                (yes_sent hops hop seq (facts_of c (past_of net more)) (λ e. turn.turned) (λ differ. absurd (differ last)))));
+          })
+    ]
+
+no_again : (net : Topology) (js : Journaled) (ended earlier : List Event) → HaveEnded net js ended → All AsksRate earlier → IsBelow net earlier ended → (c hop seq : ℕ) (v : Visit) → visit net (past_of net earlier) (Answer c hop seq false) ≡ Some v →
+    steps_on net v.port earlier ≡ steps_on net v.port ended → AgainAt net ended earlier (Answer c hop seq false) v
+no_again net js ended earlier end rates below c hop seq v is same =
+    let back = came_back net earlier c hop seq false v is in
+    let conn = back.conn in
+    let hops = length conn.path in
+    let was = and_both (nat_lt hop hops) (was_shut (facts_of c (past_of net earlier)) seq (hop + 1)) back.sent in
+    let low : hop < hops = less_if hop hops was.0 in
+    let shut = shut_below net c conn seq (hop + 1) (record { rules = end.rules; known = back.known; low = omega arith; high = omega (arith, low) }) earlier ended below was.1 in
+    record {
+      turns = [];
+      all = tt;
+      again = answer_again net earlier ended (both_are net js ended earlier end rates below) c hop seq false v is same (λ k known. (
+          let its : conn ≡ k = some_same (sym back.known ∙ known) in
+          subst (λ (w : Conn). answer_is_at (length w.path) (facts_of c (past_of net ended)) seq hop false ≡ true) its
+          (ap (λ b. b && was_shut (facts_of c (past_of net ended)) seq (hop + 1)) was.0 ∙ shut)));
+    }
+
+-- whatever comes to a port comes again, where its actors stand as they stood
+abbrev pub ArrivesAlone : Topology → List Event → List Event → Event → Type 0
+ArrivesAlone net earlier ended (Arrive c cell at) = entries_on net c earlier ≡ entries_on net c ended
+ArrivesAlone net earlier ended event = Unit {0}
+
+pub again_at : (net : Topology) (js : Journaled) (ended earlier : List Event) → HaveEnded net js ended → All AsksRate earlier → IsBelow net earlier ended → (event : Event) (v : Visit) → visit net (past_of net earlier) event ≡ Some v →
+    steps_on net v.port earlier ≡ steps_on net v.port ended → ArrivesAlone net earlier ended event → AgainAt net ended earlier event v
+again_at net js ended earlier end rates below (Request c hop seq) v is same alone =
+    record { turns = []; all = tt; again = request_again net earlier ended (both_are net js ended earlier end rates below) c hop seq v is same }
+again_at net js ended earlier end rates below (Arrive c cell at) v is same alone =
+    record { turns = []; all = tt; again = arrival_again net earlier ended (both_are net js ended earlier end rates below) c cell at v is same alone }
+again_at net js ended earlier end rates below (Answer c hop seq true) v is same alone = yes_again net js ended earlier end rates below c hop seq v is same
+again_at net js ended earlier end rates below (Answer c hop seq false) v is same alone = no_again net js ended earlier end rates below c hop seq v is same
+again_at net js ended earlier end rates below (Start c now) v is same alone = (let none = no_visit net (past_of net earlier) (Start c now) (λ vc facts. refl) in absurd (cc))
+again_at net js ended earlier end rates below (Ask c rate plan) v is same alone = (let none = no_visit net (past_of net earlier) (Ask c rate plan) (λ vc facts. refl) in absurd (cc))
+again_at net js ended earlier end rates below (Again c) v is same alone = (let none = no_visit net (past_of net earlier) (Again c) (λ vc facts. refl) in absurd (cc))
+again_at net js ended earlier end rates below (Crash c) v is same alone = (let none = no_visit net (past_of net earlier) (Crash c) (λ vc facts. refl) in absurd (cc))
+again_at net js ended earlier end rates below (Emit c now) v is same alone = (let none = no_visit net (past_of net earlier) (Emit c now) (λ vc facts. refl) in absurd (cc))
+again_at net js ended earlier end rates below (Turn c seq) v is same alone = (let none = no_visit net (past_of net earlier) (Turn c seq) (λ vc facts. refl) in absurd (cc))
+again_at net js ended earlier end rates below (Told c seq granted) v is same alone = (let none = no_visit net (past_of net earlier) (Told c seq granted) (λ vc facts. refl) in absurd (cc))
