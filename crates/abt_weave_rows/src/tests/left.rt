@@ -179,19 +179,29 @@ fn a_cell_comes_as_its_source_sent_it(rt: HostRuntime) -> Result<(), Fail> {
         did(emit, Outcome::Emitted { cell: 0, next }),
         SourceEntry::Arrived { cell: 0, place: 2 },
     ];
-    let passed = served(0, 9, first, Onward::Pass);
-    let yes = returned(1, first, true, Back::Pass);
-    let early = [passed, yes, arrived(now + 1000, Verdict::TooEarly)];
+    let early = [
+        served(0, 9, first, Onward::Pass),
+        returned(1, first, true, Back::Pass),
+        arrived(now + 1000, Verdict::TooEarly),
+    ];
     let answer = woven(rt.alloc(), &net, &[&early], &[&source])?;
     mismatches(&rt, answer, at(Actor::Port(0), 2));
-    let late = [passed, yes, arrived(now + 1201, Verdict::Conforming)];
+    let late = [
+        served(0, 9, first, Onward::Pass),
+        returned(1, first, true, Back::Pass),
+        arrived(now + 1201, Verdict::Conforming),
+    ];
     let answer = woven(rt.alloc(), &net, &[&late], &[&source])?;
     is_stuck(
         &rt,
         answer,
         &[at(Actor::Source(0), 5), at(Actor::Port(0), 2)],
     );
-    let port = [passed, yes, arrived(now + 1200, Verdict::Conforming)];
+    let port = [
+        served(0, 9, first, Onward::Pass),
+        returned(1, first, true, Back::Pass),
+        arrived(now + 1200, Verdict::Conforming),
+    ];
     match woven(rt.alloc(), &net, &[&port], &[&source])? {
         Ok(events) => assert_eq!(rt; events.len(), 8),
         Err(fault) => assert!(rt; false, "{fault:?}"),
