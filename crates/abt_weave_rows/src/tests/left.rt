@@ -16,8 +16,12 @@ fn a_yes_that_a_link_worker_made_by_itself_is_left(rt: HostRuntime) -> Result<()
         served(0, 0, first, Onward::Pass),
         returned(1, first, true, Back::Pass),
     ];
-    let [start, ask, send] = asks(first);
-    let source = [start, ask, send, told(0, 1, true, Heard::Raised)];
+    let source = [
+        started(0, 0),
+        asked(0, first),
+        sent(0),
+        told(0, 1, true, Heard::Raised),
+    ];
     let answer = woven(rt.alloc(), &net, &[&port, &[]], &[&source])?;
     is_stuck(
         &rt,
@@ -114,10 +118,9 @@ fn what_a_source_can_not_have_answered_mismatches(rt: HostRuntime) -> Result<(),
 #[test]
 fn what_was_not_enabled_is_woven(rt: HostRuntime) -> Result<(), Fail> {
     let net = lone(rt.alloc())?;
-    let crash = Event::Crash { conn: 0 };
-    let source = [did(crash, Outcome::NotEnabled(Cause::Down))];
+    let source = [did(Event::Crash { conn: 0 }, Outcome::NotEnabled(Cause::Down))];
     let answer = woven(rt.alloc(), &net, &[&[]], &[&source])?;
-    gives(&rt, answer, &[crash]);
+    gives(&rt, answer, &[Event::Crash { conn: 0 }]);
     Ok(())
 }
 
@@ -168,28 +171,37 @@ fn a_cell_comes_as_its_source_sent_it(rt: HostRuntime) -> Result<(), Fail> {
         input: PortInput::Arrive { vc: first.vc(), at },
         reply: PortReply::Arrived(Ok(verdict)),
     };
-    let [start, ask, send] = asks(first);
     let source = [
-        start,
-        ask,
-        send,
+        started(0, 0),
+        asked(0, first),
+        sent(0),
         told(0, 1, true, Heard::Raised),
         did(emit, Outcome::Emitted { cell: 0, next }),
         SourceEntry::Arrived { cell: 0, place: 2 },
     ];
-    let passed = served(0, 9, first, Onward::Pass);
-    let yes = returned(1, first, true, Back::Pass);
-    let early = [passed, yes, arrived(now + 1000, Verdict::TooEarly)];
+    let early = [
+        served(0, 9, first, Onward::Pass),
+        returned(1, first, true, Back::Pass),
+        arrived(now + 1000, Verdict::TooEarly),
+    ];
     let answer = woven(rt.alloc(), &net, &[&early], &[&source])?;
     mismatches(&rt, answer, at(Actor::Port(0), 2));
-    let late = [passed, yes, arrived(now + 1201, Verdict::Conforming)];
+    let late = [
+        served(0, 9, first, Onward::Pass),
+        returned(1, first, true, Back::Pass),
+        arrived(now + 1201, Verdict::Conforming),
+    ];
     let answer = woven(rt.alloc(), &net, &[&late], &[&source])?;
     is_stuck(
         &rt,
         answer,
         &[at(Actor::Source(0), 5), at(Actor::Port(0), 2)],
     );
-    let port = [passed, yes, arrived(now + 1200, Verdict::Conforming)];
+    let port = [
+        served(0, 9, first, Onward::Pass),
+        returned(1, first, true, Back::Pass),
+        arrived(now + 1200, Verdict::Conforming),
+    ];
     match woven(rt.alloc(), &net, &[&port], &[&source])? {
         Ok(events) => assert_eq!(rt; events.len(), 8),
         Err(fault) => assert!(rt; false, "{fault:?}"),
