@@ -1,5 +1,5 @@
 //! The ports of a net before a run, each under its lock.
-ghost use Rattle.std.specs.Prelude.{◌≡◌, ◌<◌, ◌≤◌, ◌^◌, [], All, IfOk, OnOk, length};
+ghost use Rattle.std.specs.Prelude.{◌≡◌, ◌<◌, ◌≤◌, ◌^◌, [], All, IfOk, OnOk, length, slice_index};
 ghost use Rattle.abt_model.specs.PortTable.{port_table};
 ghost use Rattle.abt_model.specs.Reserved as reserved;
 ghost use Rattle.abt_world.specs.Opening.{joined, opening_table};
@@ -32,7 +32,16 @@ fn opening_port(alloc: Global, net: &Net, id: u16) -> Result<Port, AllocError>
     ensures opening { IfOk result IsOpening }
     ensures id { IfOk result (λ port. port.id ≡ id) }
 {
-    port_with(alloc, id, net.capacities()[usize::from(id)], net.conns())
+    port_with(alloc, id, capacity_of(net, id), net.conns())
+}
+
+// The capacity of a port of a net.
+fn capacity_of(net: &Net, id: u16) -> u64
+    requires { id < length net.now.capacities }
+    ensures value { result ≡ slice_index net.now.capacities id }
+    ensures bound { result ≤ 2 ^ 60 }
+{
+    net.capacities()[usize::from(id)]
 }
 
 // A port with those of these connections that go through it.

@@ -11,15 +11,14 @@ use Rattle.abt_threads.proofs.opening.opening_port.Goals as goal
 pub returns-clause-table : goal.returns-clause-table
 returns-clause-table c =
     let net = c.args.net.now in
-    let same : opening_table c.args.id (slice_index c.capacities.result.now c.from.result) c.conns.result.now ≡ port_table net [] c.args.id =
-        ap (λ (capacities : List ℕ). opening_table c.args.id (slice_index capacities c.from.result) c.conns.result.now) c.capacities.ensures.value
-        ∙ ap (λ (i : ℕ). opening_table c.args.id (slice_index net.capacities i) c.conns.result.now) c.from.ensures
+    let same : opening_table c.args.id c.capacity_of.result c.conns.result.now ≡ port_table net [] c.args.id =
+        ap (λ (u : ℕ). opening_table c.args.id u c.conns.result.now) c.capacity_of.ensures.value
         ∙ ap (λ (conns : List Conn). opening_table c.args.id (slice_index net.capacities c.args.id) conns) c.conns.ensures.value
         ∙ opening_table-is net c.args.id in
     IfOk-weaker c.port_with.result _ _ (λ port is. is ∙ same) c.port_with.ensures
 
 pub returns-clause-opening : goal.returns-clause-opening
-returns-clause-opening c = IfOk-weaker c.port_with.result _ IsOpening (λ port is. subst IsOpening (sym is) (IsOpening-table c.args.id (slice_index c.capacities.result.now c.from.result) c.conns.result.now)) c.port_with.ensures
+returns-clause-opening c = IfOk-weaker c.port_with.result _ IsOpening (λ port is. subst IsOpening (sym is) (IsOpening-table c.args.id c.capacity_of.result c.conns.result.now)) c.port_with.ensures
 
 pub returns-clause-id : goal.returns-clause-id
 returns-clause-id c = IfOk-weaker c.port_with.result _ _ (λ port is. ap (λ (t : Table). t.id) is) (returns-clause-table c)
