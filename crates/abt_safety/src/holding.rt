@@ -1,9 +1,10 @@
 //! What ports hold for a channel.
-ghost use Rattle.std.specs.Prelude.{◌≡◌, IfOk, map};
+ghost use Rattle.std.specs.Prelude.{◌≡◌, ◌+◌, ◌≤◌, IfOk, length, map};
 ghost use Rattle.abt_safety.specs.Holding.{held_by_port, is_held_along};
 
 use abt_cell::Vc;
 use abt_list::Sequence;
+use abt_log::Looks;
 use abt_node::Port;
 use abt_rate::Rate;
 use std::alloc::{AllocError, Global};
@@ -36,9 +37,12 @@ pub fn held_along(
 }
 
 /// Whether a rate is at most what each port of a path holds for a channel.
-pub fn is_held(rate: Rate, vc: Vc, path: &[u16], ports: &[Port]) -> bool
-    ensures { result ≡ is_held_along rate vc ports.now path.now }
+pub fn is_held(rate: Rate, vc: Vc, path: &[u16], ports: &[Port], looks: &mut Looks) -> bool
+    ensures value { result ≡ is_held_along rate vc ports.now path.now }
+    ensures looks { looks.new ≤ looks.old + length path.now }
 {
-    path.iter()
-        .all(|port| rate <= held_by_port(vc, ports, *port))
+    let Some((first, rest)) = path.split_first() else {
+        return true;
+    };
+    rate <= held_by_port(vc, ports, looks.counting(*first)) && is_held(rate, vc, rest, ports, looks)
 }

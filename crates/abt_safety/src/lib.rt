@@ -3,9 +3,11 @@
 
 mod holding;
 mod sums;
+mod tally;
 
 pub use holding::{held_along, is_held};
-pub use sums::{fits, sums_fit};
+pub use sums::{fits, is_over};
+pub use tally::{Marks, Tally, recount};
 
 #[cfg(test)]
 mod tests;

@@ -1,8 +1,8 @@
 //! What ports hold in all.
-ghost use Rattle.std.specs.Prelude.{◌≡◌, nat_le};
-ghost use Rattle.std.specs.List.{list_all, zip};
-ghost use Rattle.abt_node.specs.Table.{sum_of};
+ghost use Rattle.std.specs.Prelude.{◌≡◌, ◌+◌, ◌≤◌, nat_le};
+ghost use Rattle.abt_safety.specs.Tallies.{over_at};
 
+use abt_log::Looks;
 use abt_node::Port;
 
 /// Whether a sum is at most a capacity, both in units of 1/512 cell/s.
@@ -12,12 +12,20 @@ pub fn fits(total: u64, capacity: u64) -> bool
     total <= capacity
 }
 
-/// Whether the sum of each port is at most the capacity of its number.
-pub fn sums_fit(capacities: &[u64], ports: &[Port]) -> bool
-    ensures { result ≡ list_all (λ pair. nat_le (sum_of pair.1) pair.0) (zip capacities.now ports.now) }
+/// Whether the sum of a port is above the capacity of its number. No port is none that is.
+pub fn is_over(port: Option<u16>, capacities: &[u64], ports: &[Port], looks: &mut Looks) -> bool
+    ensures value { result ≡ over_at port capacities.now ports.now }
+    ensures looks { looks.new ≤ looks.old + 1 }
 {
-    capacities
-        .iter()
-        .zip(ports)
-        .all(|(capacity, port)| fits(port.total(), *capacity))
+    let Some(port) = port else {
+        return false;
+    };
+    let place = usize::from(looks.counting(port));
+    let Some(capacity) = capacities.get(place) else {
+        return false;
+    };
+    let Some(port) = ports.get(place) else {
+        return false;
+    };
+    !fits(port.total(), *capacity)
 }

@@ -1,6 +1,7 @@
 //! Values of no world that can be, so that what looks for them is seen to find them.
 use super::*;
 use abt_cell::{Request, Vc};
+use abt_log::Looks;
 use abt_node::Port;
 use abt_rate::Rate;
 use std::alloc::{AllocError, Global};
@@ -34,10 +35,10 @@ fn a_rate_one_step_above_what_a_hop_holds_is_found(rt: HostRuntime) -> Result<()
     let vc = Vc::new(1, 100).unwrap();
     let ports = ports(rt.alloc(), vc)?;
     let (held, above) = (Rate::from_code(0x5120), Rate::from_code(0x5121));
-    assert!(rt; is_held(held, vc, &[0, 1], &ports));
-    assert!(rt; is_held(above, vc, &[0], &ports));
-    assert!(rt; !is_held(above, vc, &[0, 1], &ports));
-    assert!(rt; !is_held(above, vc, &[1, 0], &ports));
+    assert!(rt; is_held(held, vc, &[0, 1], &ports, &mut Looks::new()));
+    assert!(rt; is_held(above, vc, &[0], &ports, &mut Looks::new()));
+    assert!(rt; !is_held(above, vc, &[0, 1], &ports, &mut Looks::new()));
+    assert!(rt; !is_held(above, vc, &[1, 0], &ports, &mut Looks::new()));
     Ok(())
 }
 
@@ -61,9 +62,9 @@ fn a_port_that_is_not_there_holds_nothing(rt: HostRuntime) -> Result<(), Fail> {
     let (vc, other) = (Vc::new(1, 100).unwrap(), Vc::new(1, 101).unwrap());
     let ports = ports(rt.alloc(), vc)?;
     let least = Rate::from_code(0x4000);
-    assert!(rt; !is_held(least, vc, &[2], &ports));
-    assert!(rt; !is_held(least, other, &[0], &ports));
-    assert!(rt; is_held(Rate::ZERO, other, &[2], &ports));
+    assert!(rt; !is_held(least, vc, &[2], &ports, &mut Looks::new()));
+    assert!(rt; !is_held(least, other, &[0], &ports, &mut Looks::new()));
+    assert!(rt; is_held(Rate::ZERO, other, &[2], &ports, &mut Looks::new()));
     Ok(())
 }
 
@@ -72,8 +73,55 @@ fn a_sum_one_above_its_capacity_is_found(rt: HostRuntime) -> Result<(), Fail> {
     assert!(rt; fits(512000, 512000));
     assert!(rt; !fits(512001, 512000));
     let ports = ports(rt.alloc(), Vc::new(1, 100).unwrap())?;
-    assert!(rt; sums_fit(&[307200, 204800], &ports));
-    assert!(rt; !sums_fit(&[307199, 204800], &ports));
-    assert!(rt; !sums_fit(&[307200, 204799], &ports));
+    let looks = &mut Looks::new();
+    assert!(rt; !is_over(Some(0), &[307200, 204800], &ports, looks));
+    assert!(rt; is_over(Some(0), &[307199, 204800], &ports, looks));
+    assert!(rt; is_over(Some(1), &[307200, 204799], &ports, looks));
+    assert!(rt; !is_over(Some(2), &[307200, 204799], &ports, looks));
+    assert!(rt; !is_over(None, &[0, 0], &ports, looks));
+    assert_eq!(rt; looks.count(), 4);
+    Ok(())
+}
+
+#[test]
+fn a_count_follows_the_one_that_changed(rt: HostRuntime) -> Result<(), Fail> {
+    for (before, after, count) in [
+        (false, false, 5),
+        (false, true, 6),
+        (true, false, 4),
+        (true, true, 5),
+    ] {
+        assert_eq!(rt; recount(5, before, after), count);
+    }
+    Ok(())
+}
+
+#[test]
+fn each_count_keeps_a_net_from_being_safe(rt: HostRuntime) -> Result<(), Fail> {
+    let none = Tally::none();
+    assert!(rt; none.is_safe());
+    let marks = Marks {
+        above: false,
+        over: false,
+        broken: false,
+    };
+    for mark in [
+        Marks {
+            above: true,
+            ..marks
+        },
+        Marks {
+            over: true,
+            ..marks
+        },
+        Marks {
+            broken: true,
+            ..marks
+        },
+    ] {
+        let tally = none.after(&marks, &mark);
+        assert!(rt; !tally.is_safe());
+        assert!(rt; tally.after(&mark, &marks).is_safe());
+    }
     Ok(())
 }

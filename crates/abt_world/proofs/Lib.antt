@@ -6,5 +6,8 @@ pub mod Standings
 mod Pushing
 mod Openings
 mod Final
+mod Touching
+mod Tallying
+mod Beginning
 mod Noting
 mod Stepping

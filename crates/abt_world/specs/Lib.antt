@@ -2,6 +2,8 @@ pub mod Courses
 pub mod Standing
 pub mod Steps
 pub mod Notes
+pub mod Touches
+pub mod Tallied
 pub mod Opening
 pub mod Seen
 pub mod Readings

@@ -10,6 +10,7 @@ ghost use Rattle.abt_model.specs.Outcomes.{after_event};
 ghost use Rattle.abt_net.specs.Topology.{Topology};
 ghost use Rattle.abt_world.specs.Steps as steps;
 ghost use Rattle.abt_world.specs.Steps.{IsConnAt, ArePorts, Happens};
+ghost use Rattle.abt_world.specs.Touches.{Touches};
 
 use crate::hops::port_at;
 use crate::messages::not_enabled;
@@ -79,6 +80,7 @@ pub(crate) fn arrive(
         ArePorts net past ports.old → emitted ≡ emitted_of facts →
         Happens net past (Arrive place cell at) result.0 (facts_in result.1)
         × ArePorts net (after_event net past (Arrive place cell at)) ports.new }
+    ensures touches { Touches (steps.port_at conn.now.path 1) conn.now.vc ports.old ports.new }
     ensures looks { looks.new ≤ looks.old + 3 }
 {
     if let Some(cause) = arrival_cause(conn, log, emitted, cell, at, looks) {

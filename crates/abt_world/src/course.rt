@@ -1,5 +1,5 @@
 //! The course of one connection.
-ghost use Rattle.std.specs.Prelude.{◌≡◌, ◌+◌, ◌≤◌, List, MatchResult};
+ghost use Rattle.std.specs.Prelude.{◌≡◌, ◌+◌, ◌≤◌, List, MatchResult, OnOk, OnErr};
 ghost use Rattle.abt_actor.specs.Actor.{actor_of};
 ghost use Rattle.abt_actor.specs.Facts.{facts_in};
 ghost use Rattle.abt_facts.specs.declared.fact.Fact.{Fact as FactSpec};
@@ -10,6 +10,7 @@ ghost use Rattle.abt_model.specs.Outcomes.{conn_of};
 ghost use Rattle.abt_net.specs.Topology.{Topology};
 ghost use Rattle.abt_world.specs.Notes.{all_noted, CanAllFollow};
 ghost use Rattle.abt_world.specs.Steps.{IsConnAt, ArePorts, Leaves};
+ghost use Rattle.abt_world.specs.Touches.{visited, Touches};
 
 use crate::happen::happen;
 use abt_actor::{Added, SourceActor};
@@ -56,6 +57,8 @@ impl Course {
             self.old.actor ≡ actor_of conn.now.vc facts → MatchResult result
             (λ outcome. Leaves net past event.now conn.now outcome self.new.actor self.new.log.index ports.new)
             (λ _. (self.new.actor ≡ self.old.actor) × (self.new.log.index ≡ self.old.log.index) × (ports.new ≡ ports.old)) }
+        ensures memory { OnErr result ((self.new.actor ≡ self.old.actor) × (self.new.log.index ≡ self.old.log.index) × (ports.new ≡ ports.old)) }
+        ensures touches { OnOk result (Touches (visited conn.now event.now) conn.now.vc ports.old ports.new) }
         ensures looks { looks.new ≤ looks.old + 7 }
     {
         self.log.reserve()?;

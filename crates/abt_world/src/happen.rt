@@ -9,9 +9,11 @@ ghost use Rattle.abt_model.specs.Events.{AsksRate};
 ghost use Rattle.abt_model.specs.Outcomes.{conn_of, after_event};
 ghost use Rattle.abt_net.specs.Topology.{Topology};
 ghost use Rattle.abt_world.specs.Steps.{IsConnAt, ArePorts, Happens};
+ghost use Rattle.abt_world.specs.Touches as touches;
+ghost use Rattle.abt_world.specs.Touches.{Touches};
 
 use crate::cells::arrive;
-use crate::hops::{answer, request};
+use crate::hops::{answer, port_at, request};
 use crate::messages::{told, turn};
 use abt_actor::{Added, SourceActor};
 use abt_log::{Log, Looks};
@@ -46,6 +48,17 @@ pub(crate) fn asks_rate(event: &Event)
     }
 }
 
+// The port that an event of a connection comes to, if it comes to one. Cells come to the first hop.
+pub(crate) fn visited(conn: &Conn, event: &Event) -> Option<u16>
+    ensures { result ≡ touches.visited conn.now event.now }
+{
+    match *event {
+        Event::Request { hop, .. } | Event::Answer { hop, .. } => port_at(conn, hop),
+        Event::Arrive { .. } => port_at(conn, 1),
+        _ => None,
+    }
+}
+
 // An event of a connection happens: its actor or a port takes it, or nothing does.
 pub(crate) fn happen(
     conn: &Conn,
@@ -60,6 +73,7 @@ pub(crate) fn happen(
         actor.old ≡ actor_of conn.now.vc facts →
         Happens net past event.now result.0 (facts_in result.1) × ArePorts net (after_event net past event.now) ports.new
         × (actor.new ≡ actor_of conn.now.vc (facts_in result.1 ++ facts)) }
+    ensures touches { Touches (touches.visited conn.now event.now) conn.now.vc ports.old ports.new }
     ensures looks { looks.new ≤ looks.old + 3 }
 {
     match *event {

@@ -10,6 +10,7 @@ ghost use Rattle.abt_model.specs.Outcomes as outcomes;
 ghost use Rattle.abt_net.specs.Topology.{Topology};
 ghost use Rattle.abt_world.specs.Steps as steps;
 ghost use Rattle.abt_world.specs.Steps.{IsConnAt, ArePorts, Happens};
+ghost use Rattle.abt_world.specs.Touches.{Touches};
 
 use crate::messages::{hops_of, not_enabled, request_of};
 use abt_actor::Added;
@@ -116,6 +117,7 @@ pub(crate) fn request(
         ArePorts net past ports.old →
         Happens net past (event.Request place hop seq) result.0 (facts_in result.1)
         × ArePorts net (outcomes.after_event net past (event.Request place hop seq)) ports.new }
+    ensures touches { Touches (steps.port_at conn.now.path hop) conn.now.vc ports.old ports.new }
     ensures looks { looks.new ≤ looks.old + 3 }
 {
     let Some(port) = port_at(conn, hop) else {
@@ -151,6 +153,7 @@ pub(crate) fn answer(
         ArePorts net past ports.old →
         Happens net past (event.Answer place hop seq granted) result.0 (facts_in result.1)
         × ArePorts net (outcomes.after_event net past (event.Answer place hop seq granted)) ports.new }
+    ensures touches { Touches (steps.port_at conn.now.path hop) conn.now.vc ports.old ports.new }
     ensures looks { looks.new ≤ looks.old + 3 }
 {
     let Some(port) = port_at(conn, hop) else {

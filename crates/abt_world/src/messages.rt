@@ -23,6 +23,7 @@ use abt_net::Conn;
 pub(crate) fn request_of(conn: &Conn, log: &Log, seq: u32, looks: &mut Looks) -> Option<Request>
     ensures value { (facts : List FactSpec) → IsLogOf facts log.now →
         IfSome result (λ request. request ≡ decision.request_of conn.now.vc facts seq) }
+    ensures vc { IfSome result (λ request. request.vc ≡ conn.now.vc) }
     ensures some { (facts : List FactSpec) → IsLogOf facts log.now → (was_asked facts seq ≡ true) → 1 ≤ seq →
         floor_of facts seq ≤ ask_of facts seq → IsSome result }
     ensures looks { looks.new ≤ looks.old + 1 }

@@ -1,27 +1,36 @@
 //! Whether what is reserved covers what is sent.
-ghost use Rattle.std.specs.Prelude.{◌≡◌};
-ghost use Rattle.std.specs.List.{list_all, zip};
-ghost use Rattle.abt_net.specs.declared.conn.Conn.{Conn};
-ghost use Rattle.abt_world.specs.declared.course.Course.{Course};
-ghost use Rattle.abt_safety.specs.Holding.{is_held_along};
+ghost use Rattle.std.specs.Prelude.{◌≡◌, ◌+◌, ◌≤◌, length};
+ghost use Rattle.abt_safety.specs.Tallies.{over_at};
+ghost use Rattle.abt_world.specs.Seen.{seen};
+ghost use Rattle.abt_world.specs.Tallied.{shapes_above, is_broken};
 
 use crate::course::Course;
+use abt_log::Looks;
 use abt_net::Conn;
 use abt_node::Port;
-use abt_safety::is_held;
+use abt_safety::{Marks, is_held, is_over};
 
-// Whether each source shapes at a rate that every hop of its path holds for it.
-pub(crate) fn rates_are_held(conns: &[Conn], courses: &[Course], ports: &[Port]) -> bool
-    ensures { result ≡ list_all (λ (pair : Conn × Course). is_held_along pair.1.actor.source.rate pair.0.vc ports.now pair.0.path) (zip conns.now courses.now) }
+// What isn't safe of a connection, and of the port that its event comes to.
+pub(crate) fn marks(
+    conn: &Conn,
+    course: &Course,
+    port: Option<u16>,
+    capacities: &[u64],
+    ports: &[Port],
+    looks: &mut Looks,
+) -> Marks
+    ensures above { result.above ≡ shapes_above ports.now (conn.now, seen course.now) }
+    ensures over { result.over ≡ over_at port capacities.now ports.now }
+    ensures broken { result.broken ≡ is_broken (seen course.now) }
+    ensures looks { looks.new ≤ looks.old + length conn.now.path + 1 }
 {
-    conns.iter().zip(courses).all(|(conn, course)| {
-        is_held(course.actor.rate(), conn.vc, conn.path.as_slice(), ports)
-    })
-}
-
-// Whether each cell that arrived was found conforming.
-pub(crate) fn cells_conform(courses: &[Course]) -> bool
-    ensures { result ≡ list_all (λ (course : Course). course.log.index.conform) courses.now }
-{
-    courses.iter().all(|course| course.log.all_conform())
+    let path = conn.path.as_slice();
+    let above = !is_held(course.actor.rate(), conn.vc, path, ports, looks);
+    let over = is_over(port, capacities, ports, looks);
+    let broken = !course.log.all_conform();
+    Marks {
+        above,
+        over,
+        broken,
+    }
 }

@@ -13,16 +13,16 @@ ghost use Rattle.abt_world.specs.Standing.{StandsFor};
 use crate::course::Course;
 use crate::ends::{held_of, rates_of, totals_of};
 use crate::fresh::{fresh_courses, opening_ports};
-use crate::happen::{asks_rate, conn_number};
+use crate::happen::{asks_rate, conn_number, visited};
 use crate::hops::port_at;
-use crate::safety::{cells_conform, rates_are_held};
+use crate::safety::marks;
 use abt_list::Sequence;
 use abt_log::Looks;
 use abt_model::{Cause, Event, Outcome};
 use abt_net::Net;
 use abt_node::Port;
 use abt_rate::Rate;
-use abt_safety::sums_fit;
+use abt_safety::Tally;
 use abt_trace::Trace;
 use std::alloc::{AllocError, Global};
 use std::marker::Model;
@@ -34,6 +34,8 @@ pub struct World<'net> {
     ports: Vec<Port>,
     // One for each connection.
     courses: Vec<Course>,
+    // What isn't safe, after each event.
+    tally: Tally,
     // How many entries the last event looked up.
     looks: u64,
 }
@@ -45,6 +47,8 @@ impl<'net> Model for World<'net> {
     ghost use Rattle.abt_cell.specs.Channel.{channel_cmp, channel_code};
     ghost use Rattle.abt_node.specs.Table.{connection_code};
     ghost use Rattle.abt_world.specs.Standing.{WorldView};
+    ghost use Rattle.abt_net.specs.Topology.{IsWithinRules};
+    ghost use Rattle.abt_world.specs.Tallied.{IsTallied};
 
     ghost Value = { WorldView };
 
@@ -57,7 +61,8 @@ impl<'net> Model for World<'net> {
       looks = w.looks;
     } };
 
-    ghost invariant = { λ w. length w.courses.items ≡ length w.net.now.conns };
+    ghost invariant = { λ w. (length w.courses.items ≡ length w.net.now.conns) × IsWithinRules w.net.now
+        × IsTallied w.net.now w.ports.items (list_map (λ course. record { actor = course.actor; index = course.log.index }) w.courses.items) w.tally };
 }
 
 impl<'net> World<'net> {
@@ -72,6 +77,7 @@ impl<'net> World<'net> {
             net,
             ports,
             courses,
+            tally: Tally::none(),
             looks: 0,
         })
     }
@@ -97,9 +103,28 @@ impl<'net> World<'net> {
             return Ok(Outcome::NotEnabled(Cause::Unknown));
         }
         let mut looks = Looks::new();
+        let conn = &net.conns()[place];
         let course = &mut self.courses[looks.counting(place)];
-        match course.take(&net.conns()[place], &mut self.ports, event, &mut looks) {
+        let port = visited(conn, event);
+        let before = marks(
+            conn,
+            course,
+            port,
+            net.capacities(),
+            &self.ports,
+            &mut looks,
+        );
+        match course.take(conn, &mut self.ports, event, &mut looks) {
             Ok(outcome) => {
+                let after = marks(
+                    conn,
+                    course,
+                    port,
+                    net.capacities(),
+                    &self.ports,
+                    &mut looks,
+                );
+                self.tally = self.tally.after(&before, &after);
                 self.looks = looks.count();
                 Ok(outcome)
             }
@@ -156,15 +181,13 @@ impl<'net> World<'net> {
     }
 
     /// Whether no source shapes at a rate above what a hop of its path holds for it, no port holds more than its capacity,
-    /// and each cell that arrived was found conforming (docs/GUARANTEES.md, "The headline"). It is looked up in what the
-    /// world keeps.
+    /// and each cell that arrived was found conforming (docs/GUARANTEES.md, "The headline"). It is counted anew at
+    /// each event.
     pub fn safe(&self) -> bool
         ensures { (net : Topology) (events : List Event) → StandsFor net events self.now →
             (result ≡ true) ↔ IsSafe net (facts_after net events) }
     {
-        rates_are_held(self.net.conns(), &self.courses, &self.ports)
-            && sums_fit(self.net.capacities(), &self.ports)
-            && cells_conform(&self.courses)
+        self.tally.is_safe()
     }
 
     // What is left in the end, beside what the events answered.

@@ -4,6 +4,9 @@ use Rattle.std.proofs.lemmas.Option.{slice_get-get_or}
 use Rattle.abt_node.specs.Table.{held_at, connection_at, arrival_at, table_after_arrival}
 use Rattle.abt_world.proofs.Serving.{port_within}
 use Rattle.abt_world.proofs.Arriving.{first_hop, rate_there, judged, arrival_served}
+use Rattle.abt_world.specs.Steps.{port_at}
+use Rattle.abt_world.proofs.Touching.{untouched, touched, arrival_leaves_others}
+use Rattle.abt_node.specs.Table.{Table}
 use Rattle.abt_world.proofs.cells.arrive.Goals as goal
 
 -- an element that is there is the same with any default
@@ -59,3 +62,37 @@ returns-clause-outcome c net past facts log is are count =
     (c.in-Some-held.ensures ∙ ap (λ n. option_map held_at (connection_at (there n) c.args.conn.now.vc)) first)
     (c.in-Ok.ensures.value ∙ ap (λ t. arrival_at t c.args.conn.now.vc c.args.at) same)
     (c.in-Ok.ensures.table ∙ ap (λ t. table_after_arrival t c.args.conn.now.vc c.args.at) same)
+
+pub returns-in-Some-clause-touches : goal.returns-in-Some-clause-touches
+returns-in-Some-clause-touches c = untouched (port_at c.args.conn.now.path 1) c.args.conn.now.vc c.args.ports.now
+
+pub returns-in_default-port_at-clause-touches : goal.returns-in_default-port_at-clause-touches
+returns-in_default-port_at-clause-touches c = untouched (port_at c.args.conn.now.path 1) c.args.conn.now.vc c.args.ports.now
+
+pub returns-then-port-ports-clause-touches : goal.returns-then-port-ports-clause-touches
+returns-then-port-ports-clause-touches c = untouched (port_at c.args.conn.now.path 1) c.args.conn.now.vc c.args.ports.now
+
+pub returns-in_default-held-clause-touches : goal.returns-in_default-held-clause-touches
+returns-in_default-held-clause-touches c = untouched (port_at c.args.conn.now.path 1) c.args.conn.now.vc c.args.ports.now
+
+pub returns-in_default-arrive-clause-touches : goal.returns-in_default-arrive-clause-touches
+returns-in_default-arrive-clause-touches c =
+    let counted = c.counting-2.ensures.value in
+    let within = c.if-port-ports.false in
+    let ports = c.args.ports.now in
+    let port = c.counting-2.result in
+    let low : port < length ports = omega arith in
+    let there = slice_get-get_or ports port c.index-ports-counting-2.result low in
+    touched (port_at c.args.conn.now.path 1) port c.args.conn.now.vc ports _ c.arrive.new.self (sym c.in-Some-port_at.ensures ∙ ap Some (sym (counted ∙ c.from-port.ensures))) there
+    (λ other apart. ap (λ (t : Table). connection_at t other) c.in_default-arrive.ensures.table ∙ arrival_leaves_others _ c.args.conn.now.vc c.args.at other apart)
+
+pub returns-clause-touches : goal.returns-clause-touches
+returns-clause-touches c =
+    let counted = c.counting-2.ensures.value in
+    let within = c.if-port-ports.false in
+    let ports = c.args.ports.now in
+    let port = c.counting-2.result in
+    let low : port < length ports = omega arith in
+    let there = slice_get-get_or ports port c.index-ports-counting-2.result low in
+    touched (port_at c.args.conn.now.path 1) port c.args.conn.now.vc ports _ c.arrive.new.self (sym c.in-Some-port_at.ensures ∙ ap Some (sym (counted ∙ c.from-port.ensures))) there
+    (λ other apart. ap (λ (t : Table). connection_at t other) c.in-Ok.ensures.table ∙ arrival_leaves_others _ c.args.conn.now.vc c.args.at other apart)

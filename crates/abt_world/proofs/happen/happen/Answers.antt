@@ -5,6 +5,8 @@ use Rattle.abt_model.specs.declared.event.Event.{Event}
 use Rattle.abt_model.specs.declared.event.Event.TheVariants.{Arrive, Request, Turn, Answer, Told}
 use Rattle.abt_model.specs.Past.{facts_of}
 use Rattle.abt_world.proofs.Happening.{Takes, command_takes, tables_kept, actor_left, request_kind, answer_kind, turn_kind, arrive_kind}
+use Rattle.abt_world.specs.Touches.{visited, Touches}
+use Rattle.abt_world.proofs.Touching.{untouched}
 use Rattle.abt_world.proofs.happen.happen.Goals as goal
 
 pub returns-in-Start-clause-outcome : goal.returns-in-Start-clause-outcome
@@ -73,3 +75,36 @@ returns-in-Told-clause-outcome c net past facts log = subst (λ (e : Event). Tak
     let e = Told c.in-Told.place c.in-Told.seq c.in-Told.granted in
     let heard = c.told.ensures.outcome net past facts log at is in
     (heard.0, tables_kept net past e c.args.conn.now facts c.args.ports.now asks at are refl, heard.1)))
+
+pub returns-in-Start-clause-touches : goal.returns-in-Start-clause-touches
+returns-in-Start-clause-touches c = untouched (visited c.args.conn.now c.args.event.now) c.args.conn.now.vc c.args.ports.now
+
+pub returns-in-Ask-clause-touches : goal.returns-in-Ask-clause-touches
+returns-in-Ask-clause-touches c = untouched (visited c.args.conn.now c.args.event.now) c.args.conn.now.vc c.args.ports.now
+
+pub returns-in-Again-clause-touches : goal.returns-in-Again-clause-touches
+returns-in-Again-clause-touches c = untouched (visited c.args.conn.now c.args.event.now) c.args.conn.now.vc c.args.ports.now
+
+pub returns-in-Crash-clause-touches : goal.returns-in-Crash-clause-touches
+returns-in-Crash-clause-touches c = untouched (visited c.args.conn.now c.args.event.now) c.args.conn.now.vc c.args.ports.now
+
+pub returns-in-Emit-clause-touches : goal.returns-in-Emit-clause-touches
+returns-in-Emit-clause-touches c = untouched (visited c.args.conn.now c.args.event.now) c.args.conn.now.vc c.args.ports.now
+
+pub returns-in-Turn-clause-touches : goal.returns-in-Turn-clause-touches
+returns-in-Turn-clause-touches c = untouched (visited c.args.conn.now c.args.event.now) c.args.conn.now.vc c.args.ports.now
+
+pub returns-in-Told-clause-touches : goal.returns-in-Told-clause-touches
+returns-in-Told-clause-touches c = untouched (visited c.args.conn.now c.args.event.now) c.args.conn.now.vc c.args.ports.now
+
+pub returns-in-Arrive-clause-touches : goal.returns-in-Arrive-clause-touches
+returns-in-Arrive-clause-touches c =
+    subst (λ (e : Event). Touches (visited c.args.conn.now e) c.args.conn.now.vc c.args.ports.now c.arrive.new.ports) (sym c.in-Arrive.is) c.arrive.ensures.touches
+
+pub returns-in-Request-clause-touches : goal.returns-in-Request-clause-touches
+returns-in-Request-clause-touches c =
+    subst (λ (e : Event). Touches (visited c.args.conn.now e) c.args.conn.now.vc c.args.ports.now c.request.new.ports) (sym c.in-Request.is) c.request.ensures.touches
+
+pub returns-in-Answer-clause-touches : goal.returns-in-Answer-clause-touches
+returns-in-Answer-clause-touches c =
+    subst (λ (e : Event). Touches (visited c.args.conn.now e) c.args.conn.now.vc c.args.ports.now c.answer.new.ports) (sym c.in-Answer.is) c.answer.ensures.touches

@@ -10,6 +10,11 @@ use Rattle.abt_model.proofs.Lawful.{route_of}
 use Rattle.abt_model.proofs.Steps.{is_hop_tells}
 use Rattle.abt_world.proofs.Sendings.{conn_lawful, few_hops, answer_asked, is_request}
 use Rattle.abt_world.proofs.Serving.{answer_served, answer_absent, port_within, port_tells}
+use Rattle.abt_node.proofs.TableLemmas.{answer_leaves_others}
+use Rattle.abt_world.specs.Steps.{port_at}
+use Rattle.abt_world.proofs.Touching.{untouched, touched}
+use Rattle.abt_node.specs.Table.{Table, connection_at}
+use Rattle.abt_cell.specs.Message.{Reply}
 use Rattle.abt_world.proofs.hops.answer.Goals as goal
 
 pub returns-then-not-is_answer_at-clause-outcome : goal.returns-then-not-is_answer_at-clause-outcome
@@ -59,3 +64,24 @@ returns-clause-outcome c net past facts is at are =
     (sym there) low _ c.answer-back.new.self c.of.result c.answer-back.result (facts_in c.answer_adds.result)
     (slice_get-get_or c.args.ports.now port c.index-ports-counting.result low)
     (c.of.ensures ∙ ap (λ (r : Terms). answer_to r c.args.granted) (c.in-Some-request_of.ensures.value facts is)) c.answer-back.ensures.value c.answer-back.ensures.table c.answer_adds.ensures
+
+pub returns-then-not-is_answer_at-clause-touches : goal.returns-then-not-is_answer_at-clause-touches
+returns-then-not-is_answer_at-clause-touches c = untouched (port_at c.args.conn.now.path c.args.hop) c.args.conn.now.vc c.args.ports.now
+
+pub returns-in_default-request_of-clause-touches : goal.returns-in_default-request_of-clause-touches
+returns-in_default-request_of-clause-touches c = untouched (port_at c.args.conn.now.path c.args.hop) c.args.conn.now.vc c.args.ports.now
+
+pub returns-then-port-ports-clause-touches : goal.returns-then-port-ports-clause-touches
+returns-then-port-ports-clause-touches c = untouched (port_at c.args.conn.now.path c.args.hop) c.args.conn.now.vc c.args.ports.now
+
+pub returns-clause-touches : goal.returns-clause-touches
+returns-clause-touches c =
+    let counted = c.counting.ensures.value in
+    let within = c.if-port-ports.false in
+    let ports = c.args.ports.now in
+    let port = c.counting.result in
+    let low : port < length ports = omega arith in
+    let there = slice_get-get_or ports port c.index-ports-counting.result low in
+    let vc = ap (λ (a : Reply). a.terms.vc) c.of.ensures ∙ c.in-Some-request_of.ensures.vc in
+    touched (port_at c.args.conn.now.path c.args.hop) port c.args.conn.now.vc ports _ c.answer-back.new.self (sym c.in-Some.ensures ∙ ap Some (sym (counted ∙ c.from-port.ensures))) there
+    (λ other apart. ap (λ (t : Table). connection_at t other) c.answer-back.ensures.table ∙ answer_leaves_others _ c.of.result other (λ same. apart (same ∙ vc)))

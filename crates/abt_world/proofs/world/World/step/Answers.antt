@@ -1,7 +1,7 @@
-use Rattle.std.proofs.Common.{◌≡◌, ◌<◌, ℕ, List, [], ◌∷◌, ◌++◌, map, sym, subst, ap, ◌∙◌, length, arith}
-use Rattle.std.specs.Prelude.{Some, option_map, slice_get, slice_set}
+use Rattle.std.proofs.Common.{◌≡◌, ◌<◌, ℕ, List, [], ◌∷◌, ◌++◌, map, sym, subst, ap, ◌∙◌, length, arith, ◌^◌}
+use Rattle.std.specs.Prelude.{Option, Some, option_map, slice_get, slice_set}
 use Rattle.std.proofs.lemmas.Option.{slice_get-get_or, slice_get-map}
-use Rattle.std.proofs.lemmas.List.{length-map}
+use Rattle.std.proofs.lemmas.List.{length-map, length-set}
 use Rattle.abt_node.specs.Table.{Table}
 use Rattle.abt_net.specs.Topology.{Topology, IsWithinRules}
 use Rattle.abt_net.specs.declared.conn.Conn.{Conn}
@@ -17,6 +17,11 @@ use Rattle.abt_world.specs.Standing.{WorldView, StandsFor}
 use Rattle.abt_world.specs.Steps.{ArePorts}
 use Rattle.abt_world.proofs.Standings.{step_unknown, step_taken, port_count, written_over, map_set, set_same, headline_after}
 use Rattle.abt_world.proofs.Stepping.{ready}
+use Rattle.abt_safety.specs.Tallies.{over_at}
+use Rattle.abt_world.specs.Tallied.{shapes_above, IsTallied}
+use Rattle.abt_world.specs.Touches.{visited, Touches}
+use Rattle.abt_world.proofs.Tallying.{AreMarks, tallied_after}
+use Rattle.abt_world.proofs.Touching.{rewrites_length}
 use Rattle.abt_world.proofs.world.World.step.Goals as goal
 
 pub returns-then-place-conns-clause-outcome : goal.returns-then-place-conns-clause-outcome
@@ -53,7 +58,7 @@ returns-in-Err-clause-outcome c net events stands =
     let known : conn_at net (conn_of e) ≡ Some conn =
     sym (ap (λ (l : List Conn). slice_get l (conn_of e)) conns2) ∙ sym (ap (slice_get c.conns-2.result.now) from)
     ∙ slice_get-get_or c.conns-2.result.now c.from-place.result conn low2 ∙ ap Some (sym c.index-conns-place.is) in
-    let many : length courses ≡ length net.conns = c.self.invariant ∙ ap (λ (n : Topology). length n.conns) net_is in
+    let many : length courses ≡ length net.conns = c.self.invariant.0 ∙ ap (λ (n : Topology). length n.conns) net_is in
     let low3 : c.counting.result < length courses = omega arith in
     let there : slice_get courses c.counting.result ≡ Some old = slice_get-get_or courses c.counting.result old low3 ∙ ap Some (sym c.index_mut-course.ensures.value) in
     let r = ready net events e held courses c.self.inside.looks conn old rules here known (sym (ap (slice_get courses) place) ∙ there) in
@@ -95,7 +100,7 @@ returns-in-Ok-clause-outcome c net events stands =
     let known : conn_at net (conn_of e) ≡ Some conn =
     sym (ap (λ (l : List Conn). slice_get l (conn_of e)) conns2) ∙ sym (ap (slice_get c.conns-2.result.now) from)
     ∙ slice_get-get_or c.conns-2.result.now c.from-place.result conn low2 ∙ ap Some (sym c.index-conns-place.is) in
-    let many : length courses ≡ length net.conns = c.self.invariant ∙ ap (λ (n : Topology). length n.conns) net_is in
+    let many : length courses ≡ length net.conns = c.self.invariant.0 ∙ ap (λ (n : Topology). length n.conns) net_is in
     let low3 : c.counting.result < length courses = omega arith in
     let there : slice_get courses c.counting.result ≡ Some old = slice_get-get_or courses c.counting.result old low3 ∙ ap Some (sym c.index_mut-course.ensures.value) in
     let r = ready net events e held courses c.self.inside.looks conn old rules here known (sym (ap (slice_get courses) place) ∙ there) in
@@ -121,3 +126,77 @@ pub returns-in-Ok-clause-headline : goal.returns-in-Ok-clause-headline
 returns-in-Ok-clause-headline c net events stands =
     let net_is = ap (λ (w : WorldView). w.net) c.self.view_is ∙ stands.stands.net_is in
     headline_after net events c.args.event.now (subst IsWithinRules net_is c.conns.ensures.rules) stands.rates c.asks_rate.ensures
+
+pub invariant_of-self-in-Ok : goal.invariant_of-self-in-Ok
+invariant_of-self-in-Ok c =
+    let net = c.self.inside.net.now in
+    let conn = c.index-conns-place.result in
+    let courses = c.self.inside.courses.items in
+    let held = c.self.inside.ports.items in
+    let ports = c.take.new.ports in
+    let old = c.index_mut-course.result.now in
+    let new = c.take.new.self in
+    let port = visited conn c.args.event.now in
+    let rules = c.self.invariant.1 in
+    let low = c.if-place-conns.false in
+    let count = ap length c.conns.ensures.value in
+    let count2 = ap length c.conns-2.ensures.value in
+    let same_place = c.counting.ensures.value in
+    let many = c.self.invariant.0 in
+    let low2 : c.from-place.result < length c.conns-2.result.now = omega arith in
+    let known : slice_get net.conns c.counting.result ≡ Some conn =
+    ap (slice_get net.conns) same_place ∙ sym (ap (λ (l : List Conn). slice_get l c.from-place.result) c.conns-2.ensures.value)
+    ∙ slice_get-get_or c.conns-2.result.now c.from-place.result conn low2 ∙ ap Some (sym c.index-conns-place.is) in
+    let low3 : c.counting.result < length courses = omega arith in
+    let there : slice_get courses c.counting.result ≡ Some old = slice_get-get_or courses c.counting.result old low3 ∙ ap Some (sym c.index_mut-course.ensures.value) in
+    let was : slice_get (map seen courses) c.counting.result ≡ Some (seen old) = slice_get-map seen courses c.counting.result ∙ ap (option_map seen) there in
+    let touches : Touches port conn.vc held ports = subst (λ (ps : List Table). Touches port conn.vc ps ports) c.deref_mut.ensures.value c.in-Ok.ensures.touches in
+    let written = written_over c.self.inside.ports.len ports held c.self.inside.ports.ok.0 (rewrites_length port held ports touches.0) in
+    let before : AreMarks net held conn (seen old) port c.marks-before.result = record {
+      above = c.marks-before.ensures.above ∙ ap (λ (ps : List Table). shapes_above ps (conn, seen old)) c.deref.ensures.value;
+      over = c.marks-before.ensures.over ∙ ap (λ (o : Option ℕ). over_at o c.capacities.result.now c.deref.result.now) c.visited-port.ensures
+          ∙ ap (λ (us : List ℕ). over_at port us c.deref.result.now) c.capacities.ensures.value ∙ ap (over_at port net.capacities) c.deref.ensures.value;
+      broken = c.marks-before.ensures.broken;
+    } in
+    let after : AreMarks net ports conn (seen new) port c.marks-after.result = record {
+      above = c.marks-after.ensures.above ∙ ap (λ (ps : List Table). shapes_above ps (conn, seen new)) (c.deref-in-Ok.ensures.value ∙ written);
+      over = c.marks-after.ensures.over ∙ ap (λ (o : Option ℕ). over_at o c.capacities-in-Ok.result.now c.deref-in-Ok.result.now) c.visited-port.ensures
+          ∙ ap (λ (us : List ℕ). over_at port us c.deref-in-Ok.result.now) c.capacities-in-Ok.ensures.value ∙ ap (over_at port net.capacities) (c.deref-in-Ok.ensures.value ∙ written);
+      broken = c.marks-after.ensures.broken;
+    } in
+    let few : length net.conns < 2 ^ 63 = omega (arith, rules.connections) in
+    let few_ports : length net.capacities < 2 ^ 63 = omega (arith, rules.ports) in
+    let told = tallied_after net held ports (map seen courses) c.counting.result port conn (seen old) (seen new) c.self.inside.tally c.after-self-inside.result c.marks-before.result c.marks-after.result
+    c.self.invariant.2 rules.own_channels (length-map courses seen ∙ many) few few_ports known was touches before after
+    c.after-self-inside.ensures.above c.after-self-inside.ensures.over c.after-self-inside.ensures.broken in (
+      length-set courses c.counting.result new ∙ many,
+      rules,
+      subst (λ (ps : List Table). IsTallied net ps (map seen (slice_set courses c.counting.result new)) c.after-self-inside.result) (sym written)
+          (subst (λ (cs : List CourseView). IsTallied net ports cs c.after-self-inside.result) (sym (map_set seen courses c.counting.result new)) told),
+    )
+
+pub invariant_of-self-in-Err : goal.invariant_of-self-in-Err
+invariant_of-self-in-Err c =
+    let net = c.self.inside.net.now in
+    let courses = c.self.inside.courses.items in
+    let held = c.self.inside.ports.items in
+    let old = c.index_mut-course.result.now in
+    let new = c.take.new.self in
+    let low = c.if-place-conns.false in
+    let count = ap length c.conns.ensures.value in
+    let same_place = c.counting.ensures.value in
+    let many = c.self.invariant.0 in
+    let low3 : c.counting.result < length courses = omega arith in
+    let there : slice_get courses c.counting.result ≡ Some old = slice_get-get_or courses c.counting.result old low3 ∙ ap Some (sym c.index_mut-course.ensures.value) in
+    let was : slice_get (map seen courses) c.counting.result ≡ Some (seen old) = slice_get-map seen courses c.counting.result ∙ ap (option_map seen) there in
+    let same = c.in-Err.ensures.memory in
+    let kept : c.take.new.ports ≡ held = same.2 ∙ c.deref_mut.ensures.value in
+    let written = written_over c.self.inside.ports.len c.take.new.ports held c.self.inside.ports.ok.0 (ap length kept) ∙ kept in
+    let seen_same : seen new ≡ seen old = ap (λ (a : ActorView). record { actor = a; index = new.log.index }) same.0 ∙ ap (λ (i : Index). record { actor = old.actor; index = i }) same.1 in
+    let left : map seen (slice_set courses c.counting.result new) ≡ map seen courses =
+    map_set seen courses c.counting.result new ∙ ap (slice_set (map seen courses) c.counting.result) seen_same ∙ set_same (map seen courses) c.counting.result (seen old) was in (
+      length-set courses c.counting.result new ∙ many,
+      c.self.invariant.1,
+      subst (λ (ps : List Table). IsTallied net ps (map seen (slice_set courses c.counting.result new)) c.self.inside.tally) (sym written)
+          (subst (λ (cs : List CourseView). IsTallied net held cs c.self.inside.tally) (sym left) c.self.invariant.2),
+    )

@@ -1,0 +1,71 @@
+//! Counts of what isn't safe.
+ghost use Rattle.std.specs.Prelude.{◌≡◌, ◌+◌, ◌<◌, ◌≤◌, ◌==◌, ◌&&◌};
+ghost use Rattle.abt_safety.specs.Tallies.{one_if, IsRecounted};
+
+/// What isn't safe of one connection and of one port.
+#[derive(Clone, Copy, Debug, PartialEq, Eq)]
+pub struct Marks {
+    /// The source of the connection shapes above what a hop holds for it.
+    pub above: bool,
+    /// The port holds more than its capacity.
+    pub over: bool,
+    /// A cell of the connection came that wasn't found conforming.
+    pub broken: bool,
+}
+
+/// How many there are in a net of what isn't safe.
+#[derive(Clone, Copy, Debug, PartialEq, Eq)]
+pub struct Tally {
+    /// Connections whose source shapes above what a hop holds for them.
+    pub above: u64,
+    /// Ports that hold more than their capacity.
+    pub over: u64,
+    /// Connections of which a cell came that wasn't found conforming.
+    pub broken: u64,
+}
+
+/// A count of which one may have changed: whether that one counted before, and whether it does after.
+pub fn recount(count: u64, before: bool, after: bool) -> u64
+    ensures { IsRecounted count before after result }
+{
+    match (before, after) {
+        (true, false) => count.saturating_sub(1),
+        (false, true) => count.saturating_add(1),
+        _ => count,
+    }
+}
+
+impl Tally {
+    /// Nothing counts.
+    pub fn none() -> Tally
+        ensures above { result.above ≡ 0 }
+        ensures over { result.over ≡ 0 }
+        ensures broken { result.broken ≡ 0 }
+    {
+        Tally {
+            above: 0,
+            over: 0,
+            broken: 0,
+        }
+    }
+
+    /// The counts after one connection and one port changed.
+    pub fn after(&self, before: &Marks, after: &Marks) -> Tally
+        ensures above { IsRecounted self.now.above before.now.above after.now.above result.above }
+        ensures over { IsRecounted self.now.over before.now.over after.now.over result.over }
+        ensures broken { IsRecounted self.now.broken before.now.broken after.now.broken result.broken }
+    {
+        Tally {
+            above: recount(self.above, before.above, after.above),
+            over: recount(self.over, before.over, after.over),
+            broken: recount(self.broken, before.broken, after.broken),
+        }
+    }
+
+    /// Whether nothing counts.
+    pub fn is_safe(&self) -> bool
+        ensures { result ≡ (self.now.above == 0 && self.now.over == 0 && self.now.broken == 0) }
+    {
+        self.above == 0 && self.over == 0 && self.broken == 0
+    }
+}

@@ -1,0 +1,203 @@
+-- Counts of what isn't safe, where one connection and one port change.
+use Rattle.std.proofs.Common.{◌≡◌, ◌≢◌, ℕ, zero, suc, ◌+◌, ◌≤◌, ◌<◌, Bool, true, false, not, List, [], ◌∷◌, refl, sym, subst, ap, ◌∙◌, length, map, arith, inl, inr, ◌^◌}
+use Rattle.std.specs.Prelude.{◌&&◌, Option, None, Some, unwrap_or, nat_le, slice_get, slice_set, slice_index_or}
+use Rattle.std.specs.List.{zip, list_all}
+use Rattle.std.proofs.lemmas.Bool.{cases_order, and_parts}
+use Rattle.std.proofs.lemmas.Option.{slice_get_within, get_or_from_slice_get}
+use Rattle.abt_cell.specs.Channel.{Channel}
+use Rattle.abt_net.specs.declared.conn.Conn.{Conn}
+use Rattle.abt_node.specs.Table.{Table, sum_of}
+use Rattle.abt_model.proofs.Tables.{OwnChannels}
+use Rattle.abt_safety.specs.Holding.{held_by_port, is_held_along}
+use Rattle.abt_safety.specs.Tallies.{one_if, count_of, is_above, over_at, IsRecounted}
+use Rattle.abt_world.specs.Courses.{CourseView}
+use Rattle.abt_net.specs.Topology.{Topology}
+use Rattle.abt_safety.specs.declared.tally.Tally.{Tally}
+use Rattle.abt_safety.specs.declared.tally.Marks.{Marks}
+use Rattle.abt_world.specs.declared.course.Course.{Course}
+use Rattle.abt_world.specs.Seen.{seen}
+use Rattle.abt_world.specs.Tallied.{shapes_above, is_broken, IsTallied}
+use Rattle.abt_world.specs.Touches.{Rewrites, Touches}
+
+-- what marks tell of a connection and a port
+pub record AreMarks (net : Topology) (ports : List Table) (conn : Conn) (course : CourseView) (port : Option ℕ) (marks : Marks) : Type 0 where
+  pub above : marks.above ≡ shapes_above ports (conn, course)
+  pub over : marks.over ≡ over_at port net.capacities ports
+  pub broken : marks.broken ≡ is_broken course
+
+pub one_at_most : (b : Bool) → one_if b ≤ 1
+one_at_most true = omega arith
+one_at_most false = omega arith
+
+-- a count is at most the length
+pub count_within : {A : Type 0} (test : A → Bool) (xs : List A) → count_of test xs ≤ length xs
+count_within test [] = omega arith
+count_within test (x ∷ xs) = omega (arith, one_at_most (test x), count_within test xs)
+
+-- one that is counted
+pub counted_one : {A : Type 0} (test : A → Bool) (xs : List A) (i : ℕ) (x : A) → slice_get xs i ≡ Some x → one_if (test x) ≤ count_of test xs
+counted_one test [] i x at = absurd (let e = at in cc)
+counted_one test (y ∷ xs) zero x at =
+    let is : y ≡ x = ap (λ o. unwrap_or o y) at in
+    let same = ap (λ z. one_if (test z)) is in
+    omega arith
+counted_one test (y ∷ xs) (suc i) x at = omega (arith, counted_one test xs i x at)
+
+-- one of a list changes
+pub count_changed : {A : Type 0} (test : A → Bool) (xs : List A) (i : ℕ) (x y : A) → slice_get xs i ≡ Some x →
+    count_of test (slice_set xs i y) + one_if (test x) ≡ count_of test xs + one_if (test y)
+count_changed test [] i x y at = absurd (let e = at in cc)
+count_changed test (z ∷ xs) zero x y at =
+    let is : z ≡ x = ap (λ o. unwrap_or o z) at in
+    let same = ap (λ w. one_if (test w)) is in
+    omega arith
+count_changed test (z ∷ xs) (suc i) x y at = omega (arith, count_changed test xs i x y at)
+
+-- all of a path hold the same for another channel
+along_same : (rate : ℕ) (vc : Channel) (before after : List Table) (path : List ℕ) → ((p : ℕ) → held_by_port vc after p ≡ held_by_port vc before p) →
+    is_held_along rate vc after path ≡ is_held_along rate vc before path
+along_same rate vc before after [] same = refl
+along_same rate vc before after (p ∷ path) same =
+    ap (λ n. nat_le rate n && is_held_along rate vc after path) (same p) ∙ ap (λ b. nat_le rate (held_by_port vc before p) && b) (along_same rate vc before after path same)
+
+abbrev OthersKeep : Channel → (before after : List Table) → Type 0
+OthersKeep vc before after = (other : Channel) → other ≢ vc → (p : ℕ) → held_by_port other after p ≡ held_by_port other before p
+
+pair_same : (vc : Channel) (before after : List Table) (pair : Conn × CourseView) → OthersKeep vc before after → pair.0.vc ≢ vc → shapes_above after pair ≡ shapes_above before pair
+pair_same vc before after pair keep apart = ap not (along_same pair.1.actor.source.rate pair.0.vc before after pair.0.path (keep pair.0.vc apart))
+
+above_same : (vc : Channel) (before after : List Table) (conns : List Conn) (courses : List CourseView) → OthersKeep vc before after →
+    ((i : ℕ) (conn : Conn) → slice_get conns i ≡ Some conn → conn.vc ≢ vc) → count_of (shapes_above after) (zip conns courses) ≡ count_of (shapes_above before) (zip conns courses)
+above_same vc before after [] courses keep apart = refl
+above_same vc before after (k ∷ conns) [] keep apart = refl
+above_same vc before after (k ∷ conns) (o ∷ courses) keep apart =
+    let first = ap one_if (pair_same vc before after (k, o) keep (apart 0 k refl)) in
+    let rest = above_same vc before after conns courses keep (λ i conn at. apart (suc i) conn at) in
+    omega arith
+
+-- one connection changes, and what ports hold for it
+above_changed : (before after : List Table) (conns : List Conn) (courses : List CourseView) (c : ℕ) (conn : Conn) (old new : CourseView) → OthersKeep conn.vc before after →
+    slice_get conns c ≡ Some conn → slice_get courses c ≡ Some old → ((i : ℕ) (k : Conn) → i ≢ c → slice_get conns i ≡ Some k → k.vc ≢ conn.vc) →
+    (count_of (shapes_above after) (zip conns (slice_set courses c new)) + one_if (shapes_above before (conn, old))
+    ≡ count_of (shapes_above before) (zip conns courses) + one_if (shapes_above after (conn, new)))
+    × (one_if (shapes_above before (conn, old)) ≤ count_of (shapes_above before) (zip conns courses))
+above_changed before after [] courses c conn old new keep known at apart = absurd (let e = known in cc)
+above_changed before after (k ∷ conns) [] c conn old new keep known at apart = absurd (let e = at in cc)
+above_changed before after (k ∷ conns) (o ∷ courses) zero conn old new keep known at apart =
+    let conn_is : k ≡ conn = ap (λ x. unwrap_or x k) known in
+    let old_is : o ≡ old = ap (λ x. unwrap_or x o) at in
+    let was = ap (λ (x : Conn). one_if (shapes_above before (x, o))) conn_is ∙ ap (λ (x : CourseView). one_if (shapes_above before (conn, x))) old_is in
+    let now = ap (λ (x : Conn). one_if (shapes_above after (x, new))) conn_is in
+    let rest = above_same conn.vc before after conns courses keep (λ i other there. apart (suc i) other (λ e. omega arith) there) in
+    (omega arith, omega arith)
+above_changed before after (k ∷ conns) (o ∷ courses) (suc c) conn old new keep known at apart =
+    let first = ap one_if (pair_same conn.vc before after (k, o) keep (apart 0 k (λ e. omega arith) refl)) in
+    let rest = above_changed before after conns courses c conn old new keep known at (λ i other other_place there. apart (suc i) other (λ e. other_place (omega arith)) there) in
+    (omega (arith, rest.0), omega (arith, rest.1))
+
+-- the channels of a net's connections differ
+channels_differ : (conns : List Conn) (c : ℕ) (conn : Conn) → OwnChannels conns → slice_get conns c ≡ Some conn → (i : ℕ) (k : Conn) → i ≢ c → slice_get conns i ≡ Some k → k.vc ≢ conn.vc
+channels_differ conns c conn own known i k other there same =
+    let low = slice_get_within conns c conn known in
+    let low_i = slice_get_within conns i k there in
+    let here : slice_index_or conns c conn ≡ conn = get_or_from_slice_get conns c conn conn known in
+    let at_i : slice_index_or conns i conn ≡ k = get_or_from_slice_get conns i k conn there in
+    elim (cases_order i c) [
+      | inl e ↦ other e
+      | inr (inl less) ↦ own i c conn less low (ap (λ (x : Conn). x.vc) at_i ∙ same ∙ sym (ap (λ (x : Conn). x.vc) here))
+      | inr (inr more) ↦ own c i conn more low_i (ap (λ (x : Conn). x.vc) here ∙ sym same ∙ sym (ap (λ (x : Conn). x.vc) at_i))
+    ]
+
+over_none : (capacities : List ℕ) (p : ℕ) → (0 + one_if (over_at (Some p) capacities []) ≡ 0 + one_if (over_at (Some p) capacities [])) × (one_if (over_at (Some p) capacities []) ≤ 0)
+over_none [] p = (refl, omega arith)
+over_none (u ∷ capacities) zero = (refl, omega arith)
+over_none (u ∷ capacities) (suc p) = over_none capacities p
+
+-- one port changes
+over_changed : (capacities : List ℕ) (ports : List Table) (p : ℕ) (table : Table) →
+    (count_of (λ (pair : ℕ × Table). is_above pair.0 pair.1) (zip capacities (slice_set ports p table)) + one_if (over_at (Some p) capacities ports)
+    ≡ count_of (λ (pair : ℕ × Table). is_above pair.0 pair.1) (zip capacities ports) + one_if (over_at (Some p) capacities (slice_set ports p table)))
+    × (one_if (over_at (Some p) capacities ports) ≤ count_of (λ (pair : ℕ × Table). is_above pair.0 pair.1) (zip capacities ports))
+over_changed [] ports p table = (refl, omega arith)
+over_changed (u ∷ capacities) [] zero table = (refl, omega arith)
+over_changed (u ∷ capacities) [] (suc p) table = over_none capacities p
+over_changed (u ∷ capacities) (t ∷ ports) zero table = (omega arith, omega arith)
+over_changed (u ∷ capacities) (t ∷ ports) (suc p) table = (let rest = over_changed capacities ports p table in (omega (arith, rest.0), omega (arith, rest.1)))
+
+over_rewritten : (port : Option ℕ) (capacities : List ℕ) (before after : List Table) → Rewrites port before after →
+    (count_of (λ (pair : ℕ × Table). is_above pair.0 pair.1) (zip capacities after) + one_if (over_at port capacities before)
+    ≡ count_of (λ (pair : ℕ × Table). is_above pair.0 pair.1) (zip capacities before) + one_if (over_at port capacities after))
+    × (one_if (over_at port capacities before) ≤ count_of (λ (pair : ℕ × Table). is_above pair.0 pair.1) (zip capacities before))
+over_rewritten None capacities before after is = (ap (λ (ps : List Table). count_of (λ (pair : ℕ × Table). is_above pair.0 pair.1) (zip capacities ps) + 0) is, omega arith)
+over_rewritten (Some p) capacities before after is =
+    subst (λ (ps : List Table). (count_of (λ (pair : ℕ × Table). is_above pair.0 pair.1) (zip capacities ps) + one_if (over_at (Some p) capacities before)
+    ≡ count_of (λ (pair : ℕ × Table). is_above pair.0 pair.1) (zip capacities before) + one_if (over_at (Some p) capacities ps))
+    × (one_if (over_at (Some p) capacities before) ≤ count_of (λ (pair : ℕ × Table). is_above pair.0 pair.1) (zip capacities before)))
+    (sym is.1) (over_changed capacities before p is.0)
+
+-- a count that was brought up to date is the new count
+recounted : (count before after told : ℕ) (was is : Bool) → told ≡ before → IsRecounted told was is after → one_if was ≤ before → before + 1 < 2 ^ 64 → count + one_if was ≡ before + one_if is → after ≡ count
+recounted count before after told was is told_is by some room changed =
+    let up = by (omega arith) (omega arith) in omega arith
+
+zip_within : {A B : Type 0} (xs : List A) (ys : List B) → length (zip xs ys) ≤ length xs
+zip_within [] ys = omega arith
+zip_within (x ∷ xs) [] = omega arith
+zip_within (x ∷ xs) (y ∷ ys) = (let rest = zip_within xs ys in omega arith)
+
+-- the counts after one connection and one port changed
+pub tallied_after :
+    (net : Topology) (before after : List Table) (courses : List CourseView) (c : ℕ) (port : Option ℕ) (conn : Conn) (old new : CourseView) (tally told : Tally) (was is : Marks) →
+    IsTallied net before courses tally → OwnChannels net.conns → length courses ≡ length net.conns → length net.conns < 2 ^ 63 → length net.capacities < 2 ^ 63 →
+    slice_get net.conns c ≡ Some conn → slice_get courses c ≡ Some old → Touches port conn.vc before after →
+    AreMarks net before conn old port was → AreMarks net after conn new port is →
+    IsRecounted tally.above was.above is.above told.above → IsRecounted tally.over was.over is.over told.over → IsRecounted tally.broken was.broken is.broken told.broken →
+    IsTallied net after (slice_set courses c new) told
+tallied_after net before after courses c port conn old new tally told was is kept own many few few_ports known at touches marked marks above over broken =
+    let a = above_changed before after net.conns courses c conn old new touches.1 known at (channels_differ net.conns c conn own known) in
+    let o = over_rewritten port net.capacities before after touches.0 in
+    let b = count_changed is_broken courses c old new at in
+    let some = counted_one is_broken courses c old at in
+    let pairs = count_within (shapes_above before) (zip net.conns courses) in
+    let in_pairs = zip_within net.conns courses in
+    let sums = count_within (λ (pair : ℕ × Table). is_above pair.0 pair.1) (zip net.capacities before) in
+    let in_sums = zip_within net.capacities before in
+    let all = count_within is_broken courses in
+    record {
+      above = recounted _ (count_of (shapes_above before) (zip net.conns courses)) told.above tally.above (shapes_above before (conn, old)) (shapes_above after (conn, new)) kept.above
+          (subst (λ x. IsRecounted tally.above x (shapes_above after (conn, new)) told.above) marked.above (subst (λ x. IsRecounted tally.above was.above x told.above) marks.above above)) a.1 (omega arith) a.0;
+      over = recounted _ (count_of (λ (pair : ℕ × Table). is_above pair.0 pair.1) (zip net.capacities before)) told.over tally.over (over_at port net.capacities before) (over_at port net.capacities after) kept.over
+          (subst (λ x. IsRecounted tally.over x (over_at port net.capacities after) told.over) marked.over (subst (λ x. IsRecounted tally.over was.over x told.over) marks.over over)) o.1 (omega arith) o.0;
+      broken = recounted _ (count_of is_broken courses) told.broken tally.broken (is_broken old) (is_broken new) kept.broken
+          (subst (λ x. IsRecounted tally.broken x (is_broken new) told.broken) marked.broken (subst (λ x. IsRecounted tally.broken was.broken x told.broken) marks.broken broken)) some (omega arith) b;
+    }
+
+-- nothing is counted where all is safe
+pub none_above : (conns : List Conn) (courses : List Course) (ports : List Table) →
+    list_all (λ (pair : Conn × Course). is_held_along pair.1.actor.source.rate pair.0.vc ports pair.0.path) (zip conns courses) ≡ true →
+    count_of (shapes_above ports) (zip conns (map seen courses)) ≡ 0
+none_above [] courses ports all = refl
+none_above (k ∷ conns) [] ports all = refl
+none_above (k ∷ conns) (o ∷ courses) ports all =
+    let parts = and_parts _ _ all in
+    let first : one_if (shapes_above ports (k, seen o)) ≡ 0 = ap (λ b. one_if (not b)) parts.0 in
+    let rest = none_above conns courses ports parts.1 in
+    omega arith
+
+pub none_over : (capacities : List ℕ) (ports : List Table) → list_all (λ (pair : ℕ × Table). nat_le (sum_of pair.1) pair.0) (zip capacities ports) ≡ true →
+    count_of (λ (pair : ℕ × Table). is_above pair.0 pair.1) (zip capacities ports) ≡ 0
+none_over [] ports all = refl
+none_over (u ∷ capacities) [] all = refl
+none_over (u ∷ capacities) (t ∷ ports) all =
+    let parts = and_parts _ _ all in
+    let first : one_if (is_above u t) ≡ 0 = ap (λ b. one_if (not b)) parts.0 in
+    let rest = none_over capacities ports parts.1 in
+    omega arith
+
+pub none_broken : (courses : List Course) → list_all (λ (course : Course). course.log.index.conform) courses ≡ true → count_of is_broken (map seen courses) ≡ 0
+none_broken [] all = refl
+none_broken (o ∷ courses) all =
+    let parts = and_parts _ _ all in
+    let first : one_if (is_broken (seen o)) ≡ 0 = ap (λ b. one_if (not b)) parts.0 in
+    let rest = none_broken courses parts.1 in
+    omega arith
