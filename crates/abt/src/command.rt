@@ -110,7 +110,8 @@ Status 0: done. 1: a fault, which standard error names. 2: the words are refused
 
 const RATE_EXAMPLE: &str = "Example:
   abt rate 53e8
-  53e8 units 512000 spacing 1000000000";
+  53e8 units 512000 spacing 1000000000
+A unit is 1/512 cell per second. The spacing of cells is in picoseconds.";
 
 const CELL_EXAMPLE: &str = "Example:
   abt cell 0010064c02045258000000000000000000000001\
@@ -122,7 +123,8 @@ const PORT_EXAMPLE: &str = "Example:
 6a6a6a6a6a6a6a6a6a6a6a6a6a6a6a6a6a6a6a6a6a6a6a6a6a6a6a6a6a6a038c
   1 pass 0010064c02045258000000000000000000000001\
 6a6a6a6a6a6a6a6a6a6a6a6a6a6a6a6a6a6a6a6a6a6a6a6a6a6a6a6a6a6a038c
-  total 307200";
+  total 307200
+A cell that can't be served has a line with its fault, and the status is 0.";
 
 const RUN_EXAMPLE: &str = "Example:
   printf 'ports = [512000]\\nevents = [\"start 0 0\"]\\n' | abt run
