@@ -12,9 +12,9 @@ pub returns-clause-table : goal.returns-clause-table
 returns-clause-table c =
     let net = c.args.net.now in
     let same : opening_table c.args.id c.capacity_of.result c.conns.result.now ≡ port_table net [] c.args.id =
-        ap (λ (u : ℕ). opening_table c.args.id u c.conns.result.now) c.capacity_of.ensures.value
-        ∙ ap (λ (conns : List Conn). opening_table c.args.id (slice_index net.capacities c.args.id) conns) c.conns.ensures.value
-        ∙ opening_table-is net c.args.id in
+    ap (λ (u : ℕ). opening_table c.args.id u c.conns.result.now) c.capacity_of.ensures.value
+    ∙ ap (λ (conns : List Conn). opening_table c.args.id (slice_index net.capacities c.args.id) conns) c.conns.ensures.value
+    ∙ opening_table-is net c.args.id in
     IfOk-weaker c.port_with.result _ _ (λ port is. is ∙ same) c.port_with.ensures
 
 pub returns-clause-opening : goal.returns-clause-opening
