@@ -31,7 +31,9 @@ impl Hops {
         ensures same { 32 ≤ hop → result ≡ self }
     {
         if hop < 32 {
-            Hops { bits: self.bits | 1 << hop }
+            Hops {
+                bits: self.bits | 1 << hop,
+            }
         } else {
             self
         }
