@@ -1,6 +1,7 @@
 //! A port with as many connections as it can have.
 use abt_cell::Vc;
 use abt_keep::StorePlan;
+use abt_node::Onward;
 use abt_rate::Rate;
 use abt_world::{Cause, Conn, Event, Net, NetFault, Outcome, Path, World};
 use std::alloc::Global;
@@ -87,6 +88,8 @@ fn requests(rt: &impl Abort, world: &mut World<'_>) -> Result<u64, Fail> {
 // The run has 1,024 starts, and 98,976 events of which each fifth is a request.
 #[test]
 fn an_event_looks_up_few_entries_however_many_there_are(rt: HostRuntime) -> Result<(), Fail> {
+    // Names a type within an outcome, without which the checker can't follow one here.
+    let _ = Onward::Pass;
     let net = crowd(rt.alloc())?;
     let mut world = World::new(rt.alloc(), &net)?;
     assert_eq!(rt; world.looks(), 0);
