@@ -53,6 +53,47 @@ fn a_source_that_never_asked_hears_nothing(rt: HostRuntime) -> Result<(), Fail> 
     Ok(())
 }
 
+// The yes comes back at the one hop.
+fn comes_back() -> Event {
+    Event::Answer {
+        conn: 0,
+        hop: 1,
+        seq: 1,
+        granted: true,
+    }
+}
+
+// The source is told of it.
+fn comes_home() -> Event {
+    Event::Told {
+        conn: 0,
+        seq: 1,
+        granted: true,
+    }
+}
+
+// A yes that is turned once, and comes twice.
+fn turned_once() -> [Event; 8] {
+    [
+        Event::Start { conn: 0, now: 0 },
+        Event::Ask {
+            conn: 0,
+            rate: rate(0x5258),
+            plan: StorePlan::Works,
+        },
+        Event::Request {
+            conn: 0,
+            hop: 1,
+            seq: 1,
+        },
+        Event::Turn { conn: 0, seq: 1 },
+        comes_back(),
+        comes_home(),
+        comes_back(),
+        comes_home(),
+    ]
+}
+
 // The yes at the last hop needs its Turn, which stands in no journal, and needs it once. Each pass takes one entry of an actor.
 #[test]
 fn a_yes_is_turned_once_however_often_it_comes(rt: HostRuntime) -> Result<(), Fail> {
@@ -71,35 +112,6 @@ fn a_yes_is_turned_once_however_often_it_comes(rt: HostRuntime) -> Result<(), Fa
         told(0, 1, true, Heard::Ignored),
     ];
     let answer = woven(rt.alloc(), &net, &[&port], &[&source])?;
-    let back = Event::Answer {
-        conn: 0,
-        hop: 1,
-        seq: 1,
-        granted: true,
-    };
-    let home = Event::Told {
-        conn: 0,
-        seq: 1,
-        granted: true,
-    };
-    let events = [
-        Event::Start { conn: 0, now: 0 },
-        Event::Ask {
-            conn: 0,
-            rate: rate(0x5258),
-            plan: StorePlan::Works,
-        },
-        Event::Request {
-            conn: 0,
-            hop: 1,
-            seq: 1,
-        },
-        Event::Turn { conn: 0, seq: 1 },
-        back,
-        home,
-        back,
-        home,
-    ];
-    gives(&rt, answer, &events);
+    gives(&rt, answer, &turned_once());
     Ok(())
 }
