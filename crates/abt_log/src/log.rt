@@ -187,7 +187,7 @@ impl Log {
         }
     }
 
-    /// Whether a cell is one of those after the last that arrived.
+    /// Whether a cell is the last that arrived, or one before it.
     pub fn is_behind_last(&self, cell: u64) -> bool
         ensures { (facts : List FactSpec) → IsLogOf facts self.now → result ≡ nat_lt cell (after_last_of facts) }
     {

@@ -54,7 +54,7 @@ IsWeaveFault net journals (NoOrder stuck) =
     (events : List Event) × (StandsStill net journals (reverse events) × NoneMismatches net journals (reverse events) × (stuck ≡ all_left net journals (reverse events)) × (stuck ≢ []))
 IsWeaveFault net journals Memory = Unit {0}
 
--- no list of events is woven from the journals
+-- no list of events, each of whose rates a code can name, is woven from the journals
 abbrev pub NoneIsWoven : Topology → Journaled → Type 0
 NoneIsWoven net journals = (events : List Event) → All AsksRate events → IsWoven net journals.ports journals.sources events → ⊥
 
