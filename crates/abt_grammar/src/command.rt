@@ -1,19 +1,22 @@
 //! The texts of commands.
-ghost use Rattle.std.specs.Prelude.{◌≡◌, IfOk, map};
+ghost use Rattle.std.specs.Prelude.{◌≡◌, map};
 ghost use Rattle.abt_grammar.specs.CommandTexts.{command_of, said, order_of, said_by, ask_of, emit_of, jitter_of};
 
 use crate::value::{plan_of, rate_of};
 use abt_keep::StorePlan;
 use abt_script::Command;
 use abt_text::{u32_of, u64_of, words_of};
-use std::alloc::{AllocError, Global};
+
+/// The words of a command's text at most: the order and what two more say.
+const WORDS_MAX: usize = 3;
 
 /// The command that a text of a script says, or `None` where it says none (docs/FORMATS.md, "Scripts").
-pub fn command_of(alloc: Global, text: &str) -> Result<Option<Command>, AllocError>
-    ensures { IfOk result (λ command. command ≡ command_of text.now) }
+pub fn command_of(text: &str) -> Option<Command>
+    ensures { result ≡ command_of text.now }
 {
-    let words = words_of(alloc, text)?;
-    Ok(said(words.as_slice()))
+    let mut words = [""; WORDS_MAX];
+    let count = words_of(text, &mut words)?;
+    said(&words[..count])
 }
 
 fn said(words: &[&str]) -> Option<Command>

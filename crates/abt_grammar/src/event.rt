@@ -1,5 +1,5 @@
 //! The texts of events.
-ghost use Rattle.std.specs.Prelude.{◌≡◌, IfOk, map};
+ghost use Rattle.std.specs.Prelude.{◌≡◌, map};
 ghost use Rattle.abt_grammar.specs.EventTexts.{event_of, said, verb_of, said_by};
 ghost use Rattle.abt_grammar.specs.EventTexts.{start_of, ask_of, ask_with, again_of, crash_of, emit_of, arrive_of, request_of, turn_of, answer_of, told_of};
 
@@ -7,14 +7,17 @@ use crate::value::{plan_of, rate_of};
 use abt_keep::StorePlan;
 use abt_model::Event;
 use abt_text::{u16_of, u32_of, u64_of, words_of};
-use std::alloc::{AllocError, Global};
+
+/// The words of an event's text at most: the verb and what three more say.
+const WORDS_MAX: usize = 4;
 
 /// The event that a text says, or `None` where it says none (docs/FORMATS.md, "Scenario").
-pub fn event_of(alloc: Global, text: &str) -> Result<Option<Event>, AllocError>
-    ensures { IfOk result (λ event. event ≡ event_of text.now) }
+pub fn event_of(text: &str) -> Option<Event>
+    ensures { result ≡ event_of text.now }
 {
-    let words = words_of(alloc, text)?;
-    Ok(said(words.as_slice()))
+    let mut words = [""; WORDS_MAX];
+    let count = words_of(text, &mut words)?;
+    said(&words[..count])
 }
 
 fn said(words: &[&str]) -> Option<Event>

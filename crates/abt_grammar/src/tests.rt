@@ -4,29 +4,9 @@ use abt_keep::StorePlan;
 use abt_model::Event;
 use abt_rate::Rate;
 use abt_script::Command;
-use std::alloc::Global;
-use std::process::Abort;
-use std::test::Fail;
-
-// What a text says as an event. Where memory is refused, the text is read again.
-fn event(alloc: Global, text: &str) -> Result<Option<Event>, Fail> {
-    if let Ok(event) = event_of(alloc, text) {
-        return Ok(event);
-    }
-    event_of(alloc, text).map_err(|_| Fail::from("memory was refused twice"))
-}
-
-// The same as a command.
-fn command(alloc: Global, text: &str) -> Result<Option<Command>, Fail> {
-    if let Ok(command) = command_of(alloc, text) {
-        return Ok(command);
-    }
-    command_of(alloc, text).map_err(|_| Fail::from("memory was refused twice"))
-}
 
 #[test]
-fn each_event_has_its_text(rt: HostRuntime) -> Result<(), Fail> {
-    let alloc = rt.alloc();
+fn each_event_has_its_text(rt: HostRuntime) {
     // 400 cells per second: (512 + 288) * 2^8 units.
     let rate = Rate::at_most(204_800);
     let rows = [
@@ -117,25 +97,17 @@ fn each_event_has_its_text(rt: HostRuntime) -> Result<(), Fail> {
         ),
     ];
     for (text, said) in rows {
-        assert_eq!(rt; event(alloc, text)?, Some(said), "{text}");
+        assert_eq!(rt; event_of(text), Some(said), "{text}");
     }
-    Ok(())
 }
 
 #[test]
-fn numbers_are_1_to_19_digits_that_fit(rt: HostRuntime) -> Result<(), Fail> {
-    let alloc = rt.alloc();
+fn numbers_are_1_to_19_digits_that_fit(rt: HostRuntime) {
     let zeros = "start 0 0000000000000000009";
-    assert_eq!(rt;
-        event(alloc, zeros)?,
-        Some(Event::Start { conn: 0, now: 9 })
-    );
+    assert_eq!(rt; event_of(zeros), Some(Event::Start { conn: 0, now: 9 }));
     let greatest = "start 0 9999999999999999999";
     let now = 9_999_999_999_999_999_999;
-    assert_eq!(rt;
-        event(alloc, greatest)?,
-        Some(Event::Start { conn: 0, now })
-    );
+    assert_eq!(rt; event_of(greatest), Some(Event::Start { conn: 0, now }));
     for text in [
         "start 0 00000000000000000000",
         "start 0 10000000000000000000",
@@ -152,14 +124,12 @@ fn numbers_are_1_to_19_digits_that_fit(rt: HostRuntime) -> Result<(), Fail> {
         "start 0 5_0",
         "start 0 \u{0665}",
     ] {
-        assert_eq!(rt; event(alloc, text)?, None, "{text}");
+        assert_eq!(rt; event_of(text), None, "{text}");
     }
-    Ok(())
 }
 
 #[test]
-fn words_stand_between_single_spaces(rt: HostRuntime) -> Result<(), Fail> {
-    let alloc = rt.alloc();
+fn words_stand_between_single_spaces(rt: HostRuntime) {
     for text in [
         "",
         " ",
@@ -180,20 +150,18 @@ fn words_stand_between_single_spaces(rt: HostRuntime) -> Result<(), Fail> {
         "listen 5",
         "again",
     ] {
-        assert_eq!(rt; event(alloc, text)?, None, "{text}");
+        assert_eq!(rt; event_of(text), None, "{text}");
     }
-    Ok(())
 }
 
 #[test]
-fn codes_are_four_digits_of_either_case(rt: HostRuntime) -> Result<(), Fail> {
-    let alloc = rt.alloc();
+fn codes_are_four_digits_of_either_case(rt: HostRuntime) {
     // 1,000 cells per second: (512 + 488) * 2^9 units. The first bit of a code says nothing.
     let rate = Rate::at_most(512_000);
     for text in ["ask 0 53e8", "ask 0 53E8", "ask 0 d3e8"] {
         let plan = StorePlan::Works;
         assert_eq!(rt;
-            event(alloc, text)?,
+            event_of(text),
             Some(Event::Ask {
                 conn: 0,
                 rate,
@@ -212,14 +180,12 @@ fn codes_are_four_digits_of_either_case(rt: HostRuntime) -> Result<(), Fail> {
         "ask 0 53e8 before after",
         "ask 0",
     ] {
-        assert_eq!(rt; event(alloc, text)?, None, "{text}");
+        assert_eq!(rt; event_of(text), None, "{text}");
     }
-    Ok(())
 }
 
 #[test]
-fn each_command_has_its_text(rt: HostRuntime) -> Result<(), Fail> {
-    let alloc = rt.alloc();
+fn each_command_has_its_text(rt: HostRuntime) {
     let rate = Rate::at_most(204_800);
     let rows = [
         ("start 9", Command::Start { now: 9 }),
@@ -268,7 +234,7 @@ fn each_command_has_its_text(rt: HostRuntime) -> Result<(), Fail> {
         ),
     ];
     for (text, said) in rows {
-        assert_eq!(rt; command(alloc, text)?, Some(said), "{text}");
+        assert_eq!(rt; command_of(text), Some(said), "{text}");
     }
     for text in [
         "",
@@ -289,7 +255,6 @@ fn each_command_has_its_text(rt: HostRuntime) -> Result<(), Fail> {
         "listen 00000000000000000005",
         "arrive 0 5",
     ] {
-        assert_eq!(rt; command(alloc, text)?, None, "{text}");
+        assert_eq!(rt; command_of(text), None, "{text}");
     }
-    Ok(())
 }

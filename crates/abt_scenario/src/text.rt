@@ -77,7 +77,7 @@ fn events_in(alloc: Global, texts: &[&str]) -> Result<Sequence<Event>, ScenarioF
 {
     let mut events = Sequence::new(alloc);
     for (index, text) in texts.iter().enumerate() {
-        match event_of(alloc, text)? {
+        match event_of(text) {
             Some(event) => events.push(event)?,
             None => {
                 return Err(ScenarioFault::EventText {
@@ -106,7 +106,7 @@ fn commands_in(alloc: Global, connection: u64, texts: &[&str]) -> Result<Script,
 {
     let mut commands = Sequence::new(alloc);
     for (place, text) in texts.iter().enumerate() {
-        match command_of(alloc, text)? {
+        match command_of(text) {
             Some(command) => commands.push(command)?,
             None => {
                 return Err(ScenarioFault::ScriptText {

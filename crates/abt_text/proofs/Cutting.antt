@@ -1,6 +1,7 @@
 -- The words of a text, cut at its first space.
-use Rattle.std.proofs.Common.{◌≡◌, ◌==◌, inl, inr, ap, sym, ◌∙◌, ◌≢◌, ℕ, ◌<◌, ◌++◌, List, [], ◌∷◌, length, get_or, refl, arith, suc, map, Bor, append_assoc}
-use Rattle.std.proofs.lemmas.List.{map-append}
+use Rattle.std.proofs.Common.{◌≡◌, ◌==◌, inl, inr, ap, ◌∙◌, ◌≢◌, ℕ, ◌<◌, ◌++◌, List, [], ◌∷◌, length, get_or, refl, arith, suc, map, Bor, append_assoc, ◌≤◌, take}
+use Rattle.std.proofs.lemmas.List.{map-append, length-take-le, length-map, length-append}
+use Rattle.std.proofs.Math.Seq.{take-length}
 use Rattle.std.proofs.lemmas.Bool.{ne_eqb, cases_Bool, eqb-true}
 use Rattle.abt_text.specs.Words.{spaced, words_of, with_octet}
 
@@ -22,6 +23,16 @@ first_word (c ∷ cs) more free = rw (ne_eqb c 32 (free 0 (omega arith)), first_
 pub word_found : (found new : List (Bor (List ℕ))) (word : Bor (List ℕ)) (left all : List (List ℕ)) → new ≡ found ++ word ∷ []
     → map (λ w. w.now) found ++ (word.now ∷ left) ≡ all → map (λ w. w.now) new ++ left ≡ all
 word_found found new word left all e h = rw (e, map-append, append_assoc) h
+
+-- where every place has a word and a word is left, there are more words than places
+pub words_beyond : (room : List (Bor (List ℕ))) (count : ℕ) (word : List ℕ) (left all : List (List ℕ)) → count ≡ length room
+    → map (λ w. w.now) (take count room) ++ (word ∷ left) ≡ all → length room < length all
+words_beyond room count word left all full h = rw (← h, full, take-length, length-append, length-map) (omega arith)
+
+-- the words in so many places are at most as many as there are places
+pub words_within : (room : List (Bor (List ℕ))) (count : ℕ) (all : List (List ℕ)) → count ≤ length room
+    → map (λ w. w.now) (take count room) ≡ all → length all ≤ length room
+words_within room count all within h = rw (← h, length-map, length-take-le count room within) within
 
 pub record HasWord (words : List (List ℕ)) : Type 0 where
   first : List ℕ

@@ -15,22 +15,29 @@ impl fmt::Display for HexCode {
 
     fn fmt<W: fmt::Write>(&self, f: &mut fmt::Formatter<W>) -> fmt::Result {
         let code = self.0;
-        let first = glyph(code >> 12);
-        let second = glyph((code >> 8) % 16);
-        let third = glyph((code >> 4) % 16);
-        let fourth = glyph(code % 16);
-        write!(f, "{first}{second}{third}{fourth}")
+        let digits = [
+            digit_of(code >> 12),
+            digit_of((code >> 8) % 16),
+            digit_of((code >> 4) % 16),
+            digit_of(code % 16),
+        ];
+        match std::str::from_utf8(&digits) {
+            Ok(text) => f.write_str(text),
+            Err(_) => unreachable!(),
+        }
     }
 }
 
-// The digit of a number below 16.
-fn glyph(digit: u16) -> char
-    requires { digit < 16 }
-    ensures { result ≡ digit_glyph false digit }
+// The ASCII digit of a number below 16.
+fn digit_of(number: u16) -> u8
+    requires { number < 16 }
+    ensures value { result ≡ digit_glyph false number }
+    ensures ascii { result < 128 }
 {
-    if digit < 10 {
-        (b'0' + digit as u8) as char
+    let number = number as u8;
+    if number < 10 {
+        b'0' + number
     } else {
-        (b'a' + (digit as u8 - 10)) as char
+        b'a' + (number - 10)
     }
 }

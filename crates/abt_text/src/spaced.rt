@@ -1,21 +1,32 @@
 //! Words between single spaces.
-ghost use Rattle.std.specs.Prelude.{◌≡◌, IfOk, map};
+ghost use Rattle.std.specs.Prelude.{◌≡◌, ◌<◌, ◌≤◌, ◌↔◌, IsNone, IfSome, length, map, take};
 ghost use Rattle.abt_text.specs.Words.{spaced, words_of};
 
-use std::alloc::{AllocError, Global};
-
-/// The words of a text, which is cut at each space. So where two spaces meet, or one stands at an end, there is an empty
-/// word, and a text without spaces is one word.
-pub fn words_of<'a>(alloc: Global, text: &'a str) -> Result<Vec<&'a str>, AllocError>
-    ensures value { IfOk result (λ words. map (λ word. word.now) words.items ≡ words_of text.entry.now) }
-    ensures whole { IfOk result (λ words. spaced (map (λ word. word.now) words.items) ≡ text.entry.now) }
+/// Puts the words of a text into a room of the caller's, from its first place on, and says how many there are, or `None` where the
+/// room has fewer places; what the room then has isn't said.
+///
+/// The text is cut at each space. So where two spaces meet, or one stands at an end, there is an empty word, and a text without
+/// spaces is one word.
+pub fn words_of<'a>(text: &'a str, room: &mut [&'a str]) -> Option<usize>
+    ensures value { IfSome result (λ count. map (λ word. word.now) (take count room.new) ≡ words_of text.entry.now) }
+    ensures whole { IfSome result (λ count. spaced (map (λ word. word.now) (take count room.new)) ≡ text.entry.now) }
+    ensures within { IfSome result (λ count. count ≤ length room.new) }
+    ensures len { length room.new ≡ length room.old }
+    ensures none { IsNone result ↔ (length room.old < length (words_of text.entry.now)) }
 {
-    let mut words = Vec::new(alloc);
+    let mut count = 0;
     let mut rest = text;
     while let Some((word, more)) = rest.split_once(' ') {
-        words.push(word)?;
+        if count == room.len() {
+            return None;
+        }
+        room[count] = word;
+        count += 1;
         rest = more;
     }
-    words.push(rest)?;
-    Ok(words)
+    if count == room.len() {
+        return None;
+    }
+    room[count] = rest;
+    Some(count + 1)
 }

@@ -124,8 +124,7 @@ fn codes_have_four_digits_in_lower_case(rt: HostRuntime) -> Result<(), Fail> {
 }
 
 #[test]
-fn a_text_is_cut_at_each_space(rt: HostRuntime) -> Result<(), Fail> {
-    let alloc = rt.alloc();
+fn a_text_is_cut_at_each_space(rt: HostRuntime) {
     let rows: [(&str, &[&str]); 6] = [
         ("start 0 9", &["start", "0", "9"]),
         ("again", &["again"]),
@@ -135,13 +134,22 @@ fn a_text_is_cut_at_each_space(rt: HostRuntime) -> Result<(), Fail> {
         ("a\tb ", &["a\tb", ""]),
     ];
     for (text, words) in rows {
-        let cut = match words_of(alloc, text) {
-            Ok(cut) => cut,
-            Err(_) => words_of(alloc, text)?,
-        };
-        assert_eq!(rt; cut.as_slice(), words, "{text}");
+        let mut room = ["?"; 3];
+        assert_eq!(rt; words_of(text, &mut room), Some(words.len()), "{text}");
+        assert_eq!(rt; &room[..words.len()], words, "{text}");
     }
-    Ok(())
+}
+
+#[test]
+fn words_that_have_no_room_are_refused(rt: HostRuntime) {
+    for (text, count) in [("", 1), ("a", 1), ("a b", 2), ("a b c", 3), ("   ", 4)] {
+        for room in 0..6 {
+            let mut words = ["?"; 6];
+            let found = words_of(text, &mut words[..room]);
+            let wanted = if room < count { None } else { Some(count) };
+            assert_eq!(rt; found, wanted, "{text} in {room}");
+        }
+    }
 }
 
 #[test]

@@ -1,4 +1,4 @@
-use Rattle.std.proofs.Common.{◌≡◌, ℕ, List, rules, ◌++◌, ◌∷◌, [], ap, sym, ◌∙◌, true, arith, lit<, ◌<◌, ◌^◌, length, ◌≤◌}
+use Rattle.std.proofs.Common.{◌≡◌, ℕ, List, rules, sym, ◌∙◌, true, arith, ◌<◌, ◌^◌, length}
 use Rattle.std.proofs.lemmas.Str.Parse.{IsNumeralModel, numerals_by_value, parse_gives, digits_value_short}
 use Rattle.std.specs.Str.Parse.{digits_value, ParsesUnsigned}
 use Rattle.std.specs.Prelude.{Result}

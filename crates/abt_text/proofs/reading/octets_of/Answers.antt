@@ -1,9 +1,8 @@
 -- What was read and couldn't be kept was taken all the same.
-use Rattle.std.proofs.Common.{rules, ◌≡◌, ◌≤◌, ◌+◌, ◌-◌, length, vec_len, ◌++◌, take, arith, length-take}
+use Rattle.std.proofs.Common.{◌++◌, take, arith, length-take}
 use Rattle.std.proofs.Math.ListN.{length-append}
 use Rattle.std.proofs.lemmas.Grind.{common_steps}
 use Rattle.std.proofs.KnownBytes.{Consumes-trans}
-use Rattle.abt_text.specs.Streams.{ConsumesAtMost}
 use Rattle.abt_text.proofs.reading.octets_of.Goals as goal
 
 pub returns-then-is_err-clause-stops : goal.returns-then-is_err-clause-stops

@@ -1,5 +1,5 @@
 -- The text so far is what the reader gave, and each piece brings it nearer to the limit.
-use Rattle.std.proofs.Common.{◌≤◌, ◌+◌, ◌-◌, vec_len}
+use Rattle.std.proofs.Common.{◌≤◌, ◌-◌, vec_len}
 use Rattle.std.specs.Io.KnownBytes.{Consumes}
 use Rattle.abt_text.proofs.reading.octets_of.Given as goal
 
