@@ -1,5 +1,5 @@
 //! Counts of what isn't safe.
-ghost use Rattle.std.specs.Prelude.{◌≡◌, ◌+◌, ◌<◌, ◌≤◌, ◌==◌, ◌&&◌};
+ghost use Rattle.std.specs.Prelude.{◌≡◌, ◌+◌, ◌<◌, ◌≤◌, ◌==◌, ◌&&◌, false};
 ghost use Rattle.abt_safety.specs.Tallies.{one_if, IsRecounted};
 
 /// What isn't safe of one connection and of one port.
@@ -11,6 +11,21 @@ pub struct Marks {
     pub over: bool,
     /// A cell of the connection came that wasn't found conforming.
     pub broken: bool,
+}
+
+impl Marks {
+    /// Of a connection and a port of which nothing isn't safe.
+    pub fn none() -> Marks
+        ensures above { result.above ≡ false }
+        ensures over { result.over ≡ false }
+        ensures broken { result.broken ≡ false }
+    {
+        Marks {
+            above: false,
+            over: false,
+            broken: false,
+        }
+    }
 }
 
 /// How many there are in a net of what isn't safe.

@@ -100,11 +100,7 @@ fn a_count_follows_the_one_that_changed(rt: HostRuntime) -> Result<(), Fail> {
 fn each_count_keeps_a_net_from_being_safe(rt: HostRuntime) -> Result<(), Fail> {
     let none = Tally::none();
     assert!(rt; none.is_safe());
-    let marks = Marks {
-        above: false,
-        over: false,
-        broken: false,
-    };
+    let marks = Marks::none();
     for mark in [
         Marks {
             above: true,

@@ -201,3 +201,19 @@ none_broken (o ∷ courses) all =
     let first : one_if (is_broken (seen o)) ≡ 0 = ap (λ b. one_if (not b)) parts.0 in
     let rest = none_broken courses parts.1 in
     omega arith
+
+-- what isn't counted isn't so
+pub uncounted : (b : Bool) → one_if b ≤ 0 → false ≡ b
+uncounted true some = absurd (omega (some, arith))
+uncounted false some = refl
+
+-- a connection, and a port that an event comes to, are counted
+pub counted_before :
+    (net : Topology) (before after : List Table) (courses : List CourseView) (c : ℕ) (port : Option ℕ) (conn : Conn) (old : CourseView) (tally : Tally) →
+    IsTallied net before courses tally → OwnChannels net.conns →
+    slice_get net.conns c ≡ Some conn → slice_get courses c ≡ Some old → Touches port conn.vc before after →
+    (one_if (shapes_above before (conn, old)) ≤ tally.above) × (one_if (over_at port net.capacities before) ≤ tally.over) × (one_if (is_broken old) ≤ tally.broken)
+counted_before net before after courses c port conn old tally kept own known at touches =
+    let a = above_changed before after net.conns courses c conn old old touches.1 known at (channels_differ net.conns c conn own known) in
+    let o = over_rewritten port net.capacities before after touches.0 in
+    (omega (arith, kept.above, a.1), omega (arith, kept.over, o.1), omega (arith, kept.broken, counted_one is_broken courses c old at))

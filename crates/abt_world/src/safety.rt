@@ -1,6 +1,6 @@
 //! Whether what is reserved covers what is sent.
 ghost use Rattle.std.specs.Prelude.{◌≡◌, ◌+◌, ◌≤◌, length};
-ghost use Rattle.abt_safety.specs.Tallies.{over_at};
+ghost use Rattle.abt_safety.specs.Tallies.{one_if, over_at};
 ghost use Rattle.abt_world.specs.Seen.{seen};
 ghost use Rattle.abt_world.specs.Tallied.{shapes_above, is_broken};
 
@@ -8,7 +8,7 @@ use crate::course::Course;
 use abt_log::Looks;
 use abt_net::Conn;
 use abt_node::Port;
-use abt_safety::{Marks, is_held, is_over};
+use abt_safety::{Marks, Tally, is_held, is_over};
 
 // What isn't safe of a connection, and of the port that its event comes to.
 pub(crate) fn marks(
@@ -33,4 +33,27 @@ pub(crate) fn marks(
         over,
         broken,
     }
+}
+
+// The same of a connection and a port that a tally counts. Where it counts nothing, nothing is looked up.
+pub(crate) fn counted_marks(
+    tally: &Tally,
+    conn: &Conn,
+    course: &Course,
+    port: Option<u16>,
+    capacities: &[u64],
+    ports: &[Port],
+    looks: &mut Looks,
+) -> Marks
+    ensures above { one_if (shapes_above ports.now (conn.now, seen course.now)) ≤ tally.now.above →
+        result.above ≡ shapes_above ports.now (conn.now, seen course.now) }
+    ensures over { one_if (over_at port capacities.now ports.now) ≤ tally.now.over →
+        result.over ≡ over_at port capacities.now ports.now }
+    ensures broken { one_if (is_broken (seen course.now)) ≤ tally.now.broken → result.broken ≡ is_broken (seen course.now) }
+    ensures looks { looks.new ≤ looks.old + length conn.now.path + 1 }
+{
+    if tally.is_safe() {
+        return Marks::none();
+    }
+    marks(conn, course, port, capacities, ports, looks)
 }

@@ -15,7 +15,7 @@ use crate::ends::{held_of, rates_of, totals_of};
 use crate::fresh::{fresh_courses, opening_ports};
 use crate::happen::{asks_rate, conn_number, visited};
 use crate::hops::port_at;
-use crate::safety::marks;
+use crate::safety::{counted_marks, marks};
 use abt_list::Sequence;
 use abt_log::Looks;
 use abt_model::{Cause, Event, Outcome};
@@ -106,7 +106,8 @@ impl<'net> World<'net> {
         let conn = &net.conns()[place];
         let course = &mut self.courses[looks.counting(place)];
         let port = visited(conn, event);
-        let before = marks(
+        let before = counted_marks(
+            &self.tally,
             conn,
             course,
             port,

@@ -1,4 +1,4 @@
-use Rattle.std.proofs.Common.{◌≡◌, ◌<◌, ℕ, List, [], ◌∷◌, ◌++◌, map, sym, subst, ap, ◌∙◌, length, arith, ◌^◌}
+use Rattle.std.proofs.Common.{◌≡◌, ◌<◌, ◌≤◌, ℕ, List, [], ◌∷◌, ◌++◌, map, sym, subst, ap, ◌∙◌, length, arith, ◌^◌}
 use Rattle.std.specs.Prelude.{Option, Some, option_map, slice_get, slice_set}
 use Rattle.std.proofs.lemmas.Option.{slice_get-get_or, slice_get-map}
 use Rattle.std.proofs.lemmas.List.{length-map, length-set}
@@ -17,10 +17,10 @@ use Rattle.abt_world.specs.Standing.{WorldView, StandsFor}
 use Rattle.abt_world.specs.Steps.{ArePorts}
 use Rattle.abt_world.proofs.Standings.{step_unknown, step_taken, port_count, written_over, map_set, set_same, headline_after}
 use Rattle.abt_world.proofs.Stepping.{ready}
-use Rattle.abt_safety.specs.Tallies.{over_at}
+use Rattle.abt_safety.specs.Tallies.{one_if, over_at}
 use Rattle.abt_world.specs.Tallied.{shapes_above, IsTallied}
 use Rattle.abt_world.specs.Touches.{visited, Touches}
-use Rattle.abt_world.proofs.Tallying.{AreMarks, tallied_after}
+use Rattle.abt_world.proofs.Tallying.{AreMarks, counted_before, tallied_after}
 use Rattle.abt_world.proofs.Touching.{rewrites_length}
 use Rattle.abt_world.proofs.world.World.step.Goals as goal
 
@@ -152,11 +152,17 @@ invariant_of-self-in-Ok c =
     let was : slice_get (map seen courses) c.counting.result ≡ Some (seen old) = slice_get-map seen courses c.counting.result ∙ ap (option_map seen) there in
     let touches : Touches port conn.vc held ports = subst (λ (ps : List Table). Touches port conn.vc ps ports) c.deref_mut.ensures.value c.in-Ok.ensures.touches in
     let written = written_over c.self.inside.ports.len ports held c.self.inside.ports.ok.0 (rewrites_length port held ports touches.0) in
-    let before : AreMarks net held conn (seen old) port c.marks-before.result = record {
-      above = c.marks-before.ensures.above ∙ ap (λ (ps : List Table). shapes_above ps (conn, seen old)) c.deref.ensures.value;
-      over = c.marks-before.ensures.over ∙ ap (λ (o : Option ℕ). over_at o c.capacities.result.now c.deref.result.now) c.visited-port.ensures
-          ∙ ap (λ (us : List ℕ). over_at port us c.deref.result.now) c.capacities.ensures.value ∙ ap (over_at port net.capacities) c.deref.ensures.value;
-      broken = c.marks-before.ensures.broken;
+    let some = counted_before net held ports (map seen courses) c.counting.result port conn (seen old) c.self.inside.tally
+    c.self.invariant.2 rules.own_channels known was touches in
+    let over_is : over_at c.visited-port.result c.capacities.result.now c.deref.result.now ≡ over_at port net.capacities held =
+    ap (λ (o : Option ℕ). over_at o c.capacities.result.now c.deref.result.now) c.visited-port.ensures
+    ∙ ap (λ (us : List ℕ). over_at port us c.deref.result.now) c.capacities.ensures.value ∙ ap (over_at port net.capacities) c.deref.ensures.value in
+    let above_is : shapes_above c.deref.result.now (conn, seen old) ≡ shapes_above held (conn, seen old) =
+    ap (λ (ps : List Table). shapes_above ps (conn, seen old)) c.deref.ensures.value in
+    let before : AreMarks net held conn (seen old) port c.counted_marks-before.result = record {
+      above = c.counted_marks-before.ensures.above (subst (λ b. one_if b ≤ c.self.inside.tally.above) (sym above_is) some.0) ∙ above_is;
+      over = c.counted_marks-before.ensures.over (subst (λ b. one_if b ≤ c.self.inside.tally.over) (sym over_is) some.1) ∙ over_is;
+      broken = c.counted_marks-before.ensures.broken some.2;
     } in
     let after : AreMarks net ports conn (seen new) port c.marks-after.result = record {
       above = c.marks-after.ensures.above ∙ ap (λ (ps : List Table). shapes_above ps (conn, seen new)) (c.deref-in-Ok.ensures.value ∙ written);
@@ -166,7 +172,7 @@ invariant_of-self-in-Ok c =
     } in
     let few : length net.conns < 2 ^ 63 = omega (arith, rules.connections) in
     let few_ports : length net.capacities < 2 ^ 63 = omega (arith, rules.ports) in
-    let told = tallied_after net held ports (map seen courses) c.counting.result port conn (seen old) (seen new) c.self.inside.tally c.after-self-inside.result c.marks-before.result c.marks-after.result
+    let told = tallied_after net held ports (map seen courses) c.counting.result port conn (seen old) (seen new) c.self.inside.tally c.after-self-inside.result c.counted_marks-before.result c.marks-after.result
     c.self.invariant.2 rules.own_channels (length-map courses seen ∙ many) few few_ports known was touches before after
     c.after-self-inside.ensures.above c.after-self-inside.ensures.over c.after-self-inside.ensures.broken in (
       length-set courses c.counting.result new ∙ many,
