@@ -1,6 +1,6 @@
 -- A text says one thing.
 use Rattle.std.proofs.Common.{◌≡◌, ◌↔◌, ℕ, Bool, true, false, List, Ok, Err, refl, sym, ◌∙◌, ap, subst, inl, inr}
-use Rattle.std.specs.Prelude.{Some, MatchResult}
+use Rattle.std.specs.Prelude.{MatchResult}
 use Rattle.abt_net.specs.Topology.{Topology}
 use Rattle.abt_net.proofs.FaultLemmas.{one_first}
 use Rattle.abt_net.proofs.RuleLemmas.{no_fault}
@@ -14,7 +14,7 @@ use Rattle.abt_scenario.specs.declared.scenario.Scenario.{Scenario}
 use Rattle.abt_scenario.specs.Engine.{IsReportText}
 use Rattle.abt_scenario.specs.OneAnswer.{HasOneReading, HasOneReport}
 use Rattle.abt_scenario.specs.Reading.{Read}
-use Rattle.abt_scenario.specs.Scenarios.{Reads, ReadsDraft, net_in}
+use Rattle.abt_scenario.specs.Scenarios.{ReadsDraft, net_in}
 use Rattle.abt_scenario.specs.Walk.{DraftRead, draft_of}
 
 of_draft : (draft : DraftRead) (one other : Read Scenario) → ReadsDraft draft one → ReadsDraft draft other → one ≡ other

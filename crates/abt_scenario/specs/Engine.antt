@@ -9,8 +9,15 @@ use Rattle.abt_trace.specs.Traces.{IsTrace}
 use Rattle.abt_trace.specs.declared.trace.Trace.{Trace}
 use Rattle.abt_scenario.specs.declared.engine.EngineFault.{EngineFault}
 use Rattle.abt_scenario.specs.declared.engine.EngineFault.TheVariants.{Read, TooLong, NotUtf8, Scenario, Write, Memory}
+use Rattle.abt_scenario.specs.declared.fault.ScenarioFault.{ScenarioFault}
+use Rattle.abt_scenario.specs.declared.fault.ScenarioFault.TheVariants as scenario_fault
 use Rattle.abt_scenario.specs.declared.scenario.Scenario as declared
 use Rattle.abt_scenario.specs.Scenarios.{Reads}
+
+-- how a fault of a scenario's text is told of a reader's
+abbrev pub told : ScenarioFault → EngineFault
+told scenario_fault.Memory = Memory
+told fault = Scenario fault
 
 -- The text has at most as many octets as a scenario's.
 abbrev pub IsOfLength : Text → Type 0

@@ -1,5 +1,6 @@
 -- The scenario that a text says, or its first fault (docs/FORMATS.md, "Scenario").
 use Rattle.std.specs.Prelude.{◌≡◌, ◌⊎◌, ℕ, ◌+◌, List, [], ◌∷◌, Option, Some, None, Ok, Err, MatchResult}
+use Rattle.toml.specs.Data.{Members}
 use Rattle.abt_net.specs.Faults.{IsFirstFault}
 use Rattle.abt_net.specs.Topology.{Topology, IsWithinRules}
 use Rattle.abt_net.specs.declared.fault.NetFault.{NetFault}
@@ -12,7 +13,7 @@ use Rattle.abt_scenario.specs.declared.fault.ScenarioFault.{ScenarioFault}
 use Rattle.abt_scenario.specs.declared.fault.ScenarioFault.TheVariants.{Net, EventText, ScriptText}
 use Rattle.abt_scenario.specs.declared.scenario.Scenario.{Scenario}
 use Rattle.abt_scenario.specs.Reading.{Read, ◌>>=◌}
-use Rattle.abt_scenario.specs.Walk.{DraftRead, draft_of}
+use Rattle.abt_scenario.specs.Walk.{DraftRead, draft_in, draft_of}
 
 abbrev pub event_or_fault : ℕ → Option Event → Read Event
 event_or_fault number (Some event) = Ok event
@@ -65,6 +66,10 @@ IsNetFault net fault = (net_fault : NetFault) × IsFirstFault net net_fault × (
 abbrev pub ReadsDraft : DraftRead → Read Scenario → Type 0
 ReadsDraft draft (Ok scenario) = IsWithinRules (net_in draft) × (scenario_over draft ≡ Ok scenario)
 ReadsDraft draft (Err fault) = IsNetFault (net_in draft) fault ⊎ (IsWithinRules (net_in draft) × (scenario_over draft ≡ Err fault))
+
+-- The table of a text is read so: as this scenario, or with this first fault.
+abbrev pub ReadsTable : Members → Read Scenario → Type 0
+ReadsTable members answer = MatchResult (draft_in members) (λ draft. ReadsDraft draft answer) (λ fault. answer ≡ Err fault)
 
 -- A text is read so: as this scenario, or with this first fault.
 abbrev pub Reads : Text → Read Scenario → Type 0

@@ -1,5 +1,5 @@
 -- What stands at the keys of a table (docs/FORMATS.md, "Scenario").
-use Rattle.std.specs.Prelude.{ℕ, nat_lt, if◌then◌else◌, List, [], ◌∷◌, pos, Option, Some, None, Ok, Err}
+use Rattle.std.specs.Prelude.{ℕ, Bool, true, false, nat_lt, if◌then◌else◌, List, [], ◌∷◌, pos, Option, Some, None, Ok, Err}
 use Rattle.toml.specs.Data.{Data, Items, Members, string, integer, array, no_items, item, get_member}
 use Rattle.abt_text.specs.Text.{Text}
 use Rattle.abt_scenario.specs.declared.key.Key.{Key}
@@ -42,6 +42,18 @@ texts_in key (item value values) = do
   text ← text_of key value
   texts ← texts_in key values
   Ok (text ∷ texts)
+
+-- whether all of some values are texts
+abbrev pub are_texts : Items → Bool
+are_texts no_items = true
+are_texts (item (string text) values) = are_texts values
+are_texts (item _ values) = false
+
+-- the texts among some values
+abbrev pub texts_among : Items → List Text
+texts_among no_items = []
+texts_among (item (string text) values) = text ∷ texts_among values
+texts_among (item _ values) = texts_among values
 
 -- an array of texts, which may be missing
 abbrev pub texts_of : Key → Option Data → Read (List Text)

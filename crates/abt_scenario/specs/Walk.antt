@@ -4,7 +4,7 @@ use Rattle.std.specs.Borrow.{Bor}
 use Rattle.std.specs.BTreeMap.{BTreeMap}
 use Rattle.std.specs.declared.alloc.Global.{Global}
 use Rattle.toml.specs.Data.{Data, Items, Members, array, table, no_items, item, get_member}
-use Rattle.toml.specs.View.{table_view}
+use Rattle.toml.specs.View.{table_view, items_view}
 use Rattle.toml.specs.declared.value.Value.{Value}
 use Rattle.toml.specs.Parse.{parse_document}
 use Rattle.abt_net.specs.declared.conn.Conn.{Conn}
@@ -15,7 +15,7 @@ use Rattle.abt_scenario.specs.declared.draft.Draft.{Draft}
 use Rattle.abt_scenario.specs.declared.draft.Connections.{Connections}
 use Rattle.abt_scenario.specs.Keys.{key_name}
 use Rattle.abt_scenario.specs.Reading.{Read, ◌>>=◌, texts_seen}
-use Rattle.abt_scenario.specs.Values.{member_at, whole_of, numbers_of, texts_at}
+use Rattle.abt_scenario.specs.Values.{member_at, whole_of, numbers_of, texts_at, texts_among}
 
 -- The connections, and beside each the texts of its script.
 pub record ConnectionsRead : Type 0 where
@@ -86,13 +86,16 @@ draft_in members = do
   events ← texts_at Events members
   Ok (record { capacities = capacities; connections = connections; events = events })
 
-abbrev pub draft_from : Option Members → Read DraftRead
-draft_from (Some members) = draft_in members
-draft_from None = Err Toml
+-- the table of a text that is TOML
+abbrev pub read_document : Option Members → Read Members
+read_document (Some members) = Ok members
+read_document None = Err Toml
 
 -- what stands at the keys of a text, or the first fault
 abbrev pub draft_of : Text → Read DraftRead
-draft_of text = draft_from (parse_document text)
+draft_of text = do
+  members ← read_document (parse_document text)
+  draft_in members
 
 -- ---- the same without where it lies in memory
 
@@ -109,5 +112,5 @@ abbrev pub draft_seen : Draft → DraftRead
 draft_seen draft = record {
   capacities = draft.capacities.items;
   connections = connections_seen draft.connections;
-  events = texts_seen draft.events;
+  events = texts_among (items_view draft.events.now);
 }

@@ -7,19 +7,21 @@ ghost use Rattle.abt_scenario.specs.Walk.{draft_in, tables_at, tables_in, connec
 use crate::fault::ScenarioFault;
 use crate::key::Key;
 use crate::value::{
-    WHOLE_LIMIT, member_at, numbers_of, short_of, shorts_of, texts_at, value_at, whole_of,
+    WHOLE_LIMIT, member_at, numbers_of, short_of, shorts_of, text_values_at, texts_at, value_at,
+    whole_of,
 };
 use abt_cell::Vc;
 use abt_net::{Conn, Path};
 use std::alloc::Global;
 use toml::{Table, Value};
 
-/// What stands at the keys of a scenario, before anybody asks whether it is a net, and what its texts say.
+/// What stands at the keys of a scenario, before anybody asks whether it is a net, and what its texts say. All values of its events are
+/// texts; there may be very many, so they are read where they lie.
 #[derive(Drop)]
 pub struct Draft<'a> {
     pub capacities: Vec<u64>,
     pub connections: Connections<'a>,
-    pub events: Vec<&'a str>,
+    pub events: &'a [Value],
 }
 
 /// The connections of a draft, and beside each the texts of its script.
@@ -36,7 +38,7 @@ pub(crate) fn draft_in<'a>(alloc: Global, table: &'a Table) -> Result<Draft<'a>,
     let capacities = numbers_of(alloc, member_at(table, Key::Ports)?, Key::Ports)?;
     let tables = tables_at(alloc, table)?;
     let connections = connections_in(alloc, tables.as_slice())?;
-    let events = texts_at(alloc, table, Key::Events)?;
+    let events = text_values_at(table, Key::Events)?;
     Ok(Draft {
         capacities,
         connections,

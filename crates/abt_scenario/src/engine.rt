@@ -1,13 +1,13 @@
 //! Scenarios from any reader, reports to any writer.
-ghost use Rattle.std.specs.Prelude.{◌≤◌, ◌≢◌, ◌+◌, Ok, IfOk, IfErr, IfSome, OnOk, length, string_bytes};
+ghost use Rattle.std.specs.Prelude.{◌≡◌, ◌≤◌, ◌≢◌, ◌+◌, Ok, IfOk, IfErr, IfSome, OnOk, length, string_bytes};
 ghost use Rattle.abt_text.specs.Streams.{ConsumesAtMost};
 ghost use Rattle.abt_scenario.specs.Scenarios.{Reads};
-ghost use Rattle.abt_scenario.specs.Engine.{Explains, IsReportText, Reports, Leaves};
+ghost use Rattle.abt_scenario.specs.Engine.{Explains, IsReportText, Reports, Leaves, told};
 
 use crate::fault::ScenarioFault;
 use crate::reports::report;
 use crate::scenario::Scenario;
-use crate::text::read;
+use crate::text::{scenario_in, table_of};
 use abt_text::{TEXT_MAX, TextFault, octets_of, put};
 use abt_world::run;
 use std::alloc::{AllocError, Global};
@@ -55,10 +55,25 @@ pub fn read_from<R: Read>(alloc: Global, reader: &mut R) -> Result<Scenario, Eng
     let Ok(text) = std::str::from_utf8(octets.as_slice()) else {
         return Err(EngineFault::NotUtf8);
     };
-    match read(alloc, text) {
+    let table = match table_of(alloc, text) {
+        Ok(table) => table,
+        Err(fault) => return Err(told(fault)),
+    };
+    // The table has its own copies of the texts: a long text isn't kept beside them while the events are read.
+    drop(octets);
+    match scenario_in(alloc, &table) {
         Ok(scenario) => Ok(scenario),
-        Err(ScenarioFault::Memory) => Err(EngineFault::Memory),
-        Err(fault) => Err(EngineFault::Scenario(fault)),
+        Err(fault) => Err(told(fault)),
+    }
+}
+
+// How a scenario's fault is told of a reader's text.
+fn told(fault: ScenarioFault) -> EngineFault
+    ensures { result ≡ told fault }
+{
+    match fault {
+        ScenarioFault::Memory => EngineFault::Memory,
+        _ => EngineFault::Scenario(fault),
     }
 }
 

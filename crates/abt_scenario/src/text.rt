@@ -1,10 +1,12 @@
 //! Scenarios from text.
 ghost use Rattle.std.specs.Prelude.{◌≡◌, ◌⊎◌, ◌+◌, Ok, Err, map, IfOk, IfErr};
-ghost use Rattle.toml.specs.View.{table_view};
+ghost use Rattle.toml.specs.Parse.{parse_document};
+ghost use Rattle.toml.specs.View.{table_view, items_view};
+ghost use Rattle.abt_scenario.specs.Values.{texts_among};
 ghost use Rattle.abt_scenario.specs.Reading.{Gives};
-ghost use Rattle.abt_scenario.specs.Walk.{draft_seen, scripts_seen};
+ghost use Rattle.abt_scenario.specs.Walk.{draft_seen, scripts_seen, read_document};
 ghost use Rattle.abt_net.specs.Topology.{Topology, IsWithinRules};
-ghost use Rattle.abt_scenario.specs.Scenarios.{Reads, ReadsDraft, IsNetFault, events_from, scripts_from, commands_from};
+ghost use Rattle.abt_scenario.specs.Scenarios.{Reads, ReadsTable, ReadsDraft, IsNetFault, events_from, scripts_from, commands_from};
 
 use crate::draft::{Connections, Draft, draft_in};
 use crate::fault::ScenarioFault;
@@ -15,6 +17,7 @@ use abt_model::Event;
 use abt_net::{Conn, Net, NetFault};
 use abt_script::Script;
 use std::alloc::Global;
+use toml::{Table, Value};
 
 /// The scenario that a text says, or the first fault (docs/FORMATS.md, "Scenario").
 ///
@@ -23,14 +26,28 @@ pub fn read(alloc: Global, text: &str) -> Result<Scenario, ScenarioFault>
     ensures ok { IfOk result (λ scenario. Reads text.now (Ok scenario)) }
     ensures err { IfErr result (λ fault. (fault ≡ ScenarioFault.Memory) ⊎ Reads text.now (Err fault)) }
 {
+    let table = table_of(alloc, text)?;
+    scenario_in(alloc, &table)
+}
+
+// The table of a text.
+pub(crate) fn table_of(alloc: Global, text: &str) -> Result<Table, ScenarioFault>
+    ensures { Gives table_view (read_document (parse_document text.now)) result }
+{
     match toml::table_from_str(alloc, text) {
-        Ok(table) => {
-            let draft = draft_in(alloc, &table)?;
-            scenario_of(alloc, draft)
-        }
+        Ok(table) => Ok(table),
         Err(error) if error.is_memory() => Err(ScenarioFault::Memory),
         Err(_) => Err(ScenarioFault::Toml),
     }
+}
+
+// The scenario of a table, or its first fault.
+pub(crate) fn scenario_in(alloc: Global, table: &Table) -> Result<Scenario, ScenarioFault>
+    ensures ok { IfOk result (λ scenario. ReadsTable (table_view table.now) (Ok scenario)) }
+    ensures err { IfErr result (λ fault. (fault ≡ ScenarioFault.Memory) ⊎ ReadsTable (table_view table.now) (Err fault)) }
+{
+    let draft = draft_in(alloc, table)?;
+    scenario_of(alloc, draft)
 }
 
 // The scenario of a draft.
@@ -46,7 +63,7 @@ fn scenario_of(alloc: Global, draft: Draft<'_>) -> Result<Scenario, ScenarioFaul
     } = draft;
     let Connections { conns, scripts } = connections;
     let net = net_of(alloc, capacities, conns)?;
-    let events = events_in(alloc, events.as_slice())?;
+    let events = events_in(alloc, events)?;
     let scripts = scripts_in(alloc, scripts.as_slice())?;
     Ok(Scenario {
         net,
@@ -71,20 +88,21 @@ fn net_of(alloc: Global, capacities: Vec<u64>, conns: Vec<Conn>) -> Result<Net, 
     }
 }
 
-// The events of some texts, or the first text that says none.
-fn events_in(alloc: Global, texts: &[&str]) -> Result<Sequence<Event>, ScenarioFault>
-    ensures { Gives (λ events. events) (events_from 1 (map (λ text. text.now) texts.now)) result }
+// The events of the texts among some values, or the first text that says none.
+fn events_in(alloc: Global, values: &[Value]) -> Result<Sequence<Event>, ScenarioFault>
+    ensures { Gives (λ events. events) (events_from 1 (texts_among (items_view values.now))) result }
 {
     let mut events = Sequence::new(alloc);
-    for (index, text) in texts.iter().enumerate() {
+    let mut number = 1;
+    for value in values {
+        let Some(text) = value.as_str() else {
+            continue;
+        };
         match event_of(text) {
             Some(event) => events.push(event)?,
-            None => {
-                return Err(ScenarioFault::EventText {
-                    number: index as u64 + 1,
-                });
-            }
+            None => return Err(ScenarioFault::EventText { number }),
         }
+        number += 1;
     }
     Ok(events)
 }

@@ -4,7 +4,7 @@ ghost use Rattle.toml.specs.Data.{get_member};
 ghost use Rattle.toml.specs.View.{view, table_view, items_view};
 ghost use Rattle.abt_scenario.specs.Keys.{key_name};
 ghost use Rattle.abt_scenario.specs.Reading.{Gives, listed, texts_seen};
-ghost use Rattle.abt_scenario.specs.Values.{member_at, whole_of, numbers_of, numbers_in, texts_at, texts_in};
+ghost use Rattle.abt_scenario.specs.Values.{member_at, whole_of, numbers_of, numbers_in, are_texts, texts_among, texts_at, texts_in};
 
 use crate::fault::ScenarioFault;
 use crate::key::Key;
@@ -125,4 +125,40 @@ fn texts_in<'a>(alloc: Global, values: &'a [Value], key: Key) -> Result<Vec<&'a 
         }
     }
     Ok(texts)
+}
+
+// The values at a key, all of which are texts, none where it is missing.
+pub(crate) fn text_values_at<'a>(table: &'a Table, key: Key) -> Result<&'a [Value], ScenarioFault>
+    ensures { Gives (λ values. texts_among (items_view values.now)) (texts_at key (table_view table.entry.now)) result }
+{
+    match value_at(table, key) {
+        Some(value) => match value.as_array() {
+            Some(values) => text_values(values.as_slice(), key),
+            None => Err(ScenarioFault::WrongType(key)),
+        },
+        None => Ok(&[]),
+    }
+}
+
+// The same values, if all are texts.
+#[tactic(auto, using(crate::proofs::TextValues::texts_are))]
+fn text_values<'a>(values: &'a [Value], key: Key) -> Result<&'a [Value], ScenarioFault>
+    ensures { Gives (λ values. texts_among (items_view values.now)) (texts_in key (items_view values.entry.now)) result }
+{
+    if are_texts(values) {
+        Ok(values)
+    } else {
+        Err(ScenarioFault::WrongType(key))
+    }
+}
+
+fn are_texts(values: &[Value]) -> bool
+    ensures { result ≡ are_texts (items_view values.now) }
+{
+    for value in values {
+        if value.as_str().is_none() {
+            return false;
+        }
+    }
+    true
 }

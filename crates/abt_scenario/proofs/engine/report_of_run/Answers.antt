@@ -1,5 +1,5 @@
 -- The headline makes the trace safe.
-use Rattle.std.proofs.Common.{◌≡◌, List, [], ◌++◌, Result, Ok, Err, IfOk, subst, append-nil}
+use Rattle.std.proofs.Common.{List, [], Result, Ok, Err, IfOk, subst, append-nil}
 use Rattle.abt_model.specs.declared.event.Event.{Event}
 use Rattle.abt_trace.specs.Traces.{IsTrace}
 use Rattle.abt_scenario.proofs.engine.report_of_run.Goals as goal
