@@ -1,5 +1,7 @@
 //! The ports of a net before a run, each under its lock.
-ghost use Rattle.std.specs.Prelude.{◌≡◌, ◌<◌, ◌≤◌, ◌^◌, [], All, IfOk, OnOk, length, slice_index};
+ghost use Rattle.std.specs.Prelude.{◌≡◌, ◌≢◌, ◌<◌, ◌≤◌, ◌^◌, [], All, AllPairs, IfOk, OnOk, None, length, slice_index};
+ghost use Rattle.std.specs.FinMap as map;
+ghost use Rattle.abt_node.specs.Table.{connection_at};
 ghost use Rattle.abt_model.specs.PortTable.{port_table};
 ghost use Rattle.abt_model.specs.Reserved as reserved;
 ghost use Rattle.abt_world.specs.Opening.{joined, opening_table};
@@ -8,7 +10,7 @@ ghost use Rattle.abt_relay.specs.Cells.{AreCellsOf};
 
 use abt_journal::PortState;
 use abt_net::{Conn, Net};
-use abt_node::Port;
+use abt_node::{AddFault, Port};
 use abt_ports::PortCell;
 use std::alloc::{AllocError, Global};
 
@@ -48,6 +50,8 @@ fn capacity_of(net: &Net, id: u16) -> u64
 fn port_with(alloc: Global, id: u16, capacity: u64, conns: &[Conn]) -> Result<Port, AllocError>
     requires capacity { capacity ≤ 2 ^ 60 }
     requires taus { All (λ conn. conn.tau ≤ 10 ^ 12) conns.now }
+    requires channels { AllPairs (λ b c. b.vc ≢ c.vc) conns.now }
+    requires count { length conns.now ≤ 1024 }
     ensures { IfOk result (λ port. port ≡ opening_table id capacity conns.now) }
 {
     let Some((first, others)) = conns.split_first() else {
@@ -58,10 +62,12 @@ fn port_with(alloc: Global, id: u16, capacity: u64, conns: &[Conn]) -> Result<Po
     Ok(port)
 }
 
-// Adds a connection to a port that its path goes through. Channels of a net differ, and there are 1,024 at most, so a port
-// refuses none of them but for memory.
+// Adds a connection to a port that its path goes through. The port doesn't know it and has room for it, so that it is
+// refused for want of memory alone.
 fn join(port: &mut Port, conn: &Conn) -> Result<(), AllocError>
-    requires { conn.now.tau ≤ 10 ^ 12 }
+    requires tau { conn.now.tau ≤ 10 ^ 12 }
+    requires unknown { connection_at port.old conn.now.vc ≡ None }
+    requires room { map.len port.old.connections < 1024 }
     ensures { OnOk result (port.new ≡ joined port.old conn.now) }
 {
     let hop = hop_of(conn.path.as_slice(), port.id());
@@ -71,7 +77,8 @@ fn join(port: &mut Port, conn: &Conn) -> Result<(), AllocError>
     let tau = if hop == 1 { Some(conn.tau) } else { None };
     match port.add(conn.vc, tau) {
         Ok(()) => Ok(()),
-        Err(_) => Err(AllocError),
+        Err(AddFault::Memory) => Err(AllocError),
+        Err(AddFault::Known | AddFault::Full) => unreachable!(),
     }
 }
 

@@ -11,3 +11,4 @@ mod Tallying
 mod Beginning
 mod Noting
 mod Stepping
+pub mod Admitting

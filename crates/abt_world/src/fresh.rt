@@ -1,5 +1,5 @@
 //! A world before the first event.
-ghost use Rattle.std.specs.Prelude.{◌≡◌, ◌≤◌, ◌^◌, ℕ, [], All, IfOk, length, map, slice_get, option_map};
+ghost use Rattle.std.specs.Prelude.{◌≡◌, ◌≢◌, ◌≤◌, ◌^◌, ℕ, [], All, AllPairs, IfOk, length, map, slice_get, option_map};
 ghost use Rattle.abt_net.specs.declared.conn.Conn.{Conn};
 ghost use Rattle.abt_world.specs.Courses.{course_of};
 ghost use Rattle.abt_world.specs.Seen.{seen};
@@ -36,6 +36,8 @@ pub(crate) fn opening_ports(
     requires ports { length capacities.now ≤ 256 }
     requires capacities { All (λ u. u ≤ 2 ^ 60) capacities.now }
     requires taus { All (λ conn. conn.tau ≤ 10 ^ 12) conns.now }
+    requires channels { AllPairs (λ b c. b.vc ≢ c.vc) conns.now }
+    requires count { length conns.now ≤ 1024 }
     ensures { IfOk result (λ ports. (p : ℕ) → slice_get ports.items p
         ≡ option_map (λ (u : ℕ). opening_table p u conns.now) (slice_get capacities.now p)) }
 {

@@ -1,10 +1,12 @@
 //! Ports before the first event.
-ghost use Rattle.std.specs.Prelude.{◌≡◌, ◌≤◌, ◌^◌, All, IfOk, OnOk, length};
+ghost use Rattle.std.specs.Prelude.{◌≡◌, ◌≢◌, ◌<◌, ◌≤◌, ◌^◌, All, AllPairs, IfOk, OnOk, None, length};
+ghost use Rattle.std.specs.FinMap as map;
+ghost use Rattle.abt_node.specs.Table.{connection_at};
 ghost use Rattle.abt_model.specs.Reserved as reserved;
 ghost use Rattle.abt_world.specs.Opening as opening;
 
 use abt_net::Conn;
-use abt_node::Port;
+use abt_node::{AddFault, Port};
 use std::alloc::{AllocError, Global};
 
 // The hop of a path, from 1, at which a port lies, and 0 where it lies at none.
@@ -24,10 +26,12 @@ fn hop_of(path: &[u16], port: u16) -> usize
     }
 }
 
-// Adds a connection to a port that its path goes through. Channels of a net differ, and there are 1,024 at most, so a
-// port refuses none of them but for memory.
+// Adds a connection to a port that its path goes through. The port doesn't know it and has room for it, so that it is
+// refused for want of memory alone.
 fn join(port: &mut Port, conn: &Conn) -> Result<(), AllocError>
-    requires { conn.now.tau ≤ 10 ^ 12 }
+    requires tau { conn.now.tau ≤ 10 ^ 12 }
+    requires unknown { connection_at port.old conn.now.vc ≡ None }
+    requires room { map.len port.old.connections < 1024 }
     ensures { OnOk result (port.new ≡ opening.joined port.old conn.now) }
 {
     let hop = hop_of(conn.path.as_slice(), port.id());
@@ -37,7 +41,8 @@ fn join(port: &mut Port, conn: &Conn) -> Result<(), AllocError>
     let tau = if hop == 1 { Some(conn.tau) } else { None };
     match port.add(conn.vc, tau) {
         Ok(()) => Ok(()),
-        Err(_) => Err(AllocError),
+        Err(AddFault::Memory) => Err(AllocError),
+        Err(AddFault::Known | AddFault::Full) => unreachable!(),
     }
 }
 
@@ -50,6 +55,8 @@ pub(crate) fn opening_port(
 ) -> Result<Port, AllocError>
     requires capacity { capacity ≤ 2 ^ 60 }
     requires taus { All (λ conn. conn.tau ≤ 10 ^ 12) conns.now }
+    requires channels { AllPairs (λ b c. b.vc ≢ c.vc) conns.now }
+    requires count { length conns.now ≤ 1024 }
     ensures { IfOk result (λ port. port ≡ opening.opening_table id capacity conns.now) }
 {
     let Some((first, others)) = conns.split_first() else {

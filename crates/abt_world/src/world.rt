@@ -1,5 +1,5 @@
 //! Worlds.
-ghost use Rattle.std.specs.Prelude.{◌≡◌, ◌≤◌, ◌↔◌, ◌++◌, true, [], ◌∷◌, List, IfOk, OnOk, MatchResult};
+ghost use Rattle.std.specs.Prelude.{◌≡◌, ◌≤◌, ◌↔◌, ◌++◌, true, [], ◌∷◌, List, IfOk, OnOk, OnErr, MatchResult};
 ghost use Rattle.abt_net.specs.Topology.{Topology};
 ghost use Rattle.abt_model.specs.Outcomes.{outcome_of};
 ghost use Rattle.abt_model.specs.Run.{facts_after, outcomes_of};
@@ -94,6 +94,7 @@ impl<'net> World<'net> {
         ensures headline { (net : Topology) (events : List Event) → StandsFor net events self.old →
             OnOk result (HeadlineHolds net (facts_after net (events ++ event.now ∷ []))) }
         ensures looks { OnOk result (self.new.looks ≤ 128) }
+        ensures same { OnErr result (self.new ≡ self.old) }
     {
         asks_rate(event);
         let place = usize::from(conn_number(event));

@@ -33,45 +33,30 @@ returns-then-place-conns-clause-outcome c net events stands =
     let count = ap length conns ∙ ap (λ (n : Topology). length n.conns) before.stands.net_is in
     step_unknown net events (record { net = c.self.inside.net.now; ports = c.self.inside.ports.items; courses = map seen c.self.inside.courses.items; looks = c.self.inside.looks }) c.args.event.now 0 before c.asks_rate.ensures (omega arith)
 
-pub returns-in-Err-clause-outcome : goal.returns-in-Err-clause-outcome
-returns-in-Err-clause-outcome c net events stands =
-    let e = c.args.event.now in
-    let past = facts_after net events in
-    let conn = c.index-conns-place.result in
+pub returns-in-Err-clause-same : goal.returns-in-Err-clause-same
+returns-in-Err-clause-same c =
     let courses = c.self.inside.courses.items in
     let held = c.self.inside.ports.items in
     let old = c.index_mut-course.result.now in
     let new = c.take.new.self in
     let low = c.if-place-conns.false in
-    let before : StandsFor net events (record { net = c.self.inside.net.now; ports = held; courses = map seen courses; looks = c.self.inside.looks }) = subst (StandsFor net events) (sym c.self.view_is) stands in
-    let net_is : c.self.inside.net.now ≡ net = before.stands.net_is in
-    let here : StandsFor net events (record { net = net; ports = held; courses = map seen courses; looks = c.self.inside.looks }) =
-    subst (λ (n : Topology). StandsFor net events (record { net = n; ports = held; courses = map seen courses; looks = c.self.inside.looks })) net_is before in
-    let rules : IsWithinRules net = subst IsWithinRules net_is c.conns.ensures.rules in
-    let from : c.from-place.result ≡ conn_of e = c.from-place.ensures ∙ c.conn_number.ensures in
-    let place : c.counting.result ≡ conn_of e = c.counting.ensures.value ∙ from in
-    let conns : c.conns.result.now ≡ net.conns = c.conns.ensures.value ∙ ap (λ (n : Topology). n.conns) net_is in
-    let conns2 : c.conns-2.result.now ≡ net.conns = c.conns-2.ensures.value ∙ ap (λ (n : Topology). n.conns) net_is in
-    let count = ap length conns in
-    let count2 = ap length conns2 in
-    let low2 : c.from-place.result < length c.conns-2.result.now = omega arith in
-    let known : conn_at net (conn_of e) ≡ Some conn =
-    sym (ap (λ (l : List Conn). slice_get l (conn_of e)) conns2) ∙ sym (ap (slice_get c.conns-2.result.now) from)
-    ∙ slice_get-get_or c.conns-2.result.now c.from-place.result conn low2 ∙ ap Some (sym c.index-conns-place.is) in
-    let many : length courses ≡ length net.conns = c.self.invariant.0 ∙ ap (λ (n : Topology). length n.conns) net_is in
-    let low3 : c.counting.result < length courses = omega arith in
-    let there : slice_get courses c.counting.result ≡ Some old = slice_get-get_or courses c.counting.result old low3 ∙ ap Some (sym c.index_mut-course.ensures.value) in
-    let r = ready net events e held courses c.self.inside.looks conn old rules here known (sym (ap (slice_get courses) place) ∙ there) in
-    let are : ArePorts net past c.deref_mut.result.now = subst (ArePorts net past) (sym c.deref_mut.ensures.value) here.stands.ports in
-    let same = c.in-Err.ensures.outcome net past (facts_of (conn_of e) past) r.log c.asks_rate.ensures r.at are r.actor in
+    let count = ap length c.conns.ensures.value in
+    let same_place = c.counting.ensures.value in
+    let many = c.self.invariant.0 in
+    let low2 : c.counting.result < length courses = omega arith in
+    let there : slice_get courses c.counting.result ≡ Some old = slice_get-get_or courses c.counting.result old low2 ∙ ap Some (sym c.index_mut-course.ensures.value) in
+    let was : slice_get (map seen courses) c.counting.result ≡ Some (seen old) = slice_get-map seen courses c.counting.result ∙ ap (option_map seen) there in
+    let same = c.in-Err.ensures.memory in
     let kept : c.take.new.ports ≡ held = same.2 ∙ c.deref_mut.ensures.value in
     let written = written_over c.self.inside.ports.len c.take.new.ports held c.self.inside.ports.ok.0 (ap length kept) ∙ kept in
     let seen_same : seen new ≡ seen old = ap (λ (a : ActorView). record { actor = a; index = new.log.index }) same.0 ∙ ap (λ (i : Index). record { actor = old.actor; index = i }) same.1 in
-    let was : slice_get (map seen courses) c.counting.result ≡ Some (seen old) = slice_get-map seen courses c.counting.result ∙ ap (option_map seen) there in
     let left : map seen (slice_set courses c.counting.result new) ≡ map seen courses =
     map_set seen courses c.counting.result new ∙ ap (slice_set (map seen courses) c.counting.result) seen_same ∙ set_same (map seen courses) c.counting.result (seen old) was in
-    subst (λ (ps : List Table). StandsFor net events (record { net = c.self.inside.net.now; ports = ps; courses = map seen (slice_set courses c.counting.result new); looks = c.self.inside.looks })) (sym written)
-    (subst (λ (cs : List CourseView). StandsFor net events (record { net = c.self.inside.net.now; ports = held; courses = cs; looks = c.self.inside.looks })) (sym left) before)
+    let view : List Table → List CourseView → WorldView = λ ps cs. record { net = c.self.inside.net.now; ports = ps; courses = cs; looks = c.self.inside.looks } in
+    ap (λ (ps : List Table). view ps (map seen (slice_set courses c.counting.result new))) written ∙ ap (view held) left ∙ c.self.view_is
+
+pub returns-in-Err-clause-outcome : goal.returns-in-Err-clause-outcome
+returns-in-Err-clause-outcome c net events stands = subst (StandsFor net events) (sym (returns-in-Err-clause-same c)) stands
 
 pub returns-in-Ok-clause-outcome : goal.returns-in-Ok-clause-outcome
 returns-in-Ok-clause-outcome c net events stands =

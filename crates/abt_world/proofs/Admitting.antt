@@ -1,0 +1,69 @@
+-- A port that is given the connections of a net one by one knows none of them before, and has room for each.
+use Rattle.std.proofs.Common.{◌≡◌, ◌≢◌, ℕ, suc, ◌<◌, ◌≤◌, List, [], ◌∷◌, length, inl, inr, sym, ap, subst, ◌∙◌, arith}
+use Rattle.std.specs.Prelude.{◌==◌, Some, None, slice_index_or, if◌then◌else◌, AllPairs}
+use Rattle.std.specs.FinMap as map
+use Rattle.std.proofs.lemmas.Bool.{cases_Bool, cond-true, cond-false}
+use Rattle.abt_cell.specs.Channel.{Channel, channel_cmp, same_channel}
+use Rattle.abt_cell.proofs.ChannelLemmas.{channel_cmp_total, same_channel_tied, same_channel-is}
+use Rattle.abt_net.specs.declared.conn.Conn.{Conn}
+use Rattle.abt_node.specs.Table.{Table, Connection, connection_at, with_connection, opening}
+use Rattle.abt_model.specs.Reserved.{hop_of}
+use Rattle.abt_world.specs.Opening.{joined, opening_table}
+
+-- another connection stays unknown
+inserted_other : (table : Table) (vc other : Channel) (kept : Connection) → vc ≢ other → connection_at table other ≡ None →
+    connection_at (with_connection table vc kept) other ≡ None
+inserted_other table vc other kept differ none =
+    map.get-insert channel_cmp_total table.connections vc kept other
+    ∙ elim (cases_Bool (same_channel other vc)) [
+      | inl same ↦ absurd (differ (sym (same_channel-is other vc same)))
+      | inr away ↦ cond-false _ _ _ (sym (same_channel_tied other vc) ∙ away) ∙ none
+    ]
+
+joined_other : (table : Table) (conn : Conn) (other : Channel) → conn.vc ≢ other → connection_at table other ≡ None →
+    connection_at (joined table conn) other ≡ None
+joined_other table conn other differ none = elim (cases_Bool (hop_of conn.path table.id == 0)) [
+  | inl away ↦ ap (λ (t : Table). connection_at t other) (cond-true _ _ _ away) ∙ none
+  | inr through ↦ ap (λ (t : Table). connection_at t other) (cond-false _ _ _ through)
+      ∙ inserted_other table conn.vc other (opening (if hop_of conn.path table.id == 1 then Some conn.tau else None)) differ none
+]
+
+-- a connection that is none of these isn't known
+pub opening_unknown : (id capacity : ℕ) (conns : List Conn) (other : Channel) →
+    ((k : ℕ) (d : Conn) → k < length conns → (slice_index_or conns k d).vc ≢ other) →
+    connection_at (opening_table id capacity conns) other ≡ None
+opening_unknown id capacity [] other differ = map.get-empty channel_cmp other
+opening_unknown id capacity (conn ∷ conns) other differ =
+    joined_other (opening_table id capacity conns) conn other (differ 0 conn (omega arith))
+    (opening_unknown id capacity conns other (λ k d within. differ (suc k) d (omega arith)))
+
+inserted_len : (table : Table) (vc : Channel) (kept : Connection) (n : ℕ) → map.len table.connections ≤ n →
+    map.len (with_connection table vc kept).connections ≤ suc n
+inserted_len table vc kept n few = elim (cases_Bool (map.contains_key table.connections vc)) [
+  | inl known ↦ let e = map.len-insert channel_cmp_total table.connections vc kept ∙ cond-true _ _ _ known in omega arith
+  | inr new ↦ let e = map.len-insert channel_cmp_total table.connections vc kept ∙ cond-false _ _ _ new in omega arith
+]
+
+-- there are no more than were given
+pub opening_few : (id capacity : ℕ) (conns : List Conn) → map.len (opening_table id capacity conns).connections ≤ length conns
+opening_few id capacity [] = omega (arith, map.len-empty channel_cmp Connection)
+opening_few id capacity (conn ∷ conns) =
+    let table = opening_table id capacity conns in
+    let few = opening_few id capacity conns in
+    elim (cases_Bool (hop_of conn.path table.id == 0)) [
+      | inl away ↦ subst (λ (t : Table). map.len t.connections ≤ length (conn ∷ conns)) (sym (cond-true _ _ _ away)) (omega arith)
+      | inr through ↦ subst (λ (t : Table). map.len t.connections ≤ length (conn ∷ conns)) (sym (cond-false _ _ _ through))
+          (inserted_len table conn.vc (opening (if hop_of conn.path table.id == 1 then Some conn.tau else None)) (length conns) few)
+    ]
+
+-- the first of a net's connections isn't among the others, and the others' channels differ too
+abbrev pub OwnChannels : List Conn → Type 0
+OwnChannels conns = AllPairs (λ (a b : Conn). a.vc ≢ b.vc) conns
+
+pub first_unknown : (id capacity : ℕ) (conn : Conn) (conns : List Conn) → OwnChannels (conn ∷ conns) →
+    connection_at (opening_table id capacity conns) conn.vc ≡ None
+first_unknown id capacity conn conns own =
+    opening_unknown id capacity conns conn.vc (λ k d within same. own 0 (suc k) d (omega arith) (omega arith) (sym same))
+
+pub others_own : (conn : Conn) (conns : List Conn) → OwnChannels (conn ∷ conns) → OwnChannels conns
+others_own conn conns own = λ i j d later within. own (suc i) (suc j) d (omega arith) (omega arith)
