@@ -94,7 +94,7 @@ pub struct AccessLine {
     pub tau: u64,
 }
 
-pub fn arrive(line: AccessLine, facts: &[Fact], cell: u64, at: u64) -> Step {
+pub(crate) fn arrive(line: AccessLine, facts: &[Fact], cell: u64, at: u64) -> Step {
     let Some(emission) = emission(facts, cell) else {
         return not_enabled(Cause::NotSent);
     };

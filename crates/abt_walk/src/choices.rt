@@ -16,7 +16,7 @@ pub struct Sight<'facts> {
     pub facts: &'facts [Fact],
 }
 
-pub fn start(draws: &mut Draws, sight: Sight<'_>) -> Event {
+pub(crate) fn start(draws: &mut Draws, sight: Sight<'_>) -> Event {
     let clock = words::clock(sight.facts);
     let now = match draws.below(16) {
         0 => clock.saturating_sub(1),
@@ -28,7 +28,7 @@ pub fn start(draws: &mut Draws, sight: Sight<'_>) -> Event {
     Event::Start { conn, now }
 }
 
-pub fn ask(draws: &mut Draws, sight: Sight<'_>) -> Event {
+pub(crate) fn ask(draws: &mut Draws, sight: Sight<'_>) -> Event {
     let code = match draws.below(16) {
         0 | 1 => 0,
         2 => 0x4000,
@@ -50,7 +50,7 @@ pub fn ask(draws: &mut Draws, sight: Sight<'_>) -> Event {
     }
 }
 
-pub fn emit(draws: &mut Draws, sight: Sight<'_>) -> Event {
+pub(crate) fn emit(draws: &mut Draws, sight: Sight<'_>) -> Event {
     let clock = words::clock(sight.facts);
     let next = words::next(sight.facts).max(clock);
     let now = match draws.below(20) {
@@ -65,7 +65,7 @@ pub fn emit(draws: &mut Draws, sight: Sight<'_>) -> Event {
     Event::Emit { conn, now }
 }
 
-pub fn arrive(draws: &mut Draws, sight: Sight<'_>) -> Event {
+pub(crate) fn arrive(draws: &mut Draws, sight: Sight<'_>) -> Event {
     let emitted = words::emitted(sight.facts);
     let fence = cells::fence(sight.facts);
     let cell = match draws.below(12) {

@@ -6,6 +6,7 @@ pub struct Draws {
 }
 
 impl Draws {
+    /// Draws that begin with a seed: the same seed, the same draws.
     pub fn new(seed: u64) -> Draws {
         Draws { state: seed }
     }
@@ -19,6 +20,7 @@ impl Draws {
         (self.state >> 20).checked_rem(limit).unwrap_or(0)
     }
 
+    /// True once in so many draws.
     pub fn one_in(&mut self, many: u64) -> bool {
         self.below(many) == 0
     }

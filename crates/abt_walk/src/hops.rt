@@ -75,7 +75,7 @@ fn decide(facts: &[Fact], link: Link, hop: u16, request: &Request) -> Onward {
     }
 }
 
-pub fn request(vc: Vc, facts: &[Fact], link: Link, hop: u16, seq: u32) -> Step {
+pub(crate) fn request(vc: Vc, facts: &[Fact], link: Link, hop: u16, seq: u32) -> Step {
     let terms = words::asked(facts, seq);
     let Some(request) = terms.and_then(|terms| request_of(vc, seq, terms)) else {
         return not_enabled(Cause::NotSent);
@@ -100,7 +100,7 @@ pub fn request(vc: Vc, facts: &[Fact], link: Link, hop: u16, seq: u32) -> Step {
     }
 }
 
-pub fn turn(facts: &[Fact], hops: u16, seq: u32) -> Step {
+pub(crate) fn turn(facts: &[Fact], hops: u16, seq: u32) -> Step {
     if facts.contains(&Fact::Passed { seq, hop: hops }) {
         adds(Outcome::Turned, Fact::Turned { seq })
     } else {
@@ -120,7 +120,7 @@ pub fn is_answer_at(facts: &[Fact], hops: u16, hop: u16, seq: u32, granted: bool
     }
 }
 
-pub fn answer(facts: &[Fact], hops: u16, hop: u16, seq: u32, granted: bool) -> Step {
+pub(crate) fn answer(facts: &[Fact], hops: u16, hop: u16, seq: u32, granted: bool) -> Step {
     if !is_answer_at(facts, hops, hop, seq, granted) {
         return not_enabled(Cause::NotSent);
     }

@@ -16,7 +16,7 @@ const START_MAX: u64 = 2_305_842_009_213_693_952;
 /// The greatest moment of an emission.
 const EMIT_MAX: u64 = 2_305_843_009_213_693_952;
 
-pub fn start(facts: &[Fact], now: u64) -> Step {
+pub(crate) fn start(facts: &[Fact], now: u64) -> Step {
     if words::state_after(facts) != State::Down {
         return not_enabled(Cause::Running);
     }
@@ -30,7 +30,7 @@ pub fn start(facts: &[Fact], now: u64) -> Step {
     adds(Outcome::Started, Fact::Started { now, number })
 }
 
-pub fn ask(vc: Vc, facts: &[Fact], ask: Rate, plan: StorePlan) -> Step {
+pub(crate) fn ask(vc: Vc, facts: &[Fact], ask: Rate, plan: StorePlan) -> Step {
     if words::state_after(facts) == State::Down {
         return not_enabled(Cause::Down);
     }
@@ -65,7 +65,7 @@ fn asks(vc: Vc, facts: &[Fact], seq: u32, ask: Rate) -> Step {
     }
 }
 
-pub fn again(vc: Vc, facts: &[Fact]) -> Step {
+pub(crate) fn again(vc: Vc, facts: &[Fact]) -> Step {
     match words::state_after(facts) {
         State::Down => not_enabled(Cause::Down),
         State::Idle => not_enabled(Cause::NotAsking),
@@ -79,14 +79,14 @@ pub fn again(vc: Vc, facts: &[Fact]) -> Step {
     }
 }
 
-pub fn crash(facts: &[Fact]) -> Step {
+pub(crate) fn crash(facts: &[Fact]) -> Step {
     match words::state_after(facts) {
         State::Down => not_enabled(Cause::Down),
         _ => adds(Outcome::Crashed, Fact::Crashed),
     }
 }
 
-pub fn emit(facts: &[Fact], now: u64) -> Step {
+pub(crate) fn emit(facts: &[Fact], now: u64) -> Step {
     if words::state_after(facts) == State::Down {
         return not_enabled(Cause::Down);
     }
@@ -113,7 +113,7 @@ pub fn emit(facts: &[Fact], now: u64) -> Step {
     )
 }
 
-pub fn told(facts: &[Fact], hops: u16, seq: u32, granted: bool) -> Step {
+pub(crate) fn told(facts: &[Fact], hops: u16, seq: u32, granted: bool) -> Step {
     if !is_answer_at(facts, hops, 0, seq, granted) {
         return not_enabled(Cause::NotSent);
     }

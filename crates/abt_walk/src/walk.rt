@@ -31,6 +31,7 @@ pub fn number(place: usize) -> u16 {
     u16::try_from(place).unwrap_or(u16::MAX)
 }
 
+/// The connection that an event names.
 pub fn conn_of(event: &Event) -> u16 {
     match *event {
         Event::Start { conn, .. }
@@ -98,6 +99,7 @@ impl<'net> Walk<'net> {
         }
     }
 
+    /// The net of the walk.
     pub fn net(&self) -> &'net Net {
         self.net
     }
