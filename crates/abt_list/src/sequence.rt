@@ -1,5 +1,5 @@
 //! Lists.
-ghost use Rattle.std.specs.Prelude.{◌≡◌, ◌==◌, [], ◌∷◌, ◌++◌, length, OnOk, OnErr};
+ghost use Rattle.std.specs.Prelude.{◌≡◌, ◌==◌, [], ◌∷◌, ◌++◌, length, IfOk, OnOk, OnErr};
 
 use std::alloc::{AllocError, Global};
 use std::marker::Model;
@@ -34,6 +34,15 @@ impl<T> Sequence<T> {
         Sequence {
             items: Vec::new(alloc),
         }
+    }
+
+    /// A list without items, which has room for so many before it takes more memory.
+    pub fn with_room(alloc: Global, room: usize) -> Result<Sequence<T>, AllocError>
+        ensures { IfOk result (λ sequence. sequence ≡ []) }
+    {
+        Ok(Sequence {
+            items: Vec::with_capacity(alloc, room)?,
+        })
     }
 
     /// The items, the first first.

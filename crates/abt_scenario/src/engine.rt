@@ -5,9 +5,9 @@ ghost use Rattle.abt_scenario.specs.Scenarios.{Reads};
 ghost use Rattle.abt_scenario.specs.Engine.{Explains, IsReportText, Reports, Leaves, told};
 
 use crate::fault::ScenarioFault;
-use crate::reports::report;
 use crate::scenario::Scenario;
 use crate::text::{scenario_in, table_of};
+use abt_report::report_text;
 use abt_text::{TEXT_MAX, TextFault, octets_of, put};
 use abt_world::run;
 use std::alloc::{AllocError, Global};
@@ -91,7 +91,7 @@ pub fn run_text<R: Read, W: Write>(
     ensures stops { ConsumesAtMost (R.remaining reader.old) (R.remaining reader.new) (TEXT_MAX + 1) }
 {
     let scenario = read_from(alloc, reader)?;
-    let Ok(text) = report_of_run(alloc, &scenario) else {
+    let Ok(text) = report_of_run(alloc, scenario) else {
         return Err(EngineFault::Memory);
     };
     match put(writer, text.as_bytes()) {
@@ -101,9 +101,16 @@ pub fn run_text<R: Read, W: Write>(
 }
 
 // The report of a scenario's run.
-fn report_of_run(alloc: Global, scenario: &Scenario) -> Result<String, AllocError>
-    ensures { IfOk result (λ text. IsReportText scenario.now (string_bytes text)) }
+fn report_of_run(alloc: Global, scenario: Scenario) -> Result<String, AllocError>
+    ensures { IfOk result (λ text. IsReportText scenario (string_bytes text)) }
 {
-    let trace = run(alloc, &scenario.net, scenario.events.as_slice())?;
-    report(alloc, scenario, &trace)
+    let Scenario {
+        net,
+        events,
+        scripts: _,
+    } = scenario;
+    let trace = run(alloc, &net, events.as_slice())?;
+    // The trace says it all: a long list of events isn't kept beside the report.
+    drop(events);
+    report_text(alloc, &net, &trace)
 }

@@ -92,7 +92,7 @@ fn net_of(alloc: Global, capacities: Vec<u64>, conns: Vec<Conn>) -> Result<Net, 
 fn events_in(alloc: Global, values: &[Value]) -> Result<Sequence<Event>, ScenarioFault>
     ensures { Gives (λ events. events) (events_from 1 (texts_among (items_view values.now))) result }
 {
-    let mut events = Sequence::new(alloc);
+    let mut events = Sequence::with_room(alloc, values.len())?;
     let mut number = 1;
     for value in values {
         let Some(text) = value.as_str() else {

@@ -25,7 +25,7 @@ pub fn run(alloc: Global, net: &Net, events: &[Event]) -> Result<Trace, AllocErr
     // Names a type within an outcome, without which the checker can't follow one round the loop.
     let _ = Onward::Pass;
     let mut world = World::new(alloc, net)?;
-    let mut outcomes = Sequence::new(alloc);
+    let mut outcomes = Sequence::with_room(alloc, events.len())?;
     for event in events {
         outcomes.push(world.step(event)?)?;
     }

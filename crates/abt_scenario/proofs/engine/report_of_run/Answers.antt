@@ -10,10 +10,10 @@ if_ok-map (Err e) P Q f p = p
 
 pub returns : goal.returns
 returns c =
-    let net = c.args.scenario.now.net in
+    let net = c.args.scenario.net in
     let trace = c.in_ok-trace.trace in
     let Traced : List Event → Type 0 = λ events. IsTrace net events trace in
     let traced = c.in_ok-trace.ensures.trace in
     let safe = c.in_ok-trace.ensures.headline c.as_slice.result.now [] (append-nil c.as_slice.result.now) in
     let is_trace = subst Traced c.as_slice.ensures traced in
-    if_ok-map c.report.result _ _ (λ text is. record { trace = trace; is_trace = is_trace; is_safe = traced.safe.1 safe.safe; is_report = is }) c.report.ensures
+    if_ok-map c.report_text.result _ _ (λ text is. record { trace = trace; is_trace = is_trace; is_safe = traced.safe.1 safe.safe; is_report = is }) c.report_text.ensures
