@@ -76,3 +76,13 @@ HasFewHops fact = Unit {0}
 abbrev pub CanFollow : Index → Fact → Type 0
 CanFollow index (Emitted cell at rate) = cell ≡ length index.emissions
 CanFollow index fact = HasFewHops fact
+
+-- whether a fact is one of a message, to note which the message is looked up twice: what is known of it, and where that stands
+abbrev pub is_of_message : Fact → Bool
+is_of_message (Asked seq floor ask mark) = true
+is_of_message (Delivered seq) = true
+is_of_message (Passed seq hop) = true
+is_of_message (Shut seq hop) = true
+is_of_message (Turned seq) = true
+is_of_message (Back seq hop) = true
+is_of_message fact = false

@@ -1,5 +1,5 @@
 //! When the cells of a connection were emitted.
-ghost use Rattle.std.specs.Prelude.{◌≡◌, ◌+◌, ◌≤◌, [], ◌∷◌, OnOk, length};
+ghost use Rattle.std.specs.Prelude.{◌≡◌, ◌+◌, ◌≤◌, [], ◌∷◌, OnOk, length, min};
 ghost use Rattle.abt_log.specs.Index.{moment_in};
 
 use crate::looks::Looks;
@@ -58,6 +58,7 @@ impl Emissions {
     pub(crate) fn of(&self, cell: u64, looks: &mut Looks) -> u64
         ensures value { result ≡ moment_in self.now.moments cell }
         ensures looks { looks.new ≤ looks.old + 1 }
+        ensures counted { looks.new ≡ min (looks.old + 1) u64.MAX }
     {
         match usize::try_from(looks.counting(cell)) {
             Ok(place) if place < self.moments.len() => self.moments[place],

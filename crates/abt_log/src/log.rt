@@ -1,7 +1,7 @@
 //! Logs.
-ghost use Rattle.std.specs.Prelude.{◌≡◌, ◌+◌, ◌≤◌, List, nat_lt, OnOk};
+ghost use Rattle.std.specs.Prelude.{◌≡◌, ◌+◌, ◌≤◌, List, if◌then◌else◌, min, nat_lt, OnOk};
 ghost use Rattle.std.specs.List.{list_all};
-ghost use Rattle.abt_log.specs.Index.{empty, noted, CanFollow};
+ghost use Rattle.abt_log.specs.Index.{empty, noted, is_of_message, CanFollow};
 ghost use Rattle.abt_log.specs.Kept.{asked_in, conforms_if_arrived};
 ghost use Rattle.abt_log.specs.Log.{IsLogOf};
 ghost use Rattle.abt_facts.specs.declared.fact.Fact.{Fact as FactSpec};
@@ -88,6 +88,7 @@ impl Log {
         ensures index { CanFollow self.old.index fact → self.new.index ≡ noted fact self.old.index }
         ensures room { self.old.room ≤ self.new.room + 1 }
         ensures looks { looks.new ≤ looks.old + 2 }
+        ensures counted { looks.new ≡ (if is_of_message fact then min (looks.old + 2) u64.MAX else looks.old) }
     {
         match fact {
             Fact::Asked { seq, .. }
@@ -119,6 +120,7 @@ impl Log {
     pub fn asked(&self, seq: u32, looks: &mut Looks) -> Option<(Rate, Rate)>
         ensures value { (facts : List FactSpec) → IsLogOf facts self.now → result ≡ asked_in facts seq }
         ensures looks { looks.new ≤ looks.old + 1 }
+        ensures counted { looks.new ≡ min (looks.old + 1) u64.MAX }
     {
         let message = self.messages.of(seq, looks);
         if message.asked {
@@ -132,6 +134,7 @@ impl Log {
     pub fn was_passed(&self, seq: u32, hop: u16, looks: &mut Looks) -> bool
         ensures value { (facts : List FactSpec) → IsLogOf facts self.now → result ≡ sent.was_passed facts seq hop }
         ensures looks { looks.new ≤ looks.old + 1 }
+        ensures counted { looks.new ≡ min (looks.old + 1) u64.MAX }
     {
         self.messages.of(seq, looks).passed.has(hop)
     }
@@ -140,6 +143,7 @@ impl Log {
     pub fn was_shut(&self, seq: u32, hop: u16, looks: &mut Looks) -> bool
         ensures value { (facts : List FactSpec) → IsLogOf facts self.now → result ≡ sent.was_shut facts seq hop }
         ensures looks { looks.new ≤ looks.old + 1 }
+        ensures counted { looks.new ≡ min (looks.old + 1) u64.MAX }
     {
         self.messages.of(seq, looks).shut.has(hop)
     }
@@ -148,6 +152,7 @@ impl Log {
     pub fn was_turned(&self, seq: u32, looks: &mut Looks) -> bool
         ensures value { (facts : List FactSpec) → IsLogOf facts self.now → result ≡ sent.was_turned facts seq }
         ensures looks { looks.new ≤ looks.old + 1 }
+        ensures counted { looks.new ≡ min (looks.old + 1) u64.MAX }
     {
         self.messages.of(seq, looks).turned
     }
@@ -156,6 +161,7 @@ impl Log {
     pub fn was_back(&self, seq: u32, hop: u16, looks: &mut Looks) -> bool
         ensures value { (facts : List FactSpec) → IsLogOf facts self.now → result ≡ sent.was_back facts seq hop }
         ensures looks { looks.new ≤ looks.old + 1 }
+        ensures counted { looks.new ≡ min (looks.old + 1) u64.MAX }
     {
         self.messages.of(seq, looks).back.has(hop)
     }
@@ -165,6 +171,7 @@ impl Log {
     pub fn emission(&self, cell: u64, looks: &mut Looks) -> u64
         ensures value { (facts : List FactSpec) → IsLogOf facts self.now → result ≡ moment_of facts cell }
         ensures looks { looks.new ≤ looks.old + 1 }
+        ensures counted { looks.new ≡ min (looks.old + 1) u64.MAX }
     {
         self.emissions.of(cell, looks)
     }

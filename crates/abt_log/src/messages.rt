@@ -1,5 +1,5 @@
 //! What is known of each request of a connection, by its number.
-ghost use Rattle.std.specs.Prelude.{◌≡◌, ◌+◌, ◌≤◌, [], OnOk};
+ghost use Rattle.std.specs.Prelude.{◌≡◌, ◌+◌, ◌≤◌, [], OnOk, min};
 ghost use Rattle.abt_log.specs.Index.{message_in, changed, with_change, HasFewHops};
 
 use crate::looks::Looks;
@@ -47,6 +47,7 @@ impl Messages {
     pub(crate) fn of(&self, seq: u32, looks: &mut Looks) -> Message
         ensures value { result ≡ message_in self.now.entries seq }
         ensures looks { looks.new ≤ looks.old + 1 }
+        ensures counted { looks.new ≡ min (looks.old + 1) u64.MAX }
     {
         match self.entries.get(&looks.counting(seq)) {
             Some(message) => *message,
@@ -61,6 +62,7 @@ impl Messages {
         ensures entries { HasFewHops fact.now → self.new.entries ≡ with_change (changed fact.now) seq self.old.entries }
         ensures room { self.old.room ≤ self.new.room + 1 }
         ensures looks { looks.new ≤ looks.old + 2 }
+        ensures counted { looks.new ≡ min (looks.old + 2) u64.MAX }
     {
         let message = self.of(seq, looks);
         let after = message.after(fact);

@@ -24,6 +24,17 @@ use std::io::Write;
 use std::sync::Wait;
 use std::thread::Threads;
 
+// The plan of so many workers, of which none loses or repeats anything.
+fn faithful(workers: u16) -> ThreadPlan
+    ensures { result ≡ record { workers = workers; drop_every = 0; repeat_every = 0 } }
+{
+    ThreadPlan {
+        workers,
+        drop_every: 0,
+        repeat_every: 0,
+    }
+}
+
 // Runs a scenario's scripts in threads, where no worker loses or repeats anything.
 pub(crate) fn run_scripts<T: Threads + Wait + Sync>(
     rt: &T,
@@ -35,11 +46,7 @@ pub(crate) fn run_scripts<T: Threads + Wait + Sync>(
     ensures ok { IfOk result (IsRun scenario.now.net scenario.now.scripts workers) }
     ensures err { IfErr result (EndsRunBy scenario.now) }
 {
-    let plan = ThreadPlan {
-        workers,
-        drop_every: 0,
-        repeat_every: 0,
-    };
+    let plan = faithful(workers);
     let scripts = scenario.scripts.as_slice();
     match run_threads(rt, alloc, &scenario.net, scripts, plan, &OpenGate) {
         Ok(left) => Ok(left),

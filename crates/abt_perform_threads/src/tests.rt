@@ -3,6 +3,7 @@
 mod faults;
 mod lines;
 mod memory;
+mod parcels;
 mod streams;
 
 ghost use Rattle.std.specs.Prelude.{◌≤◌};

@@ -1,6 +1,6 @@
 //! What ports hold for a channel.
 ghost use Rattle.std.specs.Prelude.{◌≡◌, ◌+◌, ◌≤◌, IfOk, length, map};
-ghost use Rattle.abt_safety.specs.Holding.{held_by_port, is_held_along};
+ghost use Rattle.abt_safety.specs.Holding.{held_by_port, is_held_along, looked_at};
 
 use abt_cell::Vc;
 use abt_list::Sequence;
@@ -40,6 +40,8 @@ pub fn held_along(
 pub fn is_held(rate: Rate, vc: Vc, path: &[u16], ports: &[Port], looks: &mut Looks) -> bool
     ensures value { result ≡ is_held_along rate vc ports.now path.now }
     ensures looks { looks.new ≤ looks.old + length path.now }
+    ensures counted { let looked = looked_at rate vc ports.now path.now in
+        looks.old + looked ≤ u64.MAX → looks.new ≡ looks.old + looked }
 {
     let Some((first, rest)) = path.split_first() else {
         return true;

@@ -1,5 +1,5 @@
 //! What ports hold in all.
-ghost use Rattle.std.specs.Prelude.{◌≡◌, ◌+◌, ◌≤◌, nat_le};
+ghost use Rattle.std.specs.Prelude.{◌≡◌, ◌+◌, ◌≤◌, if◌then◌else◌, is_some, min, nat_le};
 ghost use Rattle.abt_safety.specs.Tallies.{over_at};
 
 use abt_log::Looks;
@@ -16,6 +16,7 @@ pub fn fits(total: u64, capacity: u64) -> bool
 pub fn is_over(port: Option<u16>, capacities: &[u64], ports: &[Port], looks: &mut Looks) -> bool
     ensures value { result ≡ over_at port capacities.now ports.now }
     ensures looks { looks.new ≤ looks.old + 1 }
+    ensures counted { looks.new ≡ (if is_some port then min (looks.old + 1) u64.MAX else looks.old) }
 {
     let Some(port) = port else {
         return false;

@@ -1,6 +1,7 @@
 -- Promises that are added one by one, and what they come to when they are kept.
-use Rattle.std.proofs.Common.{◌≡◌, ℕ, ◌+◌, ◌<◌, List, [], ◌∷◌, ◌++◌, length, map, Option, Some, slice_get, Err, IsErrOf, refl, sym, ap, subst, ◌∙◌, arith}
+use Rattle.std.proofs.Common.{◌≡◌, ℕ, ◌+◌, List, [], ◌∷◌, ◌++◌, length, map, Option, Some, slice_get, Result, Ok, Err, IfOk, Vec, refl, sym, ap, subst, ◌∙◌, arith}
 use Rattle.std.specs.Option.{ForSome}
+use Rattle.std.specs.declared.alloc.Global.{Global}
 use Rattle.std.proofs.lemmas.List.{map-append, length-map}
 use Rattle.abt_net.specs.Topology.{Topology}
 use Rattle.abt_journal.specs.Receipts.{Seated}
@@ -8,8 +9,8 @@ use Rattle.abt_journal.specs.declared.fault.ServeFault.{ServeFault}
 use Rattle.abt_journal.specs.declared.fault.ServeFault.TheVariants.{Wound}
 use Rattle.abt_script.specs.declared.command.Command.{Command}
 use Rattle.abt_source_journal.specs.declared.journal.SourceJournal.{SourceJournal}
-use Rattle.abt_threads.specs.Faults.{IsRight}
-use Rattle.abt_threads.specs.Promises.{IsAccess, AreLinksFrom, AreAccessesFrom, KeepLinks, KeepAccesses, AreSourcesFrom, AreLinkSeatsFrom, WoundsRight}
+use Rattle.abt_threads.specs.Faults.{IsRight, worked_of}
+use Rattle.abt_threads.specs.Promises.{IsAccess, AreLinksFrom, AreAccessesFrom, KeepLinks, KeepAccesses, AreSourcesFrom, AreLinkSeatsFrom, AreWorked, WoundsRight}
 use Rattle.abt_threads.specs.declared.promises.AccessOf.{AccessOf}
 use Rattle.abt_threads.specs.declared.promises.LinkOf.{LinkOf}
 
@@ -69,3 +70,16 @@ pub wound_right : {A : Type 0} (fault : Option ServeFault) (x : ServeFault) → 
 wound_right {A} fault x is right seen found err =
     let same : x ≡ Wound seen found = cc in
     let P : ServeFault → Type 0 = IsRight in subst P same (right x is)
+
+-- what all workers gave back, who kept their promises
+pub worked_is : (net : Topology) (scripts : List (List Command)) (workers : ℕ) (ps : List AccessOf) (qs : List LinkOf)
+    (sources : Result (Vec Seated Global × Vec SourceJournal Global) ServeFault) (links : Result (Vec Seated Global) ServeFault)
+    → AreAccessesFrom net 0 scripts ps → length ps ≡ length scripts → AreLinksFrom (length net.conns) qs → length qs ≡ workers
+    → IfOk sources (λ r. KeepAccesses ps r.0.items r.1.items) → IfOk links (λ v. KeepLinks qs v.items)
+    → IfOk (worked_of sources links) (AreWorked net scripts workers)
+worked_is net scripts workers ps qs (Ok done) (Ok links) a l b m kept linked =
+    let h = links_kept (length net.conns) qs links.items b linked in
+    record { sources = sources_kept net 0 scripts ps done.0.items done.1.items a l kept; links = h.0; count = h.1 ∙ m }
+worked_is net scripts workers ps qs (Ok done) (Err fault) a l b m kept linked = tt
+worked_is net scripts workers ps qs (Err fault) (Ok links) a l b m kept linked = tt
+worked_is net scripts workers ps qs (Err fault) (Err other) a l b m kept linked = tt

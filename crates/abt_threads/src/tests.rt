@@ -3,5 +3,6 @@ mod answers;
 mod crowds;
 mod fixture;
 mod gates;
+mod links;
 mod relays;
 mod rows;

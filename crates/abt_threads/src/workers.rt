@@ -2,13 +2,14 @@
 ghost use Rattle.std.specs.Prelude.{◌≡◌, ◌≤◌, ◌+◌, ◌<◌, ℕ, IfOk, IsErrOf, length, vec_len};
 ghost use Rattle.abt_relay.specs.Cells.{AreCellsOf};
 ghost use Rattle.abt_threads.specs.declared.fault.RunFault.{RunFault};
+ghost use Rattle.abt_threads.specs.Faults as faults;
 ghost use Rattle.abt_threads.specs.Runs.{ScriptsFit};
 ghost use Rattle.abt_threads.specs.Promises.{AreWorked, IsOwnFault};
 
 use crate::fault::RunFault;
 use crate::join::{graver, join_links, join_sources};
 use crate::start::{Bench, start_links, start_sources};
-use abt_journal::Seat;
+use abt_journal::{Seat, ServeFault};
 use abt_net::Net;
 use abt_ports::{Gate, PortCell};
 use abt_relay::{AnswerBox, Parcel, ThreadPlan};
@@ -116,6 +117,16 @@ fn run_in<'run, E, R: Threads + Wait + Sync, G: Gate + Sync>(
     if !all_links || !all_sources {
         return Err(RunFault::Thread);
     }
+    worked_of(sources, links)
+}
+
+// What all workers gave back, or the fault of theirs that the run tells.
+fn worked_of(
+    sources: Result<(Vec<Seat>, Vec<SourceJournal>), ServeFault>,
+    links: Result<Vec<Seat>, ServeFault>,
+) -> Result<Worked, RunFault>
+    ensures { result ≡ faults.worked_of sources links }
+{
     match (sources, links) {
         (Ok((accesses, sources)), Ok(links)) => Ok(Worked {
             accesses,

@@ -68,17 +68,21 @@ fn event(place: u64) -> Event {
     }
 }
 
-// How many requests were enabled, each of which looked up some entries, but few.
+// How many requests were enabled. Each event looks up its connection, and its one hop after the event; a request looks up itself
+// besides; and few entries more.
 fn requests(rt: &impl Abort, world: &mut World<'_>) -> Result<u64, Fail> {
     let mut requests: u64 = 0;
     for place in 0..EVENTS {
         match world.step(&event(place)) {
             Ok(Outcome::Requested(_)) => {
-                assert!(rt; world.looks() >= 1);
+                assert!(rt; world.looks() >= 3);
                 assert!(rt; world.looks() <= 128);
                 requests = requests.saturating_add(1);
             }
-            Ok(_) => assert!(rt; world.looks() <= 128),
+            Ok(_) => {
+                assert!(rt; world.looks() >= 2);
+                assert!(rt; world.looks() <= 128);
+            }
             Err(refused) => return Err(refused.into()),
         }
     }
