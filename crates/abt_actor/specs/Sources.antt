@@ -8,6 +8,7 @@ use Rattle.abt_source.specs.SourceView.{SourceView}
 use Rattle.abt_source.specs.Calls.{asking_source, next_request}
 use Rattle.abt_source.specs.declared.fault.AskFault.{AskFault}
 use Rattle.abt_source.specs.declared.fault.AskFault.TheVariants.{SeqExhausted, Keep}
+use Rattle.abt_actor.specs.Actor.{ActorView}
 use Rattle.abt_actor.specs.declared.running.Running.{Running}
 use Rattle.abt_actor.specs.declared.running.Running.TheVariants.{Down as IsDown, Idle as IsIdle, Asking as IsAsking}
 
@@ -21,6 +22,10 @@ abbrev pub state_in : Running → SourceState
 state_in (IsDown source) = Down
 state_in (IsIdle source) = Idle
 state_in (IsAsking source) = Asking source.last
+
+-- an actor whose source is in any state, with the number in its store, the count of its cells and its clock
+abbrev pub actor_in : Running → (kept cells clock : ℕ) → ActorView
+actor_in running kept cells clock = record { source = source_in running; state = state_in running; kept = kept; cells = cells; clock = clock }
 
 -- what an ask of a source that is up answers, and its store after it
 abbrev pub asked_by : Running → ℕ → Result (Unit {0}) StoreFault × StoreView → Result (SourceView × Terms) (Running × AskFault) × StoreView

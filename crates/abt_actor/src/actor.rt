@@ -33,25 +33,13 @@ impl Model for SourceActor {
     ghost use Rattle.std.specs.Prelude.{◌≡◌};
     ghost use Rattle.abt_keep.specs.declared.plan.StorePlan.TheVariants.{Works};
     ghost use Rattle.abt_actor.specs.Actor.{ActorView, IsSound};
-    ghost use Rattle.abt_actor.specs.Sources.{source_in, state_in};
+    ghost use Rattle.abt_actor.specs.Sources.{actor_in};
 
     ghost Value = { ActorView };
 
-    ghost view = { λ a. record {
-      source = source_in a.running;
-      state = state_in a.running;
-      kept = a.store.number;
-      cells = a.cells;
-      clock = a.clock;
-    } };
+    ghost view = { λ a. actor_in a.running a.store.number a.cells a.clock };
 
-    ghost invariant = { λ a. (a.store.plan ≡ Works) × IsSound (record {
-      source = source_in a.running;
-      state = state_in a.running;
-      kept = a.store.number;
-      cells = a.cells;
-      clock = a.clock;
-    }) };
+    ghost invariant = { λ a. (a.store.plan ≡ Works) × IsSound (actor_in a.running a.store.number a.cells a.clock) };
 }
 
 impl SourceActor {
@@ -131,13 +119,8 @@ impl SourceActor {
         if now < self.clock {
             return self.unmoved(Outcome::NotEnabled(Cause::ClockBack));
         }
-        let SourceActor {
-            vc,
-            running,
-            mut store,
-            cells,
-            clock,
-        } = self;
+        let running = self.running;
+        let mut store = self.store;
         let Running::Down(source) = running else {
             unreachable!()
         };
@@ -148,21 +131,18 @@ impl SourceActor {
                     number: source.last(),
                 }),
                 actor: SourceActor {
-                    vc,
                     running: Running::Idle(source),
                     store,
-                    cells,
                     clock: now,
+                    ..self
                 },
                 outcome: Outcome::Started,
             },
             Err(StartRefused { source, fault }) => Carried {
                 actor: SourceActor {
-                    vc,
                     running: Running::Down(source),
                     store,
-                    cells,
-                    clock,
+                    ..self
                 },
                 outcome: Outcome::StartRefused(fault),
                 added: Added::Nothing,
@@ -170,43 +150,27 @@ impl SourceActor {
         }
     }
 
-    fn ask(self, rate: Rate, plan: StorePlan) -> Carried
+    fn ask(mut self, rate: Rate, plan: StorePlan) -> Carried
         ensures { Carries self (SourceCommand.Ask rate plan) result.outcome (facts_in result.added) result.actor }
     {
         if self.running.is_down() {
             return self.unmoved(Outcome::NotEnabled(Cause::Down));
         }
-        let SourceActor {
-            vc,
-            running,
-            mut store,
-            cells,
-            clock,
-        } = self;
-        let last = running.last();
-        store.plan(plan);
-        let asked = running.ask(&mut store, rate);
-        store.plan(StorePlan::Works);
+        let last = self.running.last();
+        self.store.plan(plan);
+        let asked = self.running.ask(&mut self.store, rate);
+        self.store.plan(StorePlan::Works);
         match asked {
             Ok((source, request)) => Carried {
+                added: Added::of_request(&request, self.cells),
                 actor: SourceActor {
-                    vc,
                     running: Running::Asking(source),
-                    store,
-                    cells,
-                    clock,
+                    ..self
                 },
                 outcome: Outcome::Asked(request),
-                added: Added::of_request(&request, cells),
             },
             Err((running, fault)) => Carried {
-                actor: SourceActor {
-                    vc,
-                    running,
-                    store,
-                    cells,
-                    clock,
-                },
+                actor: SourceActor { running, ..self },
                 outcome: Outcome::AskRefused(fault),
                 added: Added::of_refusal(fault, plan, last),
             },
@@ -230,28 +194,18 @@ impl SourceActor {
         if self.running.is_down() {
             return self.unmoved(Outcome::NotEnabled(Cause::Down));
         }
-        let SourceActor {
-            vc,
-            running,
-            store,
-            cells,
-            clock,
-        } = self;
-        let source = running.crash();
+        let source = self.running.crash();
         Carried {
             actor: SourceActor {
-                vc,
                 running: Running::Down(source),
-                store,
-                cells,
-                clock,
+                ..self
             },
             outcome: Outcome::Crashed,
             added: Added::One(Fact::Crashed),
         }
     }
 
-    fn emit(self, at: u64) -> Carried
+    fn emit(mut self, at: u64) -> Carried
         ensures { Carries self (SourceCommand.Emit at) result.outcome (facts_in result.added) result.actor }
     {
         if self.running.is_down() {
@@ -260,38 +214,20 @@ impl SourceActor {
         if at < self.clock {
             return self.unmoved(Outcome::NotEnabled(Cause::ClockBack));
         }
-        let SourceActor {
-            vc,
-            mut running,
-            store,
-            cells,
-            clock,
-        } = self;
-        let rate = running.rate();
-        match running.emit(at) {
+        let rate = self.running.rate();
+        let cell = self.cells;
+        match self.running.emit(at) {
             Ok(next) => Carried {
                 actor: SourceActor {
-                    vc,
-                    running,
-                    store,
-                    cells: cells + 1,
+                    cells: cell + 1,
                     clock: at,
+                    ..self
                 },
-                outcome: Outcome::Emitted { cell: cells, next },
-                added: Added::One(Fact::Emitted {
-                    cell: cells,
-                    at,
-                    rate,
-                }),
+                outcome: Outcome::Emitted { cell, next },
+                added: Added::One(Fact::Emitted { cell, at, rate }),
             },
             Err(fault) => Carried {
-                actor: SourceActor {
-                    vc,
-                    running,
-                    store,
-                    cells,
-                    clock,
-                },
+                actor: self,
                 outcome: Outcome::EmitRefused(fault),
                 added: Added::Nothing,
             },
@@ -301,14 +237,8 @@ impl SourceActor {
     fn told(self, answer: &Answer) -> Carried
         ensures { Carries self (SourceCommand.Told answer.now) result.outcome (facts_in result.added) result.actor }
     {
-        let SourceActor {
-            vc,
-            running,
-            store,
-            cells,
-            clock,
-        } = self;
         let seq = answer.seq();
+        let running = self.running;
         let (running, heard, added) = match running {
             Running::Asking(source) => match source.answer(answer) {
                 Answered::Raised(source) => (
@@ -331,13 +261,7 @@ impl SourceActor {
             running => (running, Heard::Ignored, Added::Nothing),
         };
         Carried {
-            actor: SourceActor {
-                vc,
-                running,
-                store,
-                cells,
-                clock,
-            },
+            actor: SourceActor { running, ..self },
             outcome: Outcome::Told(heard),
             added,
         }

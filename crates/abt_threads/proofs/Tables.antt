@@ -1,44 +1,19 @@
--- The table of a port that was given its connections one by one.
-use Rattle.std.proofs.Common.{◌≡◌, ℕ, ◌+◌, List, [], ◌∷◌, slice_index, inl, inr, refl, sym, ap, ◌∙◌, subst}
-use Rattle.std.specs.Prelude.{◌==◌, Some, None, if◌then◌else◌}
-use Rattle.std.specs.FinMap.{from_entries}
+-- A port of a net before the first event has done nothing.
+use Rattle.std.proofs.Common.{ℕ, List, [], ◌∷◌, slice_index, inl, inr, refl, sym, subst}
+use Rattle.std.specs.Prelude.{◌==◌}
 use Rattle.std.proofs.lemmas.Bool.{cases_Bool, cond-true, cond-false}
 use Rattle.abt_net.specs.declared.conn.Conn.{Conn}
 use Rattle.abt_net.specs.Topology.{Topology}
-use Rattle.abt_node.specs.Table.{Table, new_table, opening, with_connection}
+use Rattle.abt_node.specs.Table.{new_table}
 use Rattle.abt_model.specs.Reserved.{hop_of}
-use Rattle.abt_model.specs.PortTable.{policing_by, kept_at, kept_from, port_table}
-use Rattle.abt_world.specs.Opening.{joined, opening_table}
+use Rattle.abt_model.specs.PortTable.{port_table}
+use Rattle.abt_world.specs.Opening.{opening_table}
+use Rattle.abt_world.proofs.Openings.{opening_table-is}
 use Rattle.abt_journal.specs.Opening.{IsOpening}
 use Rattle.abt_journal.proofs.Openings.{IsOpening-new, IsOpening-add}
 
--- a connection before its first request
-first_kept : (conn : Conn) (hop : ℕ) → opening (if hop == 1 then Some conn.tau else None) ≡ kept_at conn [] hop
-first_kept conn hop = elim (cases_Bool (hop == 1)) [
-  | inl first ↦ ap (λ b. opening (if b then Some conn.tau else None)) first ∙ sym (ap (λ b. record (kept_at conn [] hop) { policing = if b then Some (policing_by conn.tau []) else None }) first)
-  | inr later ↦ ap (λ b. opening (if b then Some conn.tau else None)) later ∙ sym (ap (λ b. record (kept_at conn [] hop) { policing = if b then Some (policing_by conn.tau []) else None }) later)
-]
-
-abbrev table_from : (id capacity c : ℕ) → List Conn → Table
-table_from id capacity c conns = record { id = id; capacity = capacity; connections = from_entries (kept_from c conns [] id) }
-
-opened : (id capacity c : ℕ) (conns : List Conn) → opening_table id capacity conns ≡ table_from id capacity c conns
-opened id capacity c [] = refl
-opened id capacity c (conn ∷ conns) =
-    let rest = opened id capacity (c + 1) conns in
-    ap (λ t. joined t conn) rest ∙ elim (cases_Bool (hop_of conn.path id == 0)) [
-      | inl away ↦ cond-true _ _ _ away ∙ sym (ap (λ es. record { id = id; capacity = capacity; connections = from_entries es }) (cond-true _ _ _ away))
-      | inr through ↦ cond-false _ _ _ through
-          ∙ ap (with_connection (table_from id capacity (c + 1) conns) conn.vc) (first_kept conn (hop_of conn.path id))
-          ∙ sym (ap (λ es. record { id = id; capacity = capacity; connections = from_entries es }) (cond-false _ _ _ through))
-    ]
-
--- it is the net's
-pub opening_table-is : (net : Topology) (p : ℕ) → opening_table p (slice_index net.capacities p) net.conns ≡ port_table net [] p
-opening_table-is net p = opened p (slice_index net.capacities p) 0 net.conns
-
 -- the port has done nothing yet
-pub IsOpening-table : (id capacity : ℕ) (conns : List Conn) → IsOpening (opening_table id capacity conns)
+IsOpening-table : (id capacity : ℕ) (conns : List Conn) → IsOpening (opening_table id capacity conns)
 IsOpening-table id capacity [] = IsOpening-new (new_table id capacity) id capacity refl
 IsOpening-table id capacity (conn ∷ conns) =
     let rest = IsOpening-table id capacity conns in
@@ -46,3 +21,6 @@ IsOpening-table id capacity (conn ∷ conns) =
       | inl away ↦ subst IsOpening (sym (cond-true _ _ _ away)) rest
       | inr through ↦ subst IsOpening (sym (cond-false _ _ _ through)) (IsOpening-add (opening_table id capacity conns) _ conn.vc _ refl rest)
     ]
+
+pub IsOpening-port : (net : Topology) (p : ℕ) → IsOpening (port_table net [] p)
+IsOpening-port net p = subst IsOpening (opening_table-is net p) (IsOpening-table p (slice_index net.capacities p) net.conns)

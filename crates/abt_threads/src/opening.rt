@@ -1,17 +1,11 @@
 //! The ports of a net before a run, each under its lock.
-ghost use Rattle.std.specs.Prelude.{◌≡◌, ◌≢◌, ◌<◌, ◌≤◌, ◌^◌, [], All, AllPairs, IfOk, OnOk, None, length, slice_index};
-ghost use Rattle.std.specs.FinMap as map;
-ghost use Rattle.abt_node.specs.Table.{connection_at};
-ghost use Rattle.abt_model.specs.PortTable.{port_table};
-ghost use Rattle.abt_model.specs.Reserved as reserved;
-ghost use Rattle.abt_world.specs.Opening.{joined, opening_table};
-ghost use Rattle.abt_journal.specs.Opening.{IsOpening};
+ghost use Rattle.std.specs.Prelude.{IfOk};
 ghost use Rattle.abt_relay.specs.Cells.{AreCellsOf};
 
 use abt_journal::PortState;
-use abt_net::{Conn, Net};
-use abt_node::{AddFault, Port};
+use abt_net::Net;
 use abt_ports::PortCell;
+use abt_world::opening_port;
 use std::alloc::{AllocError, Global};
 
 // The ports of a net with the connections through them, by their numbers.
@@ -25,76 +19,4 @@ pub(crate) fn opening_cells(alloc: Global, net: &Net) -> Result<Vec<PortCell>, A
         cells.push(PortCell::new(PortState::new(alloc, port)))?;
     }
     Ok(cells)
-}
-
-// A port of a net with the connections through it.
-fn opening_port(alloc: Global, net: &Net, id: u16) -> Result<Port, AllocError>
-    requires { id < length net.now.capacities }
-    ensures table { IfOk result (λ port. port ≡ port_table net.now [] id) }
-    ensures opening { IfOk result IsOpening }
-    ensures id { IfOk result (λ port. port.id ≡ id) }
-{
-    port_with(alloc, id, capacity_of(net, id), net.conns())
-}
-
-// The capacity of a port of a net.
-fn capacity_of(net: &Net, id: u16) -> u64
-    requires { id < length net.now.capacities }
-    ensures value { result ≡ slice_index net.now.capacities id }
-    ensures bound { result ≤ 2 ^ 60 }
-{
-    net.capacities()[usize::from(id)]
-}
-
-// A port with those of these connections that go through it.
-fn port_with(alloc: Global, id: u16, capacity: u64, conns: &[Conn]) -> Result<Port, AllocError>
-    requires capacity { capacity ≤ 2 ^ 60 }
-    requires taus { All (λ conn. conn.tau ≤ 10 ^ 12) conns.now }
-    requires channels { AllPairs (λ b c. b.vc ≢ c.vc) conns.now }
-    requires count { length conns.now ≤ 1024 }
-    ensures { IfOk result (λ port. port ≡ opening_table id capacity conns.now) }
-{
-    let Some((first, others)) = conns.split_first() else {
-        return Port::new(alloc, id, capacity);
-    };
-    let mut port = port_with(alloc, id, capacity, others)?;
-    join(&mut port, first)?;
-    Ok(port)
-}
-
-// Adds a connection to a port that its path goes through. The port doesn't know it and has room for it, so that it is
-// refused for want of memory alone.
-fn join(port: &mut Port, conn: &Conn) -> Result<(), AllocError>
-    requires tau { conn.now.tau ≤ 10 ^ 12 }
-    requires unknown { connection_at port.old conn.now.vc ≡ None }
-    requires room { map.len port.old.connections < 1024 }
-    ensures { OnOk result (port.new ≡ joined port.old conn.now) }
-{
-    let hop = hop_of(conn.path.as_slice(), port.id());
-    if hop == 0 {
-        return Ok(());
-    }
-    let tau = if hop == 1 { Some(conn.tau) } else { None };
-    match port.add(conn.vc, tau) {
-        Ok(()) => Ok(()),
-        Err(AddFault::Memory) => Err(AllocError),
-        Err(AddFault::Known | AddFault::Full) => unreachable!(),
-    }
-}
-
-// The hop of a path, from 1, at which a port lies, and 0 where it lies at none.
-fn hop_of(path: &[u16], port: u16) -> usize
-    ensures value { result ≡ reserved.hop_of path.now port }
-    ensures within { result ≤ length path.now }
-{
-    let Some((first, rest)) = path.split_first() else {
-        return 0;
-    };
-    if *first == port {
-        return 1;
-    }
-    match hop_of(rest, port) {
-        0 => 0,
-        hop => hop + 1,
-    }
 }

@@ -1,45 +1,46 @@
 -- Where events stand still with entries left, no list of events is woven from the journals.
-use Rattle.std.proofs.Common.{◌≡◌, ◌≢◌, ℕ, zero, suc, ◌+◌, ◌<◌, ◌≤◌, inl, inr, refl, ap, Bool, true, false, List, [], ◌∷◌, ◌++◌, length, reverse, ◌∙◌, sym, subst, Option, None, Some, arith, map}
-use Rattle.std.specs.Prelude.{◌==◌, ◌&&◌, ◌⊎◌, not, nat_lt, slice_get, slice_index, All}
-use Rattle.std.proofs.lemmas.Bool.{cond-true, cond-false, cases_Bool, cases_eq}
+use Rattle.std.proofs.Common.{◌≡◌, ◌≢◌, ℕ, zero, suc, ◌<◌, inl, inr, refl, ap, true, false, List, [], ◌∷◌, ◌++◌, length, reverse, ◌∙◌, sym, subst, Option, None, Some, arith}
+use Rattle.std.specs.Prelude.{◌==◌, ◌&&◌, not, nat_lt, slice_get, slice_index, All}
+use Rattle.std.proofs.lemmas.Bool.{cond-true, cond-false, cases_Bool}
 use Rattle.std.proofs.lemmas.List.{append-nil, length-append}
-use Rattle.std.proofs.lemmas.Option.{slice_get_within, slice_get-get_or}
+use Rattle.std.proofs.lemmas.Option.{slice_get_within}
 use Rattle.abt_net.specs.declared.conn.Conn.{Conn}
 use Rattle.abt_net.specs.Topology.{Topology, IsWithinRules}
 use Rattle.abt_model.specs.declared.event.Event.{Event}
-use Rattle.abt_model.specs.declared.event.Event.TheVariants.{Start, Ask, Again, Crash, Emit, Arrive, Request, Turn, Answer, Told}
-use Rattle.abt_model.specs.declared.outcome.Outcome.{Outcome}
+use Rattle.abt_model.specs.declared.event.Event.TheVariants.{Arrive, Request}
 use Rattle.abt_model.specs.Conns.{conn_at}
 use Rattle.abt_model.specs.Events.{AsksRate}
 use Rattle.abt_model.specs.Outcomes.{conn_of, outcome_of}
-use Rattle.abt_model.proofs.Worlds.{cases_option, first_asks, others_ask}
+use Rattle.abt_model.proofs.Worlds.{cases_option, others_ask}
 use Rattle.abt_journal.specs.declared.entry.Entry.{Entry}
 use Rattle.abt_journal.specs.declared.input.PortInput.{PortInput}
 use Rattle.abt_source_journal.specs.declared.entry.SourceEntry.{SourceEntry}
 use Rattle.abt_source_journal.specs.declared.entry.SourceEntry.TheVariants.{Did, Sent, Arrived as ArrivedAt}
 use Rattle.abt_source_journal.specs.declared.journal.SourceJournal.{SourceJournal}
-use Rattle.abt_woven.specs.Projections.{Step, step_of, Visit, is_enabled, input_of, entry_of, place_at_first, past_of, visit, steps_on, entry_made, entries_on}
-use Rattle.abt_woven.specs.Stuck.{Journaled, steps_in, entries_in, port_journal, source_journal, step_next, next_entry, Fits, IsBeginning, StandsStill, SourceMismatches, PortMismatches}
+use Rattle.abt_woven.specs.Projections.{Step, Visit, is_enabled, input_of, place_at_first, past_of, visit, steps_on, entry_made, entries_on}
+use Rattle.abt_woven.specs.Stuck.{Journaled, steps_in, entries_in, port_journal, source_journal, step_next, next_entry, IsBeginning, SourceMismatches, PortMismatches}
 use Rattle.abt_woven.specs.Woven.{IsWoven}
 use Rattle.abt_woven.specs.declared.actor.Actor.{Actor}
 use Rattle.abt_woven.specs.declared.actor.Actor.TheVariants.{Source, Port}
 use Rattle.abt_woven.specs.declared.actor.Stuck.{Stuck}
 use Rattle.abt_woven.proofs.Turns.{steps_turns, entries_turns}
+use Rattle.abt_weave.specs.Board.{IsActorSettled}
 use Rattle.abt_weave.specs.Faults.{left_at, left_below, source_left, port_left, all_left, NoneIsWoven}
-use Rattle.abt_weave.specs.Candidates.{is_own_of, is_told}
+use Rattle.abt_weave.specs.Candidates.{is_told}
 use Rattle.abt_weave.proofs.Again.{own_again}
-use Rattle.abt_weave.proofs.Ends.{own_or_visit, whole_beginning}
+use Rattle.abt_weave.proofs.Ends.{own_or_visit}
 use Rattle.abt_weave.proofs.Leavings.{all_reversed}
-use Rattle.abt_weave.proofs.NoneWoven.{AreBegun, begun_before, HaveEnded, cases_less, step_due, entry_due, PortHas, ConnHas, below_on, visit_low, fits_again, again_at, ArrivesAlone, both_are}
-use Rattle.abt_weave.proofs.OwnEvents.{IsDone, made_own, own_made, own_visit, own_fits}
-use Rattle.abt_weave.proofs.Places.{less_if, Names, IsFirstStep, IsBesideStep, IsNamed, named_now, named_low, step_named}
+use Rattle.abt_weave.proofs.NoneWoven.{AreBegun, begun_before, HaveEnded, cases_less, step_due, entry_due, PortHas, ConnHas, below_on, visit_low, fits_again, again_at, ArrivesAlone}
+use Rattle.abt_weave.proofs.OwnEvents.{made_own, own_fits}
+use Rattle.abt_weave.proofs.Numbers.{AreJournalsOf}
+use Rattle.abt_weave.proofs.Places.{less_if, Names, IsFirstStep, named_now, named_low, step_named}
 use Rattle.abt_cell.specs.Channel.{Channel}
 use Rattle.abt_facts.specs.declared.fact.Fact.{Fact}
 use Rattle.abt_model.specs.Past.{facts_of}
 use Rattle.abt_weave.specs.Comes.{entry_beside}
 use Rattle.abt_weave.proofs.Candidates.{cond_some}
 use Rattle.abt_weave.proofs.PortEvents.{IsVisit, visit_is, made_beside, reply_enabled, some_same}
-use Rattle.abt_weave.proofs.Prefixes.{begins_itself, get_beginning}
+use Rattle.abt_weave.proofs.Prefixes.{get_beginning}
 use Rattle.abt_weave.proofs.SentBelow.{IsBelow}
 
 -- a list that goes further has the next step, and the next entry
@@ -236,11 +237,6 @@ port_whole net js ended end ports conns events rates woven p low left =
     let n = ap (λ l. length l) whole in
     omega (arith, e, n, left)
 
--- a net with as many journals
-pub record AreJournalsOf (net : Topology) (js : Journaled) : Type 0 where
-  pub ports : length js.ports ≡ length net.capacities
-  pub conns : length js.sources ≡ length net.conns
-
 entries_there : (js : Journaled) (c n : ℕ) (x : SourceEntry) → slice_get (source_journal js c) n ≡ Some x → c < length js.sources
 entries_there js c n x h = elim (cases_option (slice_get js.sources c)) [
   | inl none ↦ (let clash = ap (λ (o : Option SourceJournal). slice_get (entries_in o) n) (sym none) ∙ h in absurd (cc))
@@ -254,19 +250,23 @@ steps_there js p n s h = elim (cases_option (slice_get js.ports p)) [
 ]
 
 -- an entry that mismatches is left
-pub source_none : (net : Topology) (js : Journaled) (ended : List Event) (c : ℕ) → HaveEnded net js ended → AreJournalsOf net js → SourceMismatches net js ended c → NoneIsWoven net js
+source_none : (net : Topology) (js : Journaled) (ended : List Event) (c : ℕ) → HaveEnded net js ended → AreJournalsOf net js → SourceMismatches net js ended c → NoneIsWoven net js
 source_none net js ended c end are m events rates woven =
     let place = length (entries_on net c (m.turns ++ ended)) in
     let same = ap (λ (l : List SourceEntry). length l) (entries_turns net ended m.turns m.turned c) in
     let left = slice_get_within (source_journal js c) place (Did m.event m.told) m.next in
     source_whole net js ended end are.ports are.conns events rates woven c (entries_there js c place (Did m.event m.told) m.next) (subst (λ n. n < length (source_journal js c)) same left)
 
-pub port_none : (net : Topology) (js : Journaled) (ended : List Event) (p : ℕ) → HaveEnded net js ended → AreJournalsOf net js → PortMismatches net js ended p → NoneIsWoven net js
+port_none : (net : Topology) (js : Journaled) (ended : List Event) (p : ℕ) → HaveEnded net js ended → AreJournalsOf net js → PortMismatches net js ended p → NoneIsWoven net js
 port_none net js ended p end are m events rates woven =
     let place = length (steps_on net p (m.turns ++ ended)) in
     let same = ap (λ (l : List Step). length l) (steps_turns net ended m.turns m.turned p) in
     let left = slice_get_within (port_journal js p) place m.step m.next in
     port_whole net js ended end are.ports are.conns events rates woven p (steps_there js p place m.step m.next) (subst (λ n. n < length (port_journal js p)) same left)
+
+pub mismatch_none : (net : Topology) (js : Journaled) (ended : List Event) (actor : Actor) → HaveEnded net js ended → AreJournalsOf net js → IsActorSettled net js ended actor true → NoneIsWoven net js
+mismatch_none net js ended (Source c) end are settled = source_none net js ended c end are settled.marks
+mismatch_none net js ended (Port p) end are settled = port_none net js ended p end are settled.marks
 
 none_below : (left : ℕ → List Stuck) (n : ℕ) → ((i : ℕ) → i < n → left i ≡ []) → left_below left n ≡ []
 none_below left zero none = refl

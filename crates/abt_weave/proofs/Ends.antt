@@ -1,9 +1,9 @@
 -- Where a pass places nothing, the events stand still.
-use Rattle.std.proofs.Common.{◌≡◌, ◌≢◌, ℕ, zero, suc, ◌+◌, ◌<◌, ◌≤◌, ◌⊎◌, inl, inr, refl, ap, Bool, true, false, List, [], ◌∷◌, ◌++◌, length, reverse, ◌∙◌, sym, subst, Option, None, Some, MatchBool, arith}
-use Rattle.std.specs.Prelude.{◌==◌, ◌&&◌, slice_get, get_or, map, if◌then◌else◌}
+use Rattle.std.proofs.Common.{◌≡◌, ℕ, ◌+◌, ◌<◌, ◌≤◌, inl, inr, refl, ap, Bool, true, false, List, [], ◌∷◌, ◌++◌, length, ◌∙◌, sym, subst, Option, None, Some, arith}
+use Rattle.std.specs.Prelude.{◌==◌, ◌&&◌, slice_get, get_or}
 use Rattle.std.proofs.lemmas.Bool.{false≢true}
 use Rattle.std.proofs.lemmas.List.{length-append, append-nil}
-use Rattle.std.proofs.lemmas.Option.{slice_get_within, slice_get-get_or, slice_get_past}
+use Rattle.std.proofs.lemmas.Option.{slice_get_within, slice_get-get_or}
 use Rattle.abt_net.specs.declared.conn.Conn.{Conn}
 use Rattle.abt_net.specs.Topology.{Topology, IsWithinRules}
 use Rattle.abt_model.specs.declared.connection_fact.ConnectionFact.{ConnectionFact}
@@ -19,13 +19,14 @@ use Rattle.abt_journal.specs.declared.input.PortInput.{PortInput}
 use Rattle.abt_source_journal.specs.declared.entry.SourceEntry.{SourceEntry}
 use Rattle.abt_source_journal.specs.declared.entry.SourceEntry.TheVariants.{Did, Sent, Arrived as ArrivedAt}
 use Rattle.abt_source_journal.specs.declared.journal.SourceJournal.{SourceJournal}
-use Rattle.abt_woven.specs.Projections.{Step, step_of, Visit, is_enabled, input_of, entry_of, place_at_first, past_of, visit, entry_made, steps_on, entries_on}
-use Rattle.abt_woven.specs.Stuck.{Journaled, steps_in, entries_in, port_journal, source_journal, next_step, next_entry, step_next, Fits, AreTurns, ArePlaced, IsBeginning, StandsStill, PortMismatches, SourceMismatches}
-use Rattle.abt_weave.specs.Board.{IsSourceSettled, IsPortSettled, AreSettled}
+use Rattle.abt_woven.specs.Projections.{Step, Visit, is_enabled, input_of, entry_of, place_at_first, past_of, visit, entry_made, steps_on, entries_on}
+use Rattle.abt_woven.specs.Stuck.{Journaled, steps_in, entries_in, port_journal, source_journal, step_next, ArePlaced, IsBeginning, StandsStill, PortMismatches, SourceMismatches}
+use Rattle.abt_weave.specs.Actors.{actor_count}
+use Rattle.abt_weave.specs.Board.{AreSettled}
 use Rattle.abt_weave.proofs.Candidates.{cond_some, and_both}
-use Rattle.abt_weave.proofs.OwnEvents.{next_turns}
+use Rattle.abt_weave.proofs.Numbers.{AreJournalsOf, source_settled, port_settled}
 use Rattle.abt_weave.proofs.PortEvents.{some_same, visit_made, has_reply}
-use Rattle.abt_weave.proofs.PortLooks.{first_hop, steps_next}
+use Rattle.abt_weave.proofs.PortLooks.{first_hop}
 
 conn_known : (net : Topology) (past : List ConnectionFact) (event : Event) → is_enabled (outcome_of net past event) ≡ true → (conn : Conn) × (conn_at net (conn_of event) ≡ Some conn)
 conn_known net past event on = elim (cases_option (conn_at net (conn_of event))) [
@@ -79,16 +80,16 @@ steps_low js p n s h = elim (cases_option (slice_get js.ports p)) [
   | inr some ↦ slice_get_within js.ports p some.0 some.1
 ]
 
-pub all_still : (net : Topology) (js : Journaled) → IsWithinRules net → (earlier : List Event) (sources ports : List Bool) → ArePlaced net js earlier →
-    AreSettled (IsSourceSettled net js earlier) (length js.sources) sources → AreSettled (IsPortSettled net js earlier) (length js.ports) ports → StandsStill net js earlier
-all_still net js rules earlier sources ports placed ss ps = record {
+pub all_still : (net : Topology) (js : Journaled) → AreJournalsOf net js → IsWithinRules net → (earlier : List Event) (marks : List Bool) → ArePlaced net js earlier →
+    AreSettled net js earlier (actor_count net) marks → StandsStill net js earlier
+all_still net js are rules earlier marks placed settled = record {
   placed = placed;
   still = λ turns all event fits.
       (let after = turns ++ earlier in
       let no_port : (v : Visit) → visit net (past_of net after) event ≡ Some v → ⊥ = λ v is.
       (let low = steps_low js v.port (length (steps_on net v.port after)) (step_next net after v) (fits.step v is) in
-      let mark = mark_at ports v.port (subst (λ n. v.port < n) (sym ps.count_is) low) in
-      (ps.each v.port mark.0 mark.1).stuck turns event v all is refl fits) in
+      let mark = mark_at marks (length net.conns + v.port) (omega (arith, low, are.ports, settled.count_is)) in
+      (port_settled net js earlier marks v.port mark.0 settled mark.1).stuck turns event v all is refl fits) in
       elim (cases_option (visit net (past_of net after) event)) [
         | inr some ↦ no_port some.0 some.1
         | inl none ↦ (elim (cases_option (entry_made net after event)) [
@@ -96,23 +97,25 @@ all_still net js rules earlier sources ports placed ss ps = record {
           | inr entry ↦ (
               let done = own_or_visit net rules after event entry.0 none entry.1 in
               let c = conn_of event in
-              let low = entries_low js c (length (entries_on net c after)) entry.0 (fits.entry entry.0 entry.1) in
-              let mark = mark_at sources c (subst (λ n. c < n) (sym ss.count_is) low) in
-              (ss.each c mark.0 mark.1).stuck turns event event done.0 all refl (entry.1 ∙ ap (λ (y : SourceEntry). Some y) done.1) fits)
+              let low : c < length net.conns = subst (λ n. c < n) are.conns (entries_low js c (length (entries_on net c after)) entry.0 (fits.entry entry.0 entry.1)) in
+              let mark = mark_at marks c (omega (arith, low, settled.count_is)) in
+              (source_settled net js earlier marks c mark.0 settled low mark.1).stuck turns event event done.0 all refl (entry.1 ∙ ap (λ (y : SourceEntry). Some y) done.1) fits)
         ])
       ]);
 }
 
 -- an actor without entries left doesn't mismatch
-pub beyond_source : (net : Topology) (js : Journaled) (earlier : List Event) (sources : List Bool) → AreSettled (IsSourceSettled net js earlier) (length js.sources) sources → (c : ℕ) → (c < length js.sources → slice_get sources c ≡ Some false) → SourceMismatches net js earlier c → ⊥
-beyond_source net js earlier sources ss c unmarked m =
-    let low = entries_low js c (length (entries_on net c (m.turns ++ earlier))) (Did m.event m.told) m.next in
-    (ss.each c false (unmarked low)).marks m
+pub beyond_source : (net : Topology) (js : Journaled) → AreJournalsOf net js → (earlier : List Event) (marks : List Bool) → AreSettled net js earlier (actor_count net) marks →
+    (c : ℕ) → (c < length net.conns → slice_get marks c ≡ Some false) → SourceMismatches net js earlier c → ⊥
+beyond_source net js are earlier marks settled c unmarked m =
+    let low : c < length net.conns = subst (λ n. c < n) are.conns (entries_low js c (length (entries_on net c (m.turns ++ earlier))) (Did m.event m.told) m.next) in
+    (source_settled net js earlier marks c false settled low (unmarked low)).marks m
 
-pub beyond_port : (net : Topology) (js : Journaled) (earlier : List Event) (ports : List Bool) → AreSettled (IsPortSettled net js earlier) (length js.ports) ports → (p : ℕ) → (p < length js.ports → slice_get ports p ≡ Some false) → PortMismatches net js earlier p → ⊥
-beyond_port net js earlier ports ps p unmarked m =
-    let low = steps_low js p (length (steps_on net p (m.turns ++ earlier))) m.step m.next in
-    (ps.each p false (unmarked low)).marks m
+pub beyond_port : (net : Topology) (js : Journaled) → AreJournalsOf net js → (earlier : List Event) (marks : List Bool) → AreSettled net js earlier (actor_count net) marks →
+    (p : ℕ) → (p < length net.capacities → slice_get marks (length net.conns + p) ≡ Some false) → PortMismatches net js earlier p → ⊥
+beyond_port net js are earlier marks settled p unmarked m =
+    let low : p < length net.capacities = subst (λ n. p < n) are.ports (steps_low js p (length (steps_on net p (m.turns ++ earlier))) m.step m.next) in
+    (port_settled net js earlier marks p false settled (unmarked low)).marks m
 
 go : {A : Type 0} → (xs ys rest : List A) → ys ≡ xs ++ rest → length ys ≤ length xs → xs ≡ ys
 go xs ys [] is long = sym (is ∙ append-nil xs)

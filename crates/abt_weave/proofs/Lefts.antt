@@ -1,57 +1,44 @@
 -- What actors have left.
-use Rattle.std.proofs.Common.{◌≡◌, ◌≢◌, ℕ, zero, suc, ◌+◌, ◌<◌, ◌≤◌, refl, ap, Bool, true, false, List, [], ◌∷◌, ◌++◌, length, reverse, ◌∙◌, sym, subst, Option, None, Some, Vec, add-one, arith, inl, inr}
-use Rattle.std.specs.Prelude.{nat_lt, if◌then◌else◌, slice_get, slice_index, get_or, map, option_map}
-use Rattle.std.specs.Global.{Global}
+use Rattle.std.proofs.Common.{◌≡◌, ℕ, zero, suc, ◌+◌, ◌<◌, ◌≤◌, refl, ap, List, [], ◌∷◌, ◌++◌, length, ◌∙◌, sym, arith, inl, inr}
+use Rattle.std.specs.Prelude.{nat_lt}
 use Rattle.std.proofs.lemmas.Bool.{cond-true, cases_Bool, cases_eq}
 use Rattle.std.proofs.lemmas.Bool.Decides.{nat_tests}
-use Rattle.std.proofs.lemmas.List.{append_assoc, length-map}
-use Rattle.std.proofs.lemmas.Option.{slice_get_read, slice_get-map}
+use Rattle.std.proofs.lemmas.List.{append_assoc, append-nil}
 use Rattle.abt_net.specs.Topology.{Topology}
 use Rattle.abt_model.specs.declared.event.Event.{Event}
-use Rattle.abt_journal.specs.declared.entry.Entry.{Entry}
-use Rattle.abt_source_journal.specs.declared.entry.SourceEntry.{SourceEntry}
-use Rattle.abt_source_journal.specs.declared.journal.SourceJournal.{SourceJournal}
-use Rattle.abt_world.specs.Standing.{WorldView}
 use Rattle.abt_woven.specs.declared.actor.Actor.{Actor}
-use Rattle.abt_woven.specs.declared.actor.Actor.TheVariants.{Source, Port}
 use Rattle.abt_woven.specs.declared.actor.Stuck.{Stuck}
-use Rattle.abt_woven.specs.Projections.{step_of, steps_on, entries_on}
-use Rattle.abt_woven.specs.Stuck.{Journaled, steps_in, entries_in, port_journal, source_journal}
-use Rattle.abt_weave.specs.Board.{journaled, IsPlacing}
-use Rattle.abt_weave.specs.Faults.{left_at, left_below, source_left, port_left}
-use Rattle.abt_weave.proofs.SourceLooks.{place_read, source_read}
+use Rattle.abt_woven.specs.Stuck.{Journaled}
+use Rattle.abt_weave.specs.Actors.{actor_count, actor_at, placed_on, entry_count}
+use Rattle.abt_weave.specs.Faults.{left_at, left_below, source_left, port_left, all_left}
+use Rattle.abt_weave.proofs.Numbers.{AreJournalsOf, source_at, port_at}
 
-pub left_step : (old cur new : List Stuck) (left : ℕ → List Stuck) (n : ℕ) (one : List Stuck) → cur ≡ old ++ left_below left n → new ≡ cur ++ one → one ≡ left n → new ≡ old ++ left_below left (n + 1)
-left_step old cur new left n one so is at =
-    is ∙ ap (λ l. l ++ one) so ∙ ap (λ l. (old ++ left_below left n) ++ l) at ∙ append_assoc old (left_below left n) (left n)
-    ∙ ap (λ m. old ++ left_below left m) (sym (add-one n))
+-- what the actor of a number has left
+abbrev pub left_of : Topology → Journaled → List Event → ℕ → List Stuck
+left_of net js earlier number = left_at (actor_at net number) (placed_on net earlier (actor_at net number)) (entry_count js (actor_at net number))
 
-pub source_left_read : (net : Topology) (ports : List (Vec Entry Global)) (sources : List SourceJournal) (events : List Event) (world : WorldView) (sp pp : List ℕ) (c k : ℕ) (j : SourceJournal) (entries : List SourceEntry) (place : ℕ) →
-    IsPlacing net (journaled ports sources) events world sp pp → k ≡ c → c < length sources → j ≡ get_or sources k j → entries ≡ (get_or sources k j).entries → place ≡ get_or sp k place →
-    left_at (Source c) place (length entries) ≡ source_left net (journaled ports sources) (reverse events) c
-source_left_read net ports sources events world sp pp c k j entries place board same low read are at =
-    let js = journaled ports sources in
-    let lowk : k < length sources = subst (λ n. n < length sources) (sym same) low in
-    let lowp : k < length sp = subst (λ n. k < n) (sym board.source_count) lowk in
-    let here : place ≡ length (entries_on net k (reverse events)) = place_read sp (λ d. length (entries_on net d (reverse events))) k place board.source_places lowp at in
-    let journal : source_journal js k ≡ entries = ap entries_in (source_read ports sources k j lowk read) ∙ ap (λ (x : SourceJournal). x.entries) read ∙ sym are in
-    ap (λ n. left_at (Source c) n (length entries)) (here ∙ ap (λ d. length (entries_on net d (reverse events))) same)
-    ∙ ap (λ (l : List SourceEntry). left_at (Source c) (length (entries_on net c (reverse events))) (length l)) (sym journal ∙ ap (source_journal js) same)
+below_same : (one other : ℕ → List Stuck) (n : ℕ) → ((i : ℕ) → i < n → one i ≡ other i) → left_below one n ≡ left_below other n
+below_same one other zero same = refl
+below_same one other (suc n) same = ap (λ l. l ++ one n) (below_same one other n (λ i low. same i (omega (arith, low)))) ∙ ap (λ l. left_below other n ++ l) (same n (omega arith))
 
-pub port_left_read : (net : Topology) (ports : List (Vec Entry Global)) (sources : List SourceJournal) (events : List Event) (world : WorldView) (sp pp : List ℕ) (p k : ℕ) (v : Vec Entry Global) (entries : List Entry) (place : ℕ) →
-    IsPlacing net (journaled ports sources) events world sp pp → k ≡ p → p < length ports → v ≡ get_or ports k v → entries ≡ (get_or ports k v).items → place ≡ get_or pp k place →
-    left_at (Port p) place (length entries) ≡ port_left net (journaled ports sources) (reverse events) p
-port_left_read net ports sources events world sp pp p k v entries place board same low read are at =
-    let js = journaled ports sources in
-    let lowk : k < length ports = subst (λ n. n < length ports) (sym same) low in
-    let lowp : k < length pp = subst (λ n. k < n) (sym (board.port_count ∙ length-map ports (λ (w : Vec Entry Global). w.items))) lowk in
-    let here : place ≡ length (steps_on net k (reverse events)) = place_read pp (λ q. length (steps_on net q (reverse events))) k place board.port_places lowp at in
-    let found : slice_get ports k ≡ Some v = slice_get_read ports (length ports) k v refl lowk read in
-    let count : length (port_journal js k) ≡ length entries =
-    ap (λ o. length (steps_in o)) (slice_get-map (λ (w : Vec Entry Global). w.items) ports k ∙ ap (option_map (λ (w : Vec Entry Global). w.items)) found)
-    ∙ length-map v.items step_of ∙ ap (λ (w : Vec Entry Global). length w.items) read ∙ sym (ap (λ l. length l) are) in
-    ap (λ n. left_at (Port p) n (length entries)) (here ∙ ap (λ q. length (steps_on net q (reverse events))) same)
-    ∙ ap (λ n. left_at (Port p) (length (steps_on net p (reverse events))) n) (sym count ∙ ap (λ q. length (port_journal js q)) same)
+-- what so many more have left stands behind
+below_sum : (left : ℕ → List Stuck) (n m : ℕ) → left_below left (n + m) ≡ left_below left n ++ left_below (λ i. left (n + i)) m
+below_sum left n zero = (let same : n + 0 ≡ n = omega arith in ap (λ k. left_below left k) same ∙ sym (append-nil (left_below left n)))
+below_sum left n (suc m) =
+    let same : n + suc m ≡ suc (n + m) = omega arith in
+    ap (λ k. left_below left k) same ∙ ap (λ l. l ++ left (n + m)) (below_sum left n m) ∙ append_assoc (left_below left n) (left_below (λ i. left (n + i)) m) (left (n + m))
+
+-- what all have left by their numbers is what sources and then ports have
+pub lefts_all : (net : Topology) (js : Journaled) (earlier : List Event) → AreJournalsOf net js → left_below (left_of net js earlier) (actor_count net) ≡ all_left net js earlier
+lefts_all net js earlier are =
+    let left = λ (actor : Actor). left_at actor (placed_on net earlier actor) (entry_count js actor) in
+    let n = length net.conns in
+    let m = length net.capacities in
+    let sources : left_below (left_of net js earlier) n ≡ left_below (source_left net js earlier) (length js.sources) =
+    below_same (left_of net js earlier) (source_left net js earlier) n (λ c low. ap left (source_at net c low)) ∙ ap (λ k. left_below (source_left net js earlier) k) (sym are.conns) in
+    let ports : left_below (λ i. left_of net js earlier (n + i)) m ≡ left_below (port_left net js earlier) (length js.ports) =
+    below_same (λ i. left_of net js earlier (n + i)) (port_left net js earlier) m (λ p low. ap left (port_at net p)) ∙ ap (λ k. left_below (port_left net js earlier) k) (sym are.ports) in
+    below_sum (left_of net js earlier) n m ∙ ap (λ l. l ++ left_below (λ i. left_of net js earlier (n + i)) m) sources ∙ ap (λ l. left_below (source_left net js earlier) (length js.sources) ++ l) ports
 
 -- where nothing is left, each place is at its end
 append_none : {A : Type 0} → (xs ys : List A) → xs ++ ys ≡ [] → (xs ≡ []) × (ys ≡ [])

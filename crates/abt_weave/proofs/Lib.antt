@@ -1,4 +1,5 @@
 pub mod Tries
+pub mod Numbers
 pub mod Pasts
 pub mod Growth
 pub mod OwnEvents

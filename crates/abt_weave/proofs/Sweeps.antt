@@ -1,6 +1,5 @@
 -- One look more of a sweep.
-use Rattle.std.proofs.Common.{◌≡◌, ℕ, ◌+◌, ◌-◌, ◌<◌, ◌≤◌, refl, Bool, true, false, List, ◌∙◌, sym, subst, MatchBool, arith}
-use Rattle.std.specs.Prelude.{◌||◌}
+use Rattle.std.proofs.Common.{◌≡◌, ◌<◌, refl, Bool, true, false, List, ◌∙◌, sym, subst, arith}
 use Rattle.abt_net.specs.Topology.{Topology}
 use Rattle.abt_model.specs.declared.event.Event.{Event}
 use Rattle.abt_woven.specs.Stuck.{Journaled}
@@ -21,16 +20,10 @@ sweep_step net js settled old now new false Placed so after = record { board = a
 sweep_step net js settled old now new false Waits so after = record { board = after.0; progress = so.progress ∙ sym after.2 }
 sweep_step net js settled old now new false Mismatches so after = record { board = after.0; progress = so.progress ∙ sym after.2 }
 
--- a sweep never takes anything back
-pub not_back : (net : Topology) (js : Journaled) (old new : Board) (moved : Bool) → IsFurther net js old new moved → count old ≤ count new
-not_back net js old new true so = (let a = so.progress in omega arith)
-not_back net js old new false so = (let a = so.progress in omega (arith, a))
-
--- where one of two sweeps placed something, there is more than before both
-pub sweeps_more : (net : Topology) (js : Journaled) (old mid new : Board) (one other : Bool) → IsFurther net js old mid one → IsFurther net js mid new other → (one || other) ≡ true → count old < count new
-sweeps_more net js old mid new true other first last h = (let a = first.progress in let b = not_back net js mid new other last in omega (arith, a, b))
-sweeps_more net js old mid new false true first last h = (let a = first.progress in let b = last.progress in omega (arith, a, b))
-sweeps_more net js old mid new false false first last h = absurd (cc)
+-- a sweep that placed something goes further
+pub sweep_more : (net : Topology) (js : Journaled) (old new : Board) (moved : Bool) → IsFurther net js old new moved → moved ≡ true → count old < count new
+sweep_more net js old new true so h = so.progress
+sweep_more net js old new false so h = absurd (cc)
 
 pub further_is : (net : Topology) (js : Journaled) (old new also : Board) (moved as_well : Bool) → IsFurther net js old new moved → also ≡ new → as_well ≡ moved → IsFurther net js old also as_well
 further_is net js old new also moved as_well so board_is moved_is = subst (λ b. IsFurther net js old b as_well) (sym board_is) (subst (λ m. IsFurther net js old new m) (sym moved_is) so)

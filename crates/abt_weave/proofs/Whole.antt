@@ -1,20 +1,17 @@
 -- No more entries are placed than there are.
-use Rattle.std.proofs.Common.{◌≡◌, ℕ, zero, suc, ◌+◌, ◌-◌, ◌<◌, ◌≤◌, refl, ap, Bool, true, false, List, [], ◌∷◌, ◌++◌, length, reverse, ◌∙◌, sym, subst, Option, None, Some, MatchBool, arith}
-use Rattle.std.specs.Prelude.{not, ◌||◌, slice_get, slice_index, sum_by, map, option_map, Vec}
+use Rattle.std.proofs.Common.{◌≡◌, ℕ, suc, ◌-◌, ◌<◌, ◌≤◌, refl, ap, Bool, true, false, List, [], ◌∷◌, length, reverse, ◌∙◌, sym, subst, Option, Some, arith}
+use Rattle.std.specs.Prelude.{not, slice_get, slice_index, sum_by, option_map, Vec}
 use Rattle.std.specs.Global.{Global}
 use Rattle.std.proofs.lemmas.List.{length-append, length-map}
 use Rattle.std.proofs.lemmas.List.Sums.{sum_by-cons}
 use Rattle.std.proofs.lemmas.Option.{slice_get_within, slice_get-map}
 use Rattle.abt_net.specs.Topology.{Topology}
-use Rattle.abt_model.specs.declared.event.Event.{Event}
 use Rattle.abt_journal.specs.declared.entry.Entry.{Entry}
-use Rattle.abt_source_journal.specs.declared.entry.SourceEntry.{SourceEntry}
 use Rattle.abt_source_journal.specs.declared.journal.SourceJournal.{SourceJournal}
-use Rattle.abt_woven.specs.Projections.{Step, step_of, steps_on, entries_on}
-use Rattle.abt_woven.specs.Stuck.{Journaled, IsBeginning, steps_in, entries_in, port_journal, source_journal}
+use Rattle.abt_woven.specs.Projections.{step_of, steps_on, entries_on}
+use Rattle.abt_woven.specs.Stuck.{IsBeginning, steps_in, entries_in, port_journal, source_journal}
 use Rattle.abt_weave.specs.declared.board.Board.{Board}
-use Rattle.abt_weave.specs.declared.pass.Seen.{Seen}
-use Rattle.abt_weave.specs.Board.{journaled, total, count, whole, IsBoard, IsSourceSettled, IsPortSettled, AreSettled, IsPassing, IsPass}
+use Rattle.abt_weave.specs.Board.{journaled, total, count, whole, IsBoard}
 
 total_low : {A : Type 0} → (size : A → ℕ) (xs : List A) (places : List ℕ) → length places ≡ length xs → ((i : ℕ) (x : A) → slice_get xs i ≡ Some x → slice_index places i ≤ size x) → total places ≤ sum_by size xs
 total_low size [] [] same low = omega arith
@@ -47,38 +44,14 @@ count_low net ports sources board is =
     omega (arith, is.port_places i low, d, l))) in
     omega (arith, a, b)
 
-abbrev Ends : Topology → Journaled → Board → ℕ → ℕ → List Bool → List Bool → Type 0
-Ends net js new n m sources ports = AreSettled (IsSourceSettled net js (reverse new.events.items)) n sources × AreSettled (IsPortSettled net js (reverse new.events.items)) m ports
-
-joined : (net : Topology) (js : Journaled) (old mid new : Board) (n m : ℕ) (sources ports : List Bool) (one other : Bool) →
-    MatchBool one (count old < count mid) ((mid.events.items ≡ old.events.items) × (count mid ≡ count old) × AreSettled (IsSourceSettled net js (reverse old.events.items)) n sources) →
-    MatchBool other (count mid < count new) ((new.events.items ≡ mid.events.items) × (count new ≡ count mid) × AreSettled (IsPortSettled net js (reverse mid.events.items)) m ports) →
-    MatchBool (one || other) (count old < count new) (Ends net js new n m sources ports)
-joined net js old mid new n m sources ports true true a b = omega (arith, a, b)
-joined net js old mid new n m sources ports true false a b = omega (arith, a, b.1)
-joined net js old mid new n m sources ports false true a b = omega (arith, a.1, b)
-joined net js old mid new n m sources ports false false a b =
-    (subst (λ l. AreSettled (IsSourceSettled net js (reverse l)) n sources) (sym (b.0 ∙ a.0)) a.2, subst (λ l. AreSettled (IsPortSettled net js (reverse l)) m ports) (sym b.0) b.2)
-
-pub passes_joined : (net : Topology) (js : Journaled) (old mid new : Board) (n m : ℕ) (one other : Bool) (seen : Seen) →
-    IsPassing net js (IsSourceSettled net js) old mid n one seen.sources.items → IsPassing net js (IsPortSettled net js) mid new m other seen.ports.items → seen.moved ≡ (one || other) → IsPass net js old new n m seen
-passes_joined net js old mid new n m one other seen first last is = record {
-  board = last.board;
-  progress = subst (λ b. MatchBool b (count old < count new) (Ends net js new n m seen.sources.items seen.ports.items)) (sym is)
-      (joined net js old mid new n m seen.sources.items seen.ports.items one other first.progress last.progress);
-}
-
 -- a measure falls
 pub falls : (ports : List (Vec Entry Global)) (sources : List SourceJournal) (old new : Board) → count old < count new → count new ≤ whole ports sources → whole ports sources - count new < whole ports sources - count old
 falls ports sources old new more low = omega (arith, more, low)
 
-pub moved_on : (net : Topology) (js : Journaled) (old new : Board) (n m : ℕ) (seen : Seen) → IsPass net js old new n m seen → seen.moved ≡ true → count old < count new
-moved_on net js old new n m seen is moved = subst (λ b. MatchBool b (count old < count new) (Ends net js new n m seen.sources.items seen.ports.items)) moved is.progress
-
-pub all_settled : (net : Topology) (js : Journaled) (old new : Board) (n m : ℕ) (seen : Seen) → IsPass net js old new n m seen → seen.moved ≡ false →
-    AreSettled (IsSourceSettled net js (reverse new.events.items)) n seen.sources.items × AreSettled (IsPortSettled net js (reverse new.events.items)) m seen.ports.items
-all_settled net js old new n m seen is moved = subst (λ b. MatchBool b (count old < count new) (Ends net js new n m seen.sources.items seen.ports.items)) moved is.progress
-
 pub not_not : (b : Bool) → not b ≡ false → b ≡ true
 not_not true h = refl
 not_not false h = sym h
+
+pub not_so : (b : Bool) → not b ≡ true → b ≡ false
+not_so true h = sym h
+not_so false h = refl

@@ -1,56 +1,58 @@
 -- What is answered in the end.
-use Rattle.std.proofs.Common.{◌≡◌, ◌≢◌, ℕ, ◌+◌, ◌<◌, ◌≤◌, refl, ap, Bool, true, false, List, [], ◌∷◌, ◌++◌, length, reverse, ◌∙◌, sym, subst, Option, None, Some, Vec, arith}
-use Rattle.std.proofs.lemmas.Bool.{eqb-true, false≢true}
-use Rattle.std.specs.Prelude.{◌==◌, slice_get, slice_index, map}
+use Rattle.std.proofs.Common.{◌≡◌, ◌≢◌, ℕ, ◌+◌, ◌-◌, inl, inr, refl, ap, Bool, true, false, List, [], ◌∷◌, length, reverse, ◌∙◌, sym, subst, Some, arith}
+use Rattle.std.proofs.lemmas.Bool.{cases_Bool, eqb-true, false≢true}
+use Rattle.std.specs.Prelude.{◌==◌, nat_lt, slice_get}
 use Rattle.std.proofs.lemmas.Option.{slice_get_within}
-use Rattle.abt_net.specs.Topology.{Topology, IsWithinRules}
+use Rattle.abt_net.specs.Topology.{Topology}
 use Rattle.abt_model.specs.declared.event.Event.{Event}
-use Rattle.abt_journal.specs.declared.entry.Entry.{Entry}
-use Rattle.abt_source_journal.specs.declared.entry.SourceEntry.{SourceEntry}
-use Rattle.abt_source_journal.specs.declared.journal.SourceJournal.{SourceJournal}
 use Rattle.abt_world.specs.Standing.{WorldView}
-use Rattle.abt_woven.specs.declared.actor.Actor.{Actor}
 use Rattle.abt_woven.specs.declared.actor.Actor.TheVariants.{Source, Port}
 use Rattle.abt_woven.specs.declared.actor.Stuck.{Stuck}
-use Rattle.abt_woven.specs.Projections.{Step, step_of, steps_on, entries_on}
+use Rattle.abt_woven.specs.Projections.{steps_on, entries_on}
 use Rattle.abt_woven.specs.Woven.{IsWoven}
-use Rattle.abt_woven.specs.Stuck.{Journaled, steps_in, entries_in, port_journal, source_journal, StandsStill, SourceMismatches, PortMismatches}
-use Rattle.abt_weave.specs.Board.{IsPlacing, IsSourceSettled, IsPortSettled, AreSettled}
+use Rattle.abt_woven.specs.Stuck.{Journaled, steps_in, entries_in, port_journal, source_journal}
+use Rattle.abt_weave.specs.Actors.{actor_count, actor_at, place_in}
+use Rattle.abt_weave.specs.Board.{IsPlacing, AreSettled}
 use Rattle.abt_weave.specs.Marks.{AreUnmarked, IsFirstMark}
 use Rattle.abt_weave.specs.Faults.{source_left, port_left, all_left, IsFirstMismatch, NoneMismatches}
 use Rattle.abt_weave.proofs.Ends.{beyond_source, beyond_port, whole_beginning}
 use Rattle.abt_weave.proofs.Lefts.{at_end, all_at_end}
+use Rattle.abt_weave.proofs.Numbers.{AreJournalsOf, below_if, below_else, source_at, port_at, source_settled, port_settled}
 
-pub source_first : (net : Topology) (js : Journaled) (events : List Event) (world : WorldView) (sp pp : List ℕ) (marks : List Bool) (stuck : Stuck) → IsPlacing net js events world sp pp →
-    AreSettled (IsSourceSettled net js (reverse events)) (length js.sources) marks → IsFirstMark marks Source sp stuck → IsFirstMismatch net js (reverse events) stuck.actor stuck.place
-source_first net js events world sp pp marks stuck board ss first =
-    let c = first.number in
-    let low : c < length sp = subst (λ n. c < n) (ss.count_is ∙ sym board.source_count) (slice_get_within marks c true first.marked) in
-    subst (λ a. IsFirstMismatch net js (reverse events) a stuck.place) (sym first.actor_is)
-    (first.place_is ∙ board.source_places c low, (ss.each c true first.marked).marks, λ d less m. (ss.each d false (first.before d less)).marks m)
+-- the first actor that is marked is the first whose next entry mismatches
+pub first_is : (net : Topology) (js : Journaled) → AreJournalsOf net js → (events : List Event) (world : WorldView) (sp pp : List ℕ) (marks : List Bool) (stuck : Stuck) → IsPlacing net js events world sp pp →
+    AreSettled net js (reverse events) (actor_count net) marks → IsFirstMark net marks sp pp stuck → IsFirstMismatch net js (reverse events) stuck.actor stuck.place
+first_is net js are events world sp pp marks stuck board settled first =
+    let earlier = reverse events in
+    let n = length net.conns in
+    let i = first.number in
+    elim (cases_Bool (nat_lt i n)) [
+      | inl less ↦ (
+          let low = below_if i n less in
+          let is : stuck.actor ≡ Source i = first.actor_is ∙ source_at net i low in
+          subst (λ a. IsFirstMismatch net js earlier a stuck.place) (sym is) (
+            first.place_is ∙ ap (place_in sp pp) is ∙ board.source_places i (omega (arith, low, board.source_count, are.conns)),
+            (source_settled net js earlier marks i true settled low first.marked).marks,
+            λ d before m. (source_settled net js earlier marks d false settled (omega (arith, before, low)) (first.before d before)).marks m,
+          ))
+      | inr not_less ↦ (
+          let p = i - n in
+          let high = below_else i n not_less in
+          let at : i ≡ n + p = omega (arith, high) in
+          let is : stuck.actor ≡ Port p = first.actor_is ∙ ap (actor_at net) at ∙ port_at net p in
+          let low = slice_get_within marks i true first.marked in
+          subst (λ a. IsFirstMismatch net js earlier a stuck.place) (sym is) (
+            first.place_is ∙ ap (place_in sp pp) is ∙ board.port_places p (omega (arith, low, at, settled.count_is, board.port_count, are.ports)),
+            (port_settled net js earlier marks p true settled (subst (λ k. slice_get marks k ≡ Some true) at first.marked)).marks,
+            λ d. beyond_source net js are earlier marks settled d (λ within. first.before d (omega (arith, within, high))),
+            λ q before m. (port_settled net js earlier marks q false settled (first.before (n + q) (omega (arith, before, at)))).marks m,
+          ))
+    ]
 
-unmarked_source : (net : Topology) (js : Journaled) (earlier : List Event) (marks : List Bool) → AreSettled (IsSourceSettled net js earlier) (length js.sources) marks → AreUnmarked marks (length marks) →
-    (c : ℕ) → SourceMismatches net js earlier c → ⊥
-unmarked_source net js earlier marks ss none c = beyond_source net js earlier marks ss c (λ low. none c (subst (λ n. c < n) (sym ss.count_is) low))
-
-pub port_first : (net : Topology) (js : Journaled) (events : List Event) (world : WorldView) (sp pp : List ℕ) (sources marks : List Bool) (stuck : Stuck) → IsPlacing net js events world sp pp →
-    AreSettled (IsSourceSettled net js (reverse events)) (length js.sources) sources → AreUnmarked sources (length sources) →
-    AreSettled (IsPortSettled net js (reverse events)) (length js.ports) marks → IsFirstMark marks Port pp stuck → IsFirstMismatch net js (reverse events) stuck.actor stuck.place
-port_first net js events world sp pp sources marks stuck board ss none ps first =
-    let p = first.number in
-    let low : p < length pp = subst (λ n. p < n) (ps.count_is ∙ sym board.port_count) (slice_get_within marks p true first.marked) in
-    subst (λ a. IsFirstMismatch net js (reverse events) a stuck.place) (sym first.actor_is) (
-      first.place_is ∙ board.port_places p low,
-      (ps.each p true first.marked).marks,
-      unmarked_source net js (reverse events) sources ss none,
-      λ q less m. (ps.each q false (first.before q less)).marks m,
-    )
-
-pub none_mismatch : (net : Topology) (js : Journaled) (earlier : List Event) (sources ports : List Bool) → AreSettled (IsSourceSettled net js earlier) (length js.sources) sources → AreUnmarked sources (length sources) →
-    AreSettled (IsPortSettled net js earlier) (length js.ports) ports → AreUnmarked ports (length ports) → NoneMismatches net js earlier
-none_mismatch net js earlier sources ports ss no_source ps no_port = record {
-  sources = unmarked_source net js earlier sources ss no_source;
-  ports = λ p. beyond_port net js earlier ports ps p (λ low. no_port p (subst (λ n. p < n) (sym ps.count_is) low));
+pub none_mismatch : (net : Topology) (js : Journaled) → AreJournalsOf net js → (earlier : List Event) (marks : List Bool) → AreSettled net js earlier (actor_count net) marks → AreUnmarked marks (length marks) → NoneMismatches net js earlier
+none_mismatch net js are earlier marks settled none = record {
+  sources = λ c. beyond_source net js are earlier marks settled c (λ low. none c (omega (arith, low, settled.count_is)));
+  ports = λ p. beyond_port net js are earlier marks settled p (λ low. none (length net.conns + p) (omega (arith, low, settled.count_is)));
 }
 
 pub all_woven : (net : Topology) (js : Journaled) (events : List Event) (world : WorldView) (sp pp : List ℕ) → IsPlacing net js events world sp pp → all_left net js (reverse events) ≡ [] → IsWoven net js.ports js.sources events

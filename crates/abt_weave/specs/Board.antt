@@ -9,10 +9,12 @@ use Rattle.abt_journal.specs.declared.entry.Entry.{Entry}
 use Rattle.abt_source_journal.specs.declared.entry.SourceEntry.TheVariants.{Did}
 use Rattle.abt_source_journal.specs.declared.journal.SourceJournal.{SourceJournal}
 use Rattle.abt_world.specs.Standing.{WorldView, StandsFor}
+use Rattle.abt_woven.specs.declared.actor.Actor.{Actor}
+use Rattle.abt_woven.specs.declared.actor.Actor.TheVariants.{Source, Port}
 use Rattle.abt_woven.specs.Projections.{Visit, past_of, visit, steps_on, entry_made, entries_on}
 use Rattle.abt_woven.specs.Stuck.{Journaled, ArePlaced, AreTurns, Fits, PortMismatches, SourceMismatches}
+use Rattle.abt_weave.specs.Actors.{actor_at}
 use Rattle.abt_weave.specs.declared.board.Board.{Board}
-use Rattle.abt_weave.specs.declared.pass.Seen.{Seen}
 use Rattle.abt_weave.specs.declared.look.Look.{Look}
 use Rattle.abt_weave.specs.declared.look.Look.TheVariants.{Placed, Waits, Mismatches}
 
@@ -54,6 +56,11 @@ pub record IsPortSettled (net : Topology) (journals : Journaled) (earlier : List
       Fits net journals (turns ++ earlier) event → ⊥
   pub marks : MatchBool mismatches (PortMismatches net journals earlier p) (PortMismatches net journals earlier p → ⊥)
 
+-- the same of a source or a port
+abbrev pub IsActorSettled : Topology → Journaled → List Event → Actor → Bool → Type 0
+IsActorSettled net journals earlier (Source c) mismatches = IsSourceSettled net journals earlier c mismatches
+IsActorSettled net journals earlier (Port p) mismatches = IsPortSettled net journals earlier p mismatches
+
 -- what a look at an actor does, where settled says whether its entry is stuck, and mismatches
 abbrev pub IsAfterLook : Topology → Journaled → (List Event → Bool → Type 0) → (old new : Board) → Look → Type 0
 IsAfterLook net journals settled old new Placed = IsBoard net journals new × (count old < count new)
@@ -71,21 +78,15 @@ has_moved moved Placed = true
 has_moved moved Waits = moved
 has_moved moved Mismatches = moved
 
--- each of so many actors is settled, and its mark says whether its entry mismatches
-pub record AreSettled (settled : ℕ → Bool → Type 0) (n : ℕ) (marks : List Bool) : Type 0 where
+-- each actor with a number below this one is settled, and its mark says whether its entry mismatches
+pub record AreSettled (net : Topology) (journals : Journaled) (earlier : List Event) (n : ℕ) (marks : List Bool) : Type 0 where
   pub count_is : length marks ≡ n
-  pub each : (i : ℕ) (b : Bool) → slice_get marks i ≡ Some b → settled i b
+  pub each : (i : ℕ) (b : Bool) → slice_get marks i ≡ Some b → IsActorSettled net journals earlier (actor_at net i) b
 
 -- what a pass has done after so many actors: it has placed something, or these are settled
-pub record IsPassing (net : Topology) (journals : Journaled) (settled : List Event → ℕ → Bool → Type 0) (old new : Board) (n : ℕ) (moved : Bool) (marks : List Bool) : Type 0 where
+pub record IsPassing (net : Topology) (journals : Journaled) (old new : Board) (n : ℕ) (moved : Bool) (marks : List Bool) : Type 0 where
   pub board : IsBoard net journals new
-  pub progress : MatchBool moved (count old < count new) ((new.events.items ≡ old.events.items) × (count new ≡ count old) × AreSettled (settled (reverse old.events.items)) n marks)
-
--- what a pass over all actors, so many sources and ports, has done
-pub record IsPass (net : Topology) (journals : Journaled) (old new : Board) (n m : ℕ) (seen : Seen) : Type 0 where
-  pub board : IsBoard net journals new
-  pub progress : MatchBool seen.moved (count old < count new)
-      (AreSettled (IsSourceSettled net journals (reverse new.events.items)) n seen.sources.items × AreSettled (IsPortSettled net journals (reverse new.events.items)) m seen.ports.items)
+  pub progress : MatchBool moved (count old < count new) ((new.events.items ≡ old.events.items) × (count new ≡ count old) × AreSettled net journals (reverse old.events.items) n marks)
 
 -- the board after some looks, at least as far, and further where something was placed
 pub record IsFurther (net : Topology) (journals : Journaled) (old new : Board) (moved : Bool) : Type 0 where

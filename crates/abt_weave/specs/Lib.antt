@@ -1,5 +1,6 @@
 pub mod Candidates
 pub mod Stops
+pub mod Actors
 pub mod Board
 pub mod Tried
 pub mod Comes

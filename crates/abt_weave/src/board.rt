@@ -1,13 +1,15 @@
 //! The events that are placed so far.
-ghost use Rattle.std.specs.Prelude.{◌++◌, ◌∷◌, [], List, IfOk, OnOk};
+ghost use Rattle.std.specs.Prelude.{◌≡◌, ◌++◌, ◌∷◌, [], List, length, IfOk, OnOk};
 ghost use Rattle.abt_net.specs.Topology.{Topology};
 ghost use Rattle.abt_model.specs.declared.event.Event.{Event as EventSpec};
 ghost use Rattle.abt_world.specs.Standing.{StandsFor};
+ghost use Rattle.abt_weave.specs.Actors.{IsAmong, place_in};
 ghost use Rattle.abt_weave.specs.Board.{journaled, IsBoard};
 
 use crate::given::Given;
 use abt_model::Event;
 use abt_world::World;
+use abt_woven::Actor;
 use std::alloc::{AllocError, Global};
 
 /// The events that are placed, the world after them, and how many entries of each actor they are.
@@ -33,6 +35,17 @@ impl<'run> Board<'run> {
             source_places,
             port_places,
         })
+    }
+
+    // How many entries of an actor are placed.
+    pub(crate) fn place_of(&self, actor: Actor) -> usize
+        requires { IsAmong (length self.now.source_places.items) (length self.now.port_places.items) actor }
+        ensures { result ≡ place_in self.now.source_places.items self.now.port_places.items actor }
+    {
+        match actor {
+            Actor::Source(conn) => self.source_places[usize::from(conn)],
+            Actor::Port(port) => self.port_places[usize::from(port)],
+        }
     }
 }
 

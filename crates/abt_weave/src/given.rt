@@ -1,10 +1,12 @@
 //! What is to be woven.
 ghost use Rattle.std.specs.Prelude.{◌≡◌, length};
-ghost use Rattle.abt_net.specs.Topology.{IsWithinRules};
+ghost use Rattle.abt_weave.specs.Actors.{IsAmong, entry_count};
+ghost use Rattle.abt_weave.specs.Board.{journaled};
 
 use abt_journal::Entry;
 use abt_net::Net;
 use abt_source_journal::SourceJournal;
+use abt_woven::Actor;
 
 /// The journals of all ports and of all sources of a net.
 #[derive(Clone, Copy)]
@@ -14,17 +16,15 @@ pub(crate) struct Given<'run> {
     pub sources: &'run [SourceJournal],
 }
 
-// How many connections a net has.
-pub(crate) fn conn_count(net: &Net) -> u16
-    ensures value { result ≡ length net.now.conns }
-    ensures rules { IsWithinRules net.now }
-{
-    net.conns().len() as u16
-}
-
-// How many ports a net has.
-pub(crate) fn port_count(net: &Net) -> u16
-    ensures { result ≡ length net.now.capacities }
-{
-    net.capacities().len() as u16
+impl Given<'_> {
+    // How many entries the journal of an actor has.
+    pub(crate) fn entry_count(&self, actor: Actor) -> usize
+        requires { IsAmong (length self.now.sources.now) (length self.now.ports.now) actor }
+        ensures { result ≡ entry_count (journaled self.now.ports.now self.now.sources.now) actor }
+    {
+        match actor {
+            Actor::Source(conn) => self.sources[usize::from(conn)].entries.as_slice().len(),
+            Actor::Port(port) => self.ports[usize::from(port)].len(),
+        }
+    }
 }

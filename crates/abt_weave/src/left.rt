@@ -1,10 +1,11 @@
 //! Actors that have entries left.
 ghost use Rattle.std.specs.Prelude.{◌≡◌, ◌++◌, length, reverse, IfOk, OnOk};
 ghost use Rattle.abt_weave.specs.Board.{journaled, IsBoard};
-ghost use Rattle.abt_weave.specs.Faults.{left_at, left_below, source_left, port_left, all_left};
+ghost use Rattle.abt_weave.specs.Faults.{left_at, all_left};
 
+use crate::actors::{actor_at, actor_count};
 use crate::board::Board;
-use crate::given::{Given, conn_count, port_count};
+use crate::given::Given;
 use abt_list::Sequence;
 use abt_woven::{Actor, Stuck};
 use std::alloc::{AllocError, Global};
@@ -25,40 +26,6 @@ fn push_left(
     Ok(())
 }
 
-// Adds all sources that have entries left.
-fn push_sources(given: &Given, board: &Board, left: &mut Sequence<Stuck>) -> Result<(), AllocError>
-    requires conns { length given.now.sources.now ≡ length given.now.net.now.conns }
-    requires ports { length given.now.ports.now ≡ length given.now.net.now.capacities }
-    requires board { IsBoard given.now.net.now (journaled given.now.ports.now given.now.sources.now) board.now }
-    ensures { OnOk result (left.new ≡ left.old ++ left_below
-        (source_left given.now.net.now (journaled given.now.ports.now given.now.sources.now) (reverse board.now.events.items)) (length given.now.sources.now)) }
-{
-    for conn in 0..conn_count(given.net) {
-        let number = usize::from(conn);
-        let entries = given.sources[number].entries.as_slice();
-        let place = board.source_places[number];
-        push_left(left, Actor::Source(conn), place, entries.len())?;
-    }
-    Ok(())
-}
-
-// Adds all ports that have entries left.
-fn push_ports(given: &Given, board: &Board, left: &mut Sequence<Stuck>) -> Result<(), AllocError>
-    requires conns { length given.now.sources.now ≡ length given.now.net.now.conns }
-    requires ports { length given.now.ports.now ≡ length given.now.net.now.capacities }
-    requires board { IsBoard given.now.net.now (journaled given.now.ports.now given.now.sources.now) board.now }
-    ensures { OnOk result (left.new ≡ left.old ++ left_below
-        (port_left given.now.net.now (journaled given.now.ports.now given.now.sources.now) (reverse board.now.events.items)) (length given.now.ports.now)) }
-{
-    for port in 0..port_count(given.net) {
-        let number = usize::from(port);
-        let entries = given.ports[number].as_slice();
-        let place = board.port_places[number];
-        push_left(left, Actor::Port(port), place, entries.len())?;
-    }
-    Ok(())
-}
-
 /// All actors that have entries left, sources by number and then ports by number.
 pub(crate) fn actors_left(
     alloc: Global,
@@ -71,7 +38,10 @@ pub(crate) fn actors_left(
     ensures { IfOk result (λ left. left ≡ all_left given.now.net.now (journaled given.now.ports.now given.now.sources.now) (reverse board.now.events.items)) }
 {
     let mut left = Sequence::new(alloc);
-    push_sources(given, board, &mut left)?;
-    push_ports(given, board, &mut left)?;
+    for number in 0..actor_count(given.net) {
+        let actor = actor_at(given.net, number);
+        let place = board.place_of(actor);
+        push_left(&mut left, actor, place, given.entry_count(actor))?;
+    }
     Ok(left)
 }

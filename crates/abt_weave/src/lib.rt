@@ -1,6 +1,7 @@
 //! Journals of ports and sources woven into one list of events.
 #![tactic(auto)]
 
+mod actors;
 mod asked;
 mod board;
 mod candidate;

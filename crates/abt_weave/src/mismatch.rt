@@ -1,52 +1,30 @@
 //! The first entry that mismatches.
 ghost use Rattle.std.specs.Prelude.{◌≡◌, length, MatchOption};
-ghost use Rattle.abt_woven.specs.declared.actor.Actor.TheVariants.{Source, Port};
 ghost use Rattle.abt_net.specs.Topology.{IsWithinRules};
+ghost use Rattle.abt_weave.specs.Actors as actors;
 ghost use Rattle.abt_weave.specs.Board.{journaled, IsBoard};
 ghost use Rattle.abt_weave.specs.Marks.{AreUnmarked, IsFirstMark};
 
+use crate::actors::{actor_at, actor_count};
 use crate::board::Board;
-use crate::given::{Given, conn_count, port_count};
-use abt_woven::{Actor, Stuck};
+use crate::given::Given;
+use abt_woven::Stuck;
 
-// The first source that is marked, with its place.
-pub(crate) fn first_source(given: &Given, board: &Board, marks: &[bool]) -> Option<Stuck>
+// The first actor that is marked, with its place.
+pub(crate) fn first_mismatch(given: &Given, board: &Board, marks: &[bool]) -> Option<Stuck>
     requires conns { length given.now.sources.now ≡ length given.now.net.now.conns }
     requires ports { length given.now.ports.now ≡ length given.now.net.now.capacities }
-    requires marks { length marks.now ≡ length given.now.sources.now }
+    requires marks { length marks.now ≡ actors.actor_count given.now.net.now }
     requires board { IsBoard given.now.net.now (journaled given.now.ports.now given.now.sources.now) board.now }
     ensures rules { IsWithinRules given.now.net.now }
     ensures first { MatchOption result (AreUnmarked marks.now (length marks.now))
-        (λ stuck. IsFirstMark marks.now Source board.now.source_places.items stuck) }
+        (IsFirstMark given.now.net.now marks.now board.now.source_places.items board.now.port_places.items) }
 {
-    for conn in 0..conn_count(given.net) {
-        let place = usize::from(conn);
-        if marks[place] {
-            return Some(Stuck {
-                actor: Actor::Source(conn),
-                place: board.source_places[place] as u64,
-            });
-        }
-    }
-    None
-}
-
-// The first port that is marked, with its place.
-pub(crate) fn first_port(given: &Given, board: &Board, marks: &[bool]) -> Option<Stuck>
-    requires conns { length given.now.sources.now ≡ length given.now.net.now.conns }
-    requires ports { length given.now.ports.now ≡ length given.now.net.now.capacities }
-    requires marks { length marks.now ≡ length given.now.ports.now }
-    requires board { IsBoard given.now.net.now (journaled given.now.ports.now given.now.sources.now) board.now }
-    ensures { MatchOption result (AreUnmarked marks.now (length marks.now))
-        (λ stuck. IsFirstMark marks.now Port board.now.port_places.items stuck) }
-{
-    for port in 0..port_count(given.net) {
-        let place = usize::from(port);
-        if marks[place] {
-            return Some(Stuck {
-                actor: Actor::Port(port),
-                place: board.port_places[place] as u64,
-            });
+    for number in 0..actor_count(given.net) {
+        if marks[usize::from(number)] {
+            let actor = actor_at(given.net, number);
+            let place = board.place_of(actor) as u64;
+            return Some(Stuck { actor, place });
         }
     }
     None

@@ -12,7 +12,7 @@ use crate::board::Board;
 use crate::fault::WeaveFault;
 use crate::given::Given;
 use crate::left::actors_left;
-use crate::mismatch::{first_port, first_source};
+use crate::mismatch::first_mismatch;
 use crate::pass::settle;
 use abt_list::Sequence;
 use abt_model::Event;
@@ -63,11 +63,8 @@ fn weave_given(alloc: Global, given: &Given) -> Result<Sequence<Event>, WeaveFau
     ensures none { IfErr result (SaysNoneIsWoven given.now.net.now (journaled given.now.ports.now given.now.sources.now)) }
 {
     let mut board = Board::new(alloc, given)?;
-    let seen = settle(alloc, given, &mut board)?;
-    if let Some(Stuck { actor, place }) = first_source(given, &board, &seen.sources) {
-        return Err(WeaveFault::Mismatch { actor, place });
-    }
-    if let Some(Stuck { actor, place }) = first_port(given, &board, &seen.ports) {
+    let marks = settle(alloc, given, &mut board)?;
+    if let Some(Stuck { actor, place }) = first_mismatch(given, &board, &marks) {
         return Err(WeaveFault::Mismatch { actor, place });
     }
     let left = actors_left(alloc, given, &board)?;

@@ -8,20 +8,19 @@ use Rattle.abt_net.specs.declared.conn.Conn.{Conn}
 use Rattle.abt_net.specs.Topology.{Topology, IsWithinRules}
 use Rattle.abt_node.specs.Table.{Table}
 use Rattle.abt_model.specs.Events.{AsksRate}
+use Rattle.abt_model.specs.PortTable.{port_table}
 use Rattle.abt_safety.specs.declared.tally.Tally.{Tally}
 use Rattle.abt_world.specs.declared.course.Course.{Course}
 use Rattle.abt_world.specs.Courses.{CourseView, course_of}
-use Rattle.abt_world.specs.Opening.{opening_table}
 use Rattle.abt_world.specs.Seen.{seen}
 use Rattle.abt_world.specs.Standing.{StandsFor}
 use Rattle.abt_world.specs.Tallied.{IsTallied}
 use Rattle.abt_world.proofs.Final.{AreOfPast, rates_pass, sums_pass, cells_pass}
-use Rattle.abt_world.proofs.Openings.{opening_is}
 use Rattle.abt_world.proofs.Tallying.{none_above, none_over, none_broken}
 
 -- nothing happened yet, to any connection or port
 pub record AreFresh (net : Topology) (ports : List Table) (courses : List Course) : Type 0 where
-  pub tables : (p : ℕ) → slice_get ports p ≡ option_map (λ (u : ℕ). opening_table p u net.conns) (slice_get net.capacities p)
+  pub tables : (p : ℕ) → slice_get ports p ≡ option_map (λ (_ : ℕ). port_table net [] p) (slice_get net.capacities p)
   pub fresh : map seen courses ≡ map (λ (conn : Conn). course_of conn.vc []) net.conns
 
 pub fresh_stands : (net : Topology) (ports : List Table) (courses : List Course) (looks : ℕ) → AreFresh net ports courses →
@@ -30,7 +29,7 @@ fresh_stands net ports courses looks are = record {
   rates = All-nil AsksRate;
   stands = record {
     net_is = refl;
-    ports = λ p. are.tables p ∙ opening_is net p;
+    ports = are.tables;
     courses = λ k. ap (λ (l : List CourseView). slice_get l k) are.fresh ∙ slice_get-map (λ (conn : Conn). course_of conn.vc []) net.conns k;
   };
 }

@@ -4,7 +4,7 @@ mod Arriving
 mod Happening
 pub mod Standings
 mod Pushing
-mod Openings
+pub mod Openings
 mod Final
 mod Touching
 mod Tallying

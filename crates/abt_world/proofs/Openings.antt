@@ -1,6 +1,6 @@
 -- A port that was given its connections one by one has the table of the empty past.
 use Rattle.std.proofs.Common.{◌≡◌, ℕ, ◌+◌, List, [], ◌∷◌, inl, inr, refl, sym, ap, ◌∙◌}
-use Rattle.std.specs.Prelude.{◌==◌, Some, None, option_map, slice_get, unwrap_or, if◌then◌else◌}
+use Rattle.std.specs.Prelude.{◌==◌, Some, None, slice_index, if◌then◌else◌}
 use Rattle.std.specs.FinMap.{from_entries}
 use Rattle.std.proofs.lemmas.Bool.{cases_Bool, cond-true, cond-false}
 use Rattle.abt_net.specs.declared.conn.Conn.{Conn}
@@ -8,8 +8,6 @@ use Rattle.abt_net.specs.Topology.{Topology}
 use Rattle.abt_node.specs.Table.{Table, opening, with_connection}
 use Rattle.abt_model.specs.Reserved.{hop_of}
 use Rattle.abt_model.specs.PortTable.{policing_by, kept_at, kept_from, port_table}
-use Rattle.abt_model.proofs.Worlds.{cases_option}
-use Rattle.std.proofs.lemmas.Option.{unwrap_or-slice_get}
 use Rattle.abt_world.specs.Opening.{joined, opening_table}
 
 -- a connection before its first request
@@ -33,12 +31,6 @@ opened id capacity c (conn ∷ conns) =
           ∙ sym (ap (λ es. record { id = id; capacity = capacity; connections = from_entries es }) (cond-false _ _ _ through))
     ]
 
--- the tables that a net begins with
-pub opening_is : (net : Topology) (p : ℕ) →
-    option_map (λ (u : ℕ). opening_table p u net.conns) (slice_get net.capacities p) ≡ option_map (λ (_ : ℕ). port_table net [] p) (slice_get net.capacities p)
-opening_is net p = elim (cases_option (slice_get net.capacities p)) [
-  | inl none ↦ ap (option_map (λ (u : ℕ). opening_table p u net.conns)) none ∙ sym (ap (option_map (λ (_ : ℕ). port_table net [] p)) none)
-  | inr some ↦ ap (option_map (λ (u : ℕ). opening_table p u net.conns)) some.1
-      ∙ ap Some (opened p some.0 0 net.conns ∙ ap (λ u. table_from p u 0 net.conns) (sym (sym (unwrap_or-slice_get net.capacities p 0) ∙ ap (λ o. unwrap_or o 0) some.1)))
-      ∙ sym (ap (option_map (λ (_ : ℕ). port_table net [] p)) some.1)
-]
+-- it is the net's
+pub opening_table-is : (net : Topology) (p : ℕ) → opening_table p (slice_index net.capacities p) net.conns ≡ port_table net [] p
+opening_table-is net p = opened p (slice_index net.capacities p) 0 net.conns

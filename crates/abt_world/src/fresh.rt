@@ -1,15 +1,15 @@
 //! A world before the first event.
-ghost use Rattle.std.specs.Prelude.{◌≡◌, ◌≢◌, ◌≤◌, ◌^◌, ℕ, [], All, AllPairs, IfOk, length, map, slice_get, option_map};
+ghost use Rattle.std.specs.Prelude.{◌≡◌, ℕ, [], IfOk, map, slice_get, option_map};
 ghost use Rattle.abt_net.specs.declared.conn.Conn.{Conn};
+ghost use Rattle.abt_model.specs.PortTable.{port_table};
 ghost use Rattle.abt_world.specs.Courses.{course_of};
 ghost use Rattle.abt_world.specs.Seen.{seen};
-ghost use Rattle.abt_world.specs.Opening.{opening_table};
 
 use crate::course::Course;
 use crate::opening::opening_port;
 use abt_actor::SourceActor;
 use abt_log::Log;
-use abt_net::Conn;
+use abt_net::{Conn, Net};
 use abt_node::Port;
 use std::alloc::{AllocError, Global};
 
@@ -28,22 +28,13 @@ pub(crate) fn fresh_courses(alloc: Global, conns: &[Conn]) -> Result<Vec<Course>
 }
 
 // The ports of a net, with the connections through them.
-pub(crate) fn opening_ports(
-    alloc: Global,
-    capacities: &[u64],
-    conns: &[Conn],
-) -> Result<Vec<Port>, AllocError>
-    requires ports { length capacities.now ≤ 256 }
-    requires capacities { All (λ u. u ≤ 2 ^ 60) capacities.now }
-    requires taus { All (λ conn. conn.tau ≤ 10 ^ 12) conns.now }
-    requires channels { AllPairs (λ b c. b.vc ≢ c.vc) conns.now }
-    requires count { length conns.now ≤ 1024 }
+pub(crate) fn opening_ports(alloc: Global, net: &Net) -> Result<Vec<Port>, AllocError>
     ensures { IfOk result (λ ports. (p : ℕ) → slice_get ports.items p
-        ≡ option_map (λ (u : ℕ). opening_table p u conns.now) (slice_get capacities.now p)) }
+        ≡ option_map (λ (_ : ℕ). port_table net.now [] p) (slice_get net.now.capacities p)) }
 {
     let mut ports = Vec::new(alloc);
-    for id in 0..capacities.len() {
-        ports.push(opening_port(alloc, id as u16, capacities[id], conns)?)?;
+    for id in 0..net.capacities().len() {
+        ports.push(opening_port(alloc, net, id as u16)?)?;
     }
     Ok(ports)
 }

@@ -18,5 +18,6 @@ pub use abt_list::Sequence;
 pub use abt_model::{Cause, Event, Heard, Outcome, SourceCommand};
 pub use abt_net::{Conn, Net, NetFault, Path};
 pub use abt_trace::Trace;
+pub use opening::opening_port;
 pub use whole::run;
 pub use world::World;

@@ -1,11 +1,12 @@
 //! Ports before the first event.
-ghost use Rattle.std.specs.Prelude.{◌≡◌, ◌≢◌, ◌<◌, ◌≤◌, ◌^◌, All, AllPairs, IfOk, OnOk, None, length};
+ghost use Rattle.std.specs.Prelude.{◌≡◌, ◌≢◌, ◌<◌, ◌≤◌, ◌^◌, [], All, AllPairs, IfOk, OnOk, None, length, slice_index};
 ghost use Rattle.std.specs.FinMap as map;
 ghost use Rattle.abt_node.specs.Table.{connection_at};
+ghost use Rattle.abt_model.specs.PortTable.{port_table};
 ghost use Rattle.abt_model.specs.Reserved as reserved;
 ghost use Rattle.abt_world.specs.Opening as opening;
 
-use abt_net::Conn;
+use abt_net::{Conn, Net};
 use abt_node::{AddFault, Port};
 use std::alloc::{AllocError, Global};
 
@@ -46,13 +47,8 @@ fn join(port: &mut Port, conn: &Conn) -> Result<(), AllocError>
     }
 }
 
-// A port with the connections through it.
-pub(crate) fn opening_port(
-    alloc: Global,
-    id: u16,
-    capacity: u64,
-    conns: &[Conn],
-) -> Result<Port, AllocError>
+// A port with those of these connections that go through it.
+fn port_with(alloc: Global, id: u16, capacity: u64, conns: &[Conn]) -> Result<Port, AllocError>
     requires capacity { capacity ≤ 2 ^ 60 }
     requires taus { All (λ conn. conn.tau ≤ 10 ^ 12) conns.now }
     requires channels { AllPairs (λ b c. b.vc ≢ c.vc) conns.now }
@@ -62,7 +58,24 @@ pub(crate) fn opening_port(
     let Some((first, others)) = conns.split_first() else {
         return Port::new(alloc, id, capacity);
     };
-    let mut port = opening_port(alloc, id, capacity, others)?;
+    let mut port = port_with(alloc, id, capacity, others)?;
     join(&mut port, first)?;
     Ok(port)
+}
+
+// The capacity of a port of a net.
+fn capacity_of(net: &Net, id: u16) -> u64
+    requires { id < length net.now.capacities }
+    ensures value { result ≡ slice_index net.now.capacities id }
+    ensures bound { result ≤ 2 ^ 60 }
+{
+    net.capacities()[usize::from(id)]
+}
+
+/// A port of a net before the first event, with the connections through it, of which it polices those whose path begins there.
+pub fn opening_port(alloc: Global, net: &Net, id: u16) -> Result<Port, AllocError>
+    requires { id < length net.now.capacities }
+    ensures { IfOk result (λ port. port ≡ port_table net.now [] id) }
+{
+    port_with(alloc, id, capacity_of(net, id), net.conns())
 }

@@ -71,7 +71,7 @@ impl<'net> World<'net> {
         ensures value { IfOk result (StandsFor net.now []) }
         ensures looks { IfOk result (λ world. world.looks ≡ 0) }
     {
-        let ports = opening_ports(alloc, net.capacities(), net.conns())?;
+        let ports = opening_ports(alloc, net)?;
         let courses = fresh_courses(alloc, net.conns())?;
         Ok(World {
             net,

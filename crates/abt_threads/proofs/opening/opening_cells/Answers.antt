@@ -1,7 +1,13 @@
-use Rattle.std.proofs.Common.{rules, ◌≡◌, ◌+◌, length, arith}
+use Rattle.std.proofs.Common.{rules, ◌≡◌, ◌+◌, ◌∙◌, sym, ap, subst, length, arith}
+use Rattle.abt_node.specs.Table.{Table}
+use Rattle.abt_journal.specs.Opening.{IsOpening}
 use Rattle.abt_ports.specs.declared.cell.PortCell.{PortCell}
 use Rattle.abt_threads.proofs.Opened.{places-push}
+use Rattle.abt_threads.proofs.Tables.{IsOpening-port}
 use Rattle.abt_threads.proofs.opening.opening_cells.Goals as goal
+
+pub new-requires : goal.new-requires
+new-requires c = subst IsOpening (sym c.in_ok-port.ensures) (IsOpening-port c.args.net.now c.loop-id.id)
 
 pub loop-id-preserved : goal.loop-id-preserved
 loop-id-preserved c =

@@ -7,31 +7,19 @@ use Rattle.abt_model.specs.declared.outcome.Outcome.TheVariants.{Asked, AskRefus
 use Rattle.abt_actor.specs.Commands.{command_answer, command_adds}
 use Rattle.abt_source.specs.SourceFacts.{StandsFor, view_of}
 use Rattle.abt_actor.specs.Actor.{ActorView, actor_of}
-use Rattle.abt_actor.specs.Sources.{source_in, state_in}
+use Rattle.abt_actor.specs.Sources.{source_in, state_in, actor_in}
 use Rattle.abt_actor.proofs.Asking.{goes, stays, request_answered, request_after, refusal_answered, refusal_after}
 use Rattle.abt_actor.proofs.actor.SourceActor.ask.Goals as goal
 
 -- the actor before
 abbrev before : goal.After-of_request → ActorView
-before c = record {
-  source = source_in c.self.inside.running;
-  state = state_in c.self.inside.running;
-  kept = c.self.inside.store.number;
-  cells = c.self.inside.cells;
-  clock = c.self.inside.clock;
-}
+before c = actor_in c.self.inside.running c.self.inside.store.number c.self.inside.cells c.self.inside.clock
 
 up : (c : goal.After-of_request) → (before c).state ≢ Down
 up c = search rules
 
 abbrev before' : goal.After-of_refusal → ActorView
-before' c = record {
-  source = source_in c.self.inside.running;
-  state = state_in c.self.inside.running;
-  kept = c.self.inside.store.number;
-  cells = c.self.inside.cells;
-  clock = c.self.inside.clock;
-}
+before' c = actor_in c.self.inside.running c.self.inside.store.number c.self.inside.cells c.self.inside.clock
 
 up' : (c : goal.After-of_refusal) → (before' c).state ≢ Down
 up' c = search rules

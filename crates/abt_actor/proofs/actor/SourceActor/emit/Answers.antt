@@ -4,19 +4,13 @@ use Rattle.abt_facts.specs.Source.{Down}
 use Rattle.abt_source.specs.SourceFacts.{StandsFor, view_of}
 use Rattle.abt_facts.specs.declared.fact.Fact.TheVariants.{Emitted as FactEmitted}
 use Rattle.abt_actor.specs.Actor.{ActorView, actor_of}
-use Rattle.abt_actor.specs.Sources.{source_in, state_in}
+use Rattle.abt_actor.specs.Sources.{source_in, state_in, actor_in}
 use Rattle.abt_actor.proofs.Emitting.{emission_answered, sound_emission, emission_after}
 use Rattle.abt_actor.proofs.actor.SourceActor.emit.Goals as goal
 
 -- the actor before
 abbrev pub before : goal.In-Ok → ActorView
-before c = record {
-  source = source_in c.self.inside.running;
-  state = state_in c.self.inside.running;
-  kept = c.self.inside.store.number;
-  cells = c.self.inside.cells;
-  clock = c.self.inside.clock;
-}
+before c = actor_in c.self.inside.running c.self.inside.store.number c.self.inside.cells c.self.inside.clock
 
 up : (c : goal.In-Ok) → (before c).state ≢ Down
 up c = search rules

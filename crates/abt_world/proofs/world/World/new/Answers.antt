@@ -1,8 +1,6 @@
-use Rattle.std.proofs.Common.{ℕ, List, [], map, ap, ◌∙◌}
-use Rattle.std.specs.Prelude.{option_map, slice_get}
+use Rattle.std.proofs.Common.{[], map, ap, ◌∙◌}
 use Rattle.abt_net.specs.declared.conn.Conn.{Conn}
 use Rattle.abt_world.specs.Courses.{course_of}
-use Rattle.abt_world.specs.Opening.{opening_table}
 use Rattle.abt_world.proofs.Beginning.{AreFresh, fresh_stands, fresh_number, fresh_tallied}
 use Rattle.abt_world.proofs.world.World.new.Goals as goal
 
@@ -12,10 +10,8 @@ invariant_of-result c =
     let ports = c.in_ok-ports.ports.items in
     let courses = c.in_ok-courses.courses.items in
     let fresh : AreFresh net ports courses = record {
-      tables = λ p. c.in_ok-ports.ensures p
-          ∙ ap (λ (conns : List Conn). option_map (λ (u : ℕ). opening_table p u conns) (slice_get c.capacities.result.now p)) c.conns.ensures.value
-          ∙ ap (λ (capacities : List ℕ). option_map (λ (u : ℕ). opening_table p u net.conns) (slice_get capacities p)) c.capacities.ensures.value;
-      fresh = c.in_ok-courses.ensures ∙ ap (map (λ (conn : Conn). course_of conn.vc [])) c.conns-2.ensures.value;
+      tables = c.in_ok-ports.ensures;
+      fresh = c.in_ok-courses.ensures ∙ ap (map (λ (conn : Conn). course_of conn.vc [])) c.conns.ensures.value;
     } in
     (fresh_number net ports courses fresh, c.conns.ensures.rules, fresh_tallied net ports courses c.none.result c.conns.ensures.rules fresh c.none.ensures.above c.none.ensures.over c.none.ensures.broken)
 
@@ -23,9 +19,7 @@ pub returns-clause-value : goal.returns-clause-value
 returns-clause-value c =
     let net = c.args.net.now in
     let fresh : AreFresh net c.in_ok-ports.ports.items c.in_ok-courses.courses.items = record {
-      tables = λ p. c.in_ok-ports.ensures p
-          ∙ ap (λ (conns : List Conn). option_map (λ (u : ℕ). opening_table p u conns) (slice_get c.capacities.result.now p)) c.conns.ensures.value
-          ∙ ap (λ (capacities : List ℕ). option_map (λ (u : ℕ). opening_table p u net.conns) (slice_get capacities p)) c.capacities.ensures.value;
-      fresh = c.in_ok-courses.ensures ∙ ap (map (λ (conn : Conn). course_of conn.vc [])) c.conns-2.ensures.value;
+      tables = c.in_ok-ports.ensures;
+      fresh = c.in_ok-courses.ensures ∙ ap (map (λ (conn : Conn). course_of conn.vc [])) c.conns.ensures.value;
     } in
     fresh_stands net c.in_ok-ports.ports.items c.in_ok-courses.courses.items 0 fresh

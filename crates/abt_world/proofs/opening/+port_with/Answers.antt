@@ -3,10 +3,10 @@ use Rattle.std.specs.FinMap as map
 use Rattle.abt_net.specs.declared.conn.Conn.{Conn}
 use Rattle.abt_node.specs.Table.{Table, connection_at}
 use Rattle.abt_world.proofs.Admitting.{OwnChannels, first_unknown, others_own, opening_few}
-use Rattle.abt_world.proofs.opening.+opening_port.Goals as goal
+use Rattle.abt_world.proofs.opening.+port_with.Goals as goal
 
-pub opening_port-requires : goal.opening_port-requires
-opening_port-requires t c =
+pub port_with-requires : goal.port_with-requires
+port_with-requires t c =
     let whole : c.args.conns.now ≡ c.in-Some.first.now ∷ c.in-Some.others.now = c.in-Some.ensures.cases.0 in
     let shorter = ap length whole in
     let count = c.requires.count in
