@@ -13,6 +13,8 @@ from concurrent.futures import ThreadPoolExecutor
 from pathlib import Path
 
 AT_ONCE = 2
+# A build wants a test, and most crates have theirs in crates of tests.
+A_TEST = "\n#[cfg(test)]\nmod compiled {\n    #[test]\n    fn compiles() {}\n}\n"
 
 
 class Edit:
@@ -44,6 +46,12 @@ class Edit:
         return None
 
 
+def give_a_test(source):
+    if not any("#[test]" in file.read_text() for file in source.rglob("*.rt")):
+        top = source / "lib.rt"
+        top.write_text(top.read_text() + A_TEST)
+
+
 def copied(top, to):
     shutil.copytree(top / "crates", to / "crates", ignore=shutil.ignore_patterns("out"))
     for name in ("crates.txt", "HANDLES"):
@@ -59,6 +67,7 @@ def verdict(top, edit):
         fault = edit.apply(root)
         if fault:
             return fault
+        give_a_test(root / "crates" / edit.crate / "src")
         run = subprocess.run(
             ["rt", "try", "--test"], cwd=root / "crates" / edit.crate, capture_output=True, text=True, check=False
         )

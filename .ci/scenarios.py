@@ -57,16 +57,48 @@ def of_files_and_outputs(program):
         ("threads over a folder", ["threads", ".", "--workers", "1"], b"", "fault: read\n"),
     ]:
         yield from differences(name, ("", line, 1), run(program, words, text))
-    for words in [[], ["0"], ["65"], ["+4"], ["x"]]:
-        options = ["--workers", *words] if words else []
-        output, _, status = run(program, ["threads", "threads_one_source.toml", *options])
-        if output or status != 2:
-            yield f"threads with the options {options}: the output is {output!r}, the status {status}, and not 2"
+    beyond = "one_source.toml/x"
+    for name, words in [
+        ("a path through a file", ["run", beyond]),
+        ("a path through a file, with threads", ["threads", beyond, "--workers", "1"]),
+        ("a name of 5,000 octets", ["run", "n" * 5000]),
+        ("a name of 5,000 octets, with threads", ["threads", "n" * 5000, "--workers", "1"]),
+    ]:
+        yield from differences(name, ("", "fault: open\n", 1), run(program, words))
     if Path("/dev/full").exists():
-        with open("/dev/full", "wb") as full:
-            done = subprocess.run([program, "run", "one_source.toml"], cwd=FOLDER, stdout=full, stderr=subprocess.PIPE)
-        given = ("", done.stderr.decode(), done.returncode)
-        yield from differences("an output that takes nothing", ("", "fault: write\n", 1), given)
+        for words in (["run", "one_source.toml"], ["rate", "53e8"], ["--help"], ["help", "port"]):
+            with open("/dev/full", "wb") as full:
+                done = subprocess.run([program, *words], cwd=FOLDER, stdout=full, stderr=subprocess.PIPE)
+            given = ("", done.stderr.decode(), done.returncode)
+            yield from differences(f"{words} to an output that takes nothing", ("", "fault: write\n", 1), given)
+
+
+def of_words(program):
+    """What is told of words that are refused. `clap` writes most of these texts."""
+    more = "\n\nFor more information, try '--help'.\n"
+    count = "error: there are 1 to 64 link workers, a decimal number, digits alone"
+    limit = "error: a capacity is a decimal number of at most 2^60, digits alone"
+    for words, line in [
+        (["rate", b"\xff"], "error: a word is no UTF-8 text\n"),
+        (["run", b"\xffone_source.toml"], "error: a word is no UTF-8 text\n"),
+        ([b"\xff"], "error: a word is no UTF-8 text\n"),
+        (["port", "+5", "00"], limit + more),
+        (["threads", "threads_one_source.toml", "--workers", "+4"], count + more),
+    ]:
+        yield from differences(f"the words {words}", ("", line, 2), run(program, words))
+    for words, part in [
+        ([], "Usage: abt <COMMAND>"),
+        (["none"], "error: unrecognized subcommand 'none'"),
+        (["rate"], "error: the following required arguments were not provided"),
+        (["port", "1152921504606846977", "00"], "error: invalid value '1152921504606846977' for '<CAPACITY>'"),
+        (["threads", "threads_one_source.toml"], "error: the following required arguments were not provided"),
+        (["threads", "threads_one_source.toml", "--workers", "0"], "error: invalid value '0' for '--workers <N>'"),
+        (["threads", "threads_one_source.toml", "--workers", "65"], "error: invalid value '65' for '--workers <N>'"),
+        (["threads", "threads_one_source.toml", "--workers", "x"], "error: invalid value 'x' for '--workers <N>'"),
+    ]:
+        output, told, status = run(program, words)
+        if output or status != 2 or part not in told:
+            yield f"the words {words}: the output is {output!r}, the status {status}, and {told!r} is told"
 
 
 def of_model():
@@ -85,6 +117,7 @@ def main(programs):
         run(program, ["rate", "0000"])  # `./abt` builds the program, and says so
         told = [line for sample in samples for line in of_sample(program, sample)]
         told += of_files_and_outputs(program)
+        told += of_words(program)
         found += [f"{program.name}: {line}" for line in told]
     for line in found:
         print(f"scenarios: {line}")

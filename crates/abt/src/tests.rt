@@ -7,12 +7,13 @@ mod rates;
 mod runs;
 mod streams;
 mod threads;
+mod told;
 
 ghost use Rattle.std.specs.Prelude.{IfOk};
 ghost use Rattle.abt_perform.specs.Plans.{IsWithinLimits};
 
 use crate::words::plan_words;
-use abt_perform::{Plan, WordsFault, perform};
+use abt_perform::{Plan, perform};
 use std::alloc::Global;
 use std::io::{self, Error, ErrorKind, Read, Write};
 use std::process::Abort;
@@ -80,20 +81,13 @@ impl Write for Narrow {
     }
 }
 
-/// The plan of some words. Where memory is refused, the words are read again.
+/// The plan of some words.
 fn planned<'a>(alloc: Global, words: &'a [&'a str]) -> Result<Plan, Fail>
     ensures { IfOk result IsWithinLimits }
 {
-    let refused = match plan_words(alloc, words) {
-        Ok(plan) => return Ok(plan),
-        Err(fault) => fault,
-    };
-    if !matches!(refused, WordsFault::Memory) {
-        return Err(Fail::from("the words are no plan"));
-    }
     match plan_words(alloc, words) {
         Ok(plan) => Ok(plan),
-        Err(_) => Err(Fail::from("memory was refused twice")),
+        Err(_) => Err(Fail::from("the words are no plan")),
     }
 }
 
@@ -113,8 +107,7 @@ fn done_alone<R: Read, W: Write, E: Write>(
     }
 }
 
-/// Carries out what some words ask for, and demands the status and what goes out. Where memory is refused, the same plan
-/// is carried out again.
+/// Carries out what some words ask for, and demands the status, what goes out and what is told.
 fn expect(
     rt: &impl Abort,
     alloc: Global,
@@ -124,30 +117,18 @@ fn expect(
     fault: &str,
 ) -> Result<(), Fail> {
     let plan = planned(alloc, words)?;
-    if is_done(rt, alloc, &plan, status, text, fault) {
-        return Ok(());
-    }
-    if is_done(rt, alloc, &plan, status, text, fault) {
-        return Ok(());
-    }
-    Err(Fail::from("memory was refused twice"))
+    expect_of(rt, alloc, &plan, status, text, fault);
+    Ok(())
 }
 
-/// Whether a plan ends with this status, this text and this fault. If not, memory was refused: then that is told with
-/// status 1, and nothing goes out.
-fn is_done(rt: &impl Abort, alloc: Global, plan: &Plan, status: u8, text: &str, fault: &str) -> bool
+/// The same of a plan.
+fn expect_of(rt: &impl Abort, alloc: Global, plan: &Plan, status: u8, text: &str, fault: &str)
     requires { IsWithinLimits plan.now }
 {
     let mut out = Narrow::new(512);
     let mut errors = Narrow::new(512);
     let answer = done_alone(alloc, plan, &mut "".as_bytes(), &mut out, &mut errors);
-    if errors.taken() == "fault: memory\n".as_bytes() {
-        assert_eq!(rt; answer, 1);
-        assert_eq!(rt; out.taken(), "".as_bytes());
-        return false;
-    }
     assert_eq!(rt; errors.taken(), fault.as_bytes());
     assert_eq!(rt; out.taken(), text.as_bytes());
     assert_eq!(rt; answer, status);
-    true
 }

@@ -7,7 +7,8 @@ use Rattle.abt_facts.specs.Source.{SourceState, Down, Idle, Asking, state_of, cl
 use Rattle.abt_model.specs.declared.outcome.Cause.{Cause}
 use Rattle.abt_model.specs.declared.outcome.Outcome.{Outcome}
 use Rattle.abt_model.specs.declared.outcome.Outcome.TheVariants.{EmitRefused, NotEnabled}
-use Rattle.abt_model.specs.Answers.{if_up, emit_answer, emit_max}
+use Rattle.abt_rate.specs.Limits.{emit_max}
+use Rattle.abt_model.specs.Answers.{if_up, emit_answer}
 use Rattle.abt_access.specs.Deeds.{cell_in}
 
 not_late : (behind late : Bool) (cause : Cause) (fault : ShapeFault) (rest : Outcome) (cell : ℕ)

@@ -1,5 +1,6 @@
 //! Access workers.
-ghost use Rattle.std.specs.Prelude.{◌≡◌, ◌<◌, ◌≤◌, ◌^◌, ℕ, All, Some, IfOk, OnOk, IsErrOf, length, map, slice_index};
+ghost use Rattle.std.specs.Prelude.{◌≡◌, ◌<◌, ◌≤◌, ℕ, All, Some, IfOk, OnOk, IsErrOf, length, map, slice_index};
+ghost use Rattle.abt_rate.specs.Limits.{delay_max, tau_max};
 ghost use Rattle.std.specs.Option.{ForSome};
 ghost use Rattle.abt_journal.specs.declared.fault.ServeFault.{ServeFault};
 ghost use Rattle.abt_net.specs.Topology.{conn_at};
@@ -82,8 +83,8 @@ impl Site {
         command: &Command,
     ) -> Result<(), ServeFault>
         requires given { IsGiven line.now.conn.now.vc self.old.actor }
-        requires delay { line.now.conn.now.delay ≤ 10 ^ 13 }
-        requires jitter { IsInTolerance (10 ^ 12) command.now }
+        requires delay { line.now.conn.now.delay ≤ delay_max }
+        requires jitter { IsInTolerance tau_max command.now }
         ensures ok { OnOk result (Obeys line.now.conn.now line.now.number line.now.cell.now.port command.now self.old self.new) }
         ensures wound { (seen found : ℕ) → IsErrOf result (ServeFault.Wound seen found) → found < seen }
     {

@@ -1,5 +1,6 @@
 //! Cells of a source.
-ghost use Rattle.std.specs.Prelude.{◌≡◌, ◌≤◌, ◌<◌, ◌∷◌, ◌^◌, ℕ, List, OnOk, IsErrOf};
+ghost use Rattle.std.specs.Prelude.{◌≡◌, ◌≤◌, ◌<◌, ◌∷◌, ℕ, List, OnOk, IsErrOf};
+ghost use Rattle.abt_rate.specs.Limits.{delay_max, emit_max, tau_max};
 ghost use Rattle.std.specs.Option.{ForSome};
 ghost use Rattle.abt_facts.specs.declared.fact.Fact.{Fact};
 ghost use Rattle.abt_actor.specs.Actor.{actor_of};
@@ -19,9 +20,9 @@ use std::sync::Wait;
 
 // When a cell arrives that left at `now` and is later by its jitter than its line's delay: not before the last arrival.
 fn arrival_of(conn: &Conn, arrived: u64, now: u64, jitter: u64) -> u64
-    requires now { now ≤ 2 ^ 61 }
-    requires delay { conn.now.delay ≤ 10 ^ 13 }
-    requires jitter { jitter ≤ 10 ^ 12 }
+    requires now { now ≤ emit_max }
+    requires delay { conn.now.delay ≤ delay_max }
+    requires jitter { jitter ≤ tau_max }
     ensures { result ≡ deeds.arrival_of conn.now arrived now jitter }
 {
     (now + conn.delay + jitter).max(arrived)
@@ -47,8 +48,8 @@ impl Site {
         jitter: Option<u64>,
     ) -> Result<(), ServeFault>
         requires given { IsGiven line.now.conn.now.vc self.old.actor }
-        requires delay { line.now.conn.now.delay ≤ 10 ^ 13 }
-        requires jitter { ForSome jitter (λ j. j ≤ 10 ^ 12) }
+        requires delay { line.now.conn.now.delay ≤ delay_max }
+        requires jitter { ForSome jitter (λ j. j ≤ tau_max) }
         ensures ok { OnOk result (Obeys line.now.conn.now line.now.number line.now.cell.now.port (Emit now jitter) self.old self.new) }
         ensures wound { (seen found : ℕ) → IsErrOf result (ServeFault.Wound seen found) → found < seen }
     {

@@ -4,7 +4,7 @@ use Rattle.std.specs.Prelude.{max}
 use Rattle.std.proofs.lemmas.Bool.Decides.{nat_tests}
 use Rattle.abt_rate.specs.Rate.{IsRate, spacing_of}
 use Rattle.abt_cell.specs.Channel.{Channel}
-use Rattle.abt_shaper.specs.declared.limits.TheConstants.{EMIT_MAX}
+use Rattle.abt_rate.specs.Limits.{emit_max}
 use Rattle.abt_source.specs.SourceView.{SourceView}
 use Rattle.abt_source.specs.Calls.{emission_at, result_of_emission}
 use Rattle.abt_source.specs.SourceFacts.{StandsFor, view_of}
@@ -22,7 +22,7 @@ use Rattle.abt_actor.specs.Actor.{ActorView, actor_of, IsSound}
 
 -- what holds when a cell leaves
 pub record Leaves (next rate now after : ℕ) : Type 0 where
-  pub late : now ≤ EMIT_MAX
+  pub late : now ≤ emit_max
   pub some : 0 < rate
   pub due : next ≤ now
   pub later : after ≡ now + spacing_of rate

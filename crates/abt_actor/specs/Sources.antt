@@ -1,5 +1,6 @@
 -- A source in any state, as the code keeps it, and what an ask makes of it.
 use Rattle.std.specs.Prelude.{◌==◌, ◌+◌, ℕ, Result, Ok, Err, if◌then◌else◌}
+use Rattle.abt_rate.specs.Limits.{number_max}
 use Rattle.abt_cell.specs.Message.{Terms}
 use Rattle.abt_keep.specs.MemoryStore.{StoreView, keep_under}
 use Rattle.abt_keep.specs.declared.fault.StoreFault.{StoreFault}
@@ -35,5 +36,5 @@ asked_by running rate (Err _, store) = (Err (running, Keep), store)
 
 abbrev pub result_of_asking : Running → StoreView → ℕ → Result (SourceView × Terms) (Running × AskFault) × StoreView
 result_of_asking running store rate =
-    if (source_in running).last == 4294967295 then (Err (running, SeqExhausted), store)
+    if (source_in running).last == number_max then (Err (running, SeqExhausted), store)
     else asked_by running rate (keep_under store.plan store ((source_in running).last + 1))

@@ -9,6 +9,3 @@ mod running;
 pub use abt_model::{Cause, Heard, Outcome, SourceCommand};
 pub use actor::SourceActor;
 pub use added::Added;
-
-#[cfg(test)]
-mod tests;

@@ -5,10 +5,9 @@ use Rattle.std.specs.Int.{w16, w32, to_be_bytes}
 use Rattle.abt_rate.specs.Code.{code_of}
 use Rattle.abt_rate.specs.Rate.{units_of, IsCanonical}
 use Rattle.abt_cell.specs.Division.{remainder_of}
-use Rattle.abt_cell.specs.Layout.{pti_of, payload_of, flag, ask_code, floor_code, seq_of}
+use Rattle.abt_cell.specs.Layout.{pti_of, payload_of, flag, ask_code, floor_code, seq_of, rm_type, protocol_of, abt_protocol, direction_bit, congestion_bit, maintenance_bit, acknowledgement_bit, rigid_bit, filler_octet}
 use Rattle.abt_cell.specs.Message.{Terms}
 use Rattle.abt_cell.specs.Reading.{content_of}
-use Rattle.abt_cell.specs.declared.layout.TheConstants.{PROTOCOL, DIRECTION, CONGESTION, MAINTENANCE, ACKNOWLEDGEMENT, RIGID, RM_CELL, ABT, FILLER_OCTET}
 use Rattle.abt_cell.specs.declared.message.Rm.{Rm}
 use Rattle.abt_cell.specs.declared.message.Rm.TheVariants.{Request, Answer}
 use Rattle.abt_cell.specs.declared.fault.RmFault.{RmFault}
@@ -17,12 +16,12 @@ use Rattle.abt_cell.specs.declared.fault.RmFault.TheVariants.{NotRm, Crc, Protoc
 -- The fields are looked at in the order of the faults.
 unfoldable pub read_of : List ℕ → Result Rm RmFault
 read_of cell =
-    if pti_of cell == RM_CELL then (
+    if pti_of cell == rm_type then (
     if remainder_of (payload_of cell) == 0 then (
-    if slice_index cell PROTOCOL == ABT then (
-    if flag cell MAINTENANCE == 0 then (
-    if flag cell RIGID == 1 then (
-    if flag cell DIRECTION == flag cell ACKNOWLEDGEMENT then (
+    if protocol_of cell == abt_protocol then (
+    if flag cell maintenance_bit == 0 then (
+    if flag cell rigid_bit == 1 then (
+    if flag cell direction_bit == flag cell acknowledgement_bit then (
     if seq_of cell == 0 then Err SeqZero else (
     if nat_lt (units_of (ask_code cell)) (units_of (floor_code cell)) then Err RateOrder else
     Ok (content_of cell)
@@ -35,19 +34,19 @@ request_of (Answer reply) = reply.terms
 
 -- the flags as they are written
 abbrev pub flags_of : Rm → ℕ
-flags_of (Request terms) = 2 ^ RIGID
+flags_of (Request terms) = 2 ^ rigid_bit
 flags_of (Answer reply) =
-    2 ^ DIRECTION + 2 ^ ACKNOWLEDGEMENT + 2 ^ RIGID + (if reply.granted then 0 else 2 ^ CONGESTION)
+    2 ^ direction_bit + 2 ^ acknowledgement_bit + 2 ^ rigid_bit + (if reply.granted then 0 else 2 ^ congestion_bit)
 
 -- the octets of a cell with these fields, and the others as they are written
 abbrev pub octets_with : (header flags ask floor seq check : ℕ) → List ℕ
 octets_with header flags ask floor seq check =
-    to_be_bytes w32 header ++ (ABT ∷ flags ∷ []) ++ to_be_bytes w16 ask ++ to_be_bytes w16 floor ++ replicate 6 0
-    ++ to_be_bytes w32 seq ++ replicate 30 FILLER_OCTET ++ to_be_bytes w16 check
+    to_be_bytes w32 header ++ (abt_protocol ∷ flags ∷ []) ++ to_be_bytes w16 ask ++ to_be_bytes w16 floor ++ replicate 6 0
+    ++ to_be_bytes w32 seq ++ replicate 30 filler_octet ++ to_be_bytes w16 check
 
 -- the header of an RM cell
 abbrev pub header_for : Terms → ℕ
-header_for terms = terms.vc.vpi * 2 ^ 20 + terms.vc.vci * 2 ^ 4 + RM_CELL * 2
+header_for terms = terms.vc.vpi * 2 ^ 20 + terms.vc.vci * 2 ^ 4 + rm_type * 2
 
 -- the cell with a check that may be any
 abbrev pub draft_of : Rm → ℕ → List ℕ

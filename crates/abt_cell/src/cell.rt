@@ -1,7 +1,7 @@
 //! Cells of 52 octets.
 
 ghost use Rattle.std.specs.Prelude.{◌≡◌, ◌↔◌, length, IsTrue, IsOk, IfOk};
-ghost use Rattle.abt_cell.specs.Layout.{long_at, channel_of, pti_of, clp_of, payload_of};
+ghost use Rattle.abt_cell.specs.Layout.{header_of, channel_of, pti_of, clp_of, payload_of};
 
 use crate::fault::CellFault;
 use crate::layout::{CELL_LENGTH, HEADER, PAYLOAD, PAYLOAD_LENGTH};
@@ -83,7 +83,7 @@ impl Cell {
     }
 
     fn header(&self) -> u32
-        ensures { result ≡ long_at self.now HEADER }
+        ensures { result ≡ header_of self.now }
     {
         self.long_at(HEADER)
     }

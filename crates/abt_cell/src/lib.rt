@@ -19,6 +19,3 @@ pub use message::{Answer, Request, Rm};
 pub use read::read_rm;
 pub use vc::Vc;
 pub use write::write_rm;
-
-#[cfg(test)]
-mod tests;

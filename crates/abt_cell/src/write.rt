@@ -2,7 +2,7 @@
 
 ghost use Rattle.std.specs.Prelude.{◌≡◌, ℕ, ◌+◌, ◌*◌, ◌^◌, ◌<◌, List};
 ghost use Rattle.abt_cell.specs.Codec.{written_of, draft_of, octets_with, header_for, IsSayable};
-ghost use Rattle.abt_cell.specs.Layout.{IsCell};
+ghost use Rattle.abt_cell.specs.Layout.{IsCell, rm_type};
 ghost use Rattle.abt_cell.specs.Reading.{Reads, IsWritten, IsOnlyWritten};
 ghost use Rattle.abt_cell.specs.declared.message.Rm.{Rm};
 
@@ -55,7 +55,7 @@ fn draft(rm: &Rm, check: u16) -> [u8; CELL_LENGTH]
 
 // The header of an RM cell on a channel.
 fn header(vc: Vc) -> u32
-    ensures value { result ≡ vc.vpi * 2 ^ 20 + vc.vci * 2 ^ 4 + RM_CELL * 2 }
+    ensures value { result ≡ vc.vpi * 2 ^ 20 + vc.vci * 2 ^ 4 + rm_type * 2 }
     ensures fits { (vc.vpi < 2 ^ 12) × (vc.vci < 2 ^ 16) }
 {
     ((vc.vpi() as u32) << 20) + ((vc.vci() as u32) << 4) + ((RM_CELL as u32) << 1)

@@ -7,6 +7,3 @@ mod path;
 
 pub use following::follow;
 pub use next_message::Next;
-
-#[cfg(test)]
-mod tests;

@@ -5,7 +5,7 @@ use Rattle.std.proofs.lemmas.List.{get_or-map, length-map}
 use Rattle.std.proofs.lemmas.Bool.{cases_order, cases_lt}
 use Rattle.abt_gcra.specs.declared.fault.GcraFault.{GcraFault}
 use Rattle.abt_gcra.specs.declared.fault.GcraFault.TheVariants.{ClockBack, TimeRange}
-use Rattle.abt_gcra.specs.declared.limits.TheConstants.{ARRIVE_MAX}
+use Rattle.abt_rate.specs.Limits.{arrive_max}
 use Rattle.abt_gcra.specs.Refusal.{moments_in, clock_before, IsRefused, IsFirstRefused}
 
 pub one_index : (moments : List ℕ) (i j : ℕ) (f g : GcraFault) → IsFirstRefused moments i f → IsFirstRefused moments j g → i ≡ j
@@ -56,7 +56,7 @@ first_back pairs index clock within clock_is accepted back =
       first = λ before other below refused. accepted before other below refused;
     }
 
-pub first_late : (pairs : List (ℕ × ℕ)) (index clock : ℕ) → index < length pairs → clock ≡ clock_before (moments_in pairs) index → AreAccepted (moments_in pairs) index → clock ≤ (get_or pairs index (0, 0)).0 → ARRIVE_MAX < (get_or pairs index (0, 0)).0 → IsFirstRefused (moments_in pairs) index TimeRange
+pub first_late : (pairs : List (ℕ × ℕ)) (index clock : ℕ) → index < length pairs → clock ≡ clock_before (moments_in pairs) index → AreAccepted (moments_in pairs) index → clock ≤ (get_or pairs index (0, 0)).0 → arrive_max < (get_or pairs index (0, 0)).0 → IsFirstRefused (moments_in pairs) index TimeRange
 first_late pairs index clock within clock_is accepted onward late =
     let at = moment-at pairs index within in
     record {
@@ -66,7 +66,7 @@ first_late pairs index clock within clock_is accepted onward late =
     }
 
 -- one more cell is accepted, and the clock is its arrival
-pub accepted_next : (pairs : List (ℕ × ℕ)) (index clock : ℕ) → index < length pairs → clock ≡ clock_before (moments_in pairs) index → AreAccepted (moments_in pairs) index → ((get_or pairs index (0, 0)).0 < clock → ⊥) → ((clock ≤ (get_or pairs index (0, 0)).0) × (ARRIVE_MAX < (get_or pairs index (0, 0)).0) → ⊥) → AreAccepted (moments_in pairs) (index + 1)
+pub accepted_next : (pairs : List (ℕ × ℕ)) (index clock : ℕ) → index < length pairs → clock ≡ clock_before (moments_in pairs) index → AreAccepted (moments_in pairs) index → ((get_or pairs index (0, 0)).0 < clock → ⊥) → ((clock ≤ (get_or pairs index (0, 0)).0) × (arrive_max < (get_or pairs index (0, 0)).0) → ⊥) → AreAccepted (moments_in pairs) (index + 1)
 accepted_next pairs index clock within clock_is accepted onward in_range =
     let at = moment-at pairs index within in
     accepted_more (moments_in pairs) index accepted (λ back. onward (omega (arith, back))) (

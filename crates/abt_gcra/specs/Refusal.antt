@@ -1,6 +1,6 @@
 -- Cells that are handed in together, as pairs of arrival and spacing, and the first that is refused.
 use Rattle.std.specs.Prelude.{ℕ, zero, suc, ◌<◌, ◌≤◌, List, length, map, slice_index}
-use Rattle.abt_gcra.specs.declared.limits.TheConstants.{ARRIVE_MAX}
+use Rattle.abt_rate.specs.Limits.{arrive_max}
 use Rattle.abt_gcra.specs.declared.fault.GcraFault.{GcraFault}
 use Rattle.abt_gcra.specs.declared.fault.GcraFault.TheVariants.{ClockBack, TimeRange}
 use Rattle.abt_gcra.specs.Windows.{Arrival, arrival}
@@ -22,7 +22,7 @@ abbrev pub IsRefused : List ℕ → ℕ → GcraFault → Type 0
 IsRefused moments index ClockBack = slice_index moments index < clock_before moments index
 IsRefused moments index TimeRange =
     (clock_before moments index ≤ slice_index moments index) ×
-    (ARRIVE_MAX < slice_index moments index)
+    (arrive_max < slice_index moments index)
 
 -- the first cell that is refused, and why
 pub record IsFirstRefused (moments : List ℕ) (index : ℕ) (fault : GcraFault) : Type 0 where

@@ -1,11 +1,11 @@
 //! The generic cell rate algorithm as a leaky bucket.
 ghost use Rattle.std.specs.Prelude.{◌≡◌, ◌<◌, ◌≤◌, ◌↔◌, List, [], IfOk, OnErr, IsErrOf};
+ghost use Rattle.abt_rate.specs.Limits.{arrive_max, spacing_max, tau_max};
 ghost use Rattle.abt_gcra.specs.Policing.{fresh_policing, checked};
 ghost use Rattle.abt_gcra.specs.Standing.{StandsFor};
 ghost use Rattle.abt_gcra.specs.Windows.{Arrival, arrival, IsVerdict, taken_after};
 
 use crate::fault::{GcraFault, may_arrive};
-use crate::limits::{ARRIVE_MAX, SPACING_MAX, TAU_MAX};
 use crate::verdict::Verdict;
 use std::marker::Model;
 
@@ -44,7 +44,7 @@ impl Model for Bucket {
 impl Bucket {
     /// An empty bucket of a tolerance.
     pub fn new(tau: u64) -> Bucket
-        requires { tau ≤ TAU_MAX }
+        requires { tau ≤ tau_max }
         ensures value { result ≡ fresh_policing tau }
         ensures windows { StandsFor result [] }
     {
@@ -61,13 +61,13 @@ impl Bucket {
     ///
     /// # Errors
     /// [`GcraFault::ClockBack`] if the arrival is below that of the last cell that was given a verdict, and else
-    /// [`GcraFault::TimeRange`] above [`ARRIVE_MAX`]. Nothing has changed then.
+    /// [`GcraFault::TimeRange`] above [`ARRIVE_MAX`](crate::ARRIVE_MAX). Nothing has changed then.
     pub fn check(&mut self, at: u64, spacing: u64) -> Result<Verdict, GcraFault>
         requires least { 1 ≤ spacing }
-        requires greatest { spacing ≤ SPACING_MAX }
+        requires greatest { spacing ≤ spacing_max }
         ensures clock_back { IsErrOf result GcraFault.ClockBack ↔ (at < self.old.clock) }
         ensures time_range { IsErrOf result GcraFault.TimeRange ↔
-            ((self.old.clock ≤ at) × (ARRIVE_MAX < at)) }
+            ((self.old.clock ≤ at) × (arrive_max < at)) }
         ensures ok { IfOk result (λ verdict. (verdict, self.new) ≡ checked self.old at spacing) }
         ensures windows { (taken : List Arrival) → StandsFor self.old taken →
             IfOk result (λ verdict. IsVerdict self.old.tau taken (arrival at spacing) verdict ×
@@ -82,7 +82,7 @@ impl Bucket {
     #[tactic(auto, unfolding(crate::specs::Policing::checked))]
     fn take(&mut self, at: u64, spacing: u64) -> Verdict
         requires onward { self.old.clock ≤ at }
-        requires greatest { spacing ≤ SPACING_MAX }
+        requires greatest { spacing ≤ spacing_max }
         ensures { (result, self.new) ≡ checked self.old at spacing }
     {
         let level = match self.last_taken {

@@ -1,5 +1,6 @@
 //! Why a cell is given no verdict.
 ghost use Rattle.std.specs.Prelude.{◌≡◌, ◌<◌, ◌≤◌, ◌↔◌, IsErrOf};
+ghost use Rattle.abt_rate.specs.Limits.{arrive_max};
 
 use crate::limits::ARRIVE_MAX;
 use thiserror::Error;
@@ -33,7 +34,7 @@ pub enum PoliceFault {
 // Whether a cell may arrive at a moment, where the last one arrived at the clock.
 pub(crate) fn may_arrive(clock: u64, at: u64) -> Result<(), GcraFault>
     ensures clock_back { IsErrOf result GcraFault.ClockBack ↔ (at < clock) }
-    ensures time_range { IsErrOf result GcraFault.TimeRange ↔ ((clock ≤ at) × (ARRIVE_MAX < at)) }
+    ensures time_range { IsErrOf result GcraFault.TimeRange ↔ ((clock ≤ at) × (arrive_max < at)) }
 {
     if at < clock {
         return Err(GcraFault::ClockBack);

@@ -1,11 +1,11 @@
 //! The generic cell rate algorithm by virtual scheduling.
 ghost use Rattle.std.specs.Prelude.{◌≡◌, ◌<◌, ◌≤◌, ◌↔◌, List, [], IfOk, OnErr, IsErrOf};
+ghost use Rattle.abt_rate.specs.Limits.{arrive_max, spacing_max, tau_max};
 ghost use Rattle.abt_gcra.specs.Policing.{fresh_policing, checked};
 ghost use Rattle.abt_gcra.specs.Standing.{StandsFor};
 ghost use Rattle.abt_gcra.specs.Windows.{Arrival, arrival, IsVerdict, taken_after};
 
 use crate::fault::{GcraFault, may_arrive};
-use crate::limits::{ARRIVE_MAX, SPACING_MAX, TAU_MAX};
 use crate::verdict::Verdict;
 use std::marker::Model;
 
@@ -37,7 +37,7 @@ impl Model for Gcra {
 impl Gcra {
     /// An algorithm of a tolerance that has met no cell.
     pub fn new(tau: u64) -> Gcra
-        requires { tau ≤ TAU_MAX }
+        requires { tau ≤ tau_max }
         ensures value { result ≡ fresh_policing tau }
         ensures windows { StandsFor result [] }
     {
@@ -53,13 +53,13 @@ impl Gcra {
     ///
     /// # Errors
     /// [`GcraFault::ClockBack`] if the arrival is below that of the last cell that was given a verdict, and else
-    /// [`GcraFault::TimeRange`] above [`ARRIVE_MAX`]. Nothing has changed then.
+    /// [`GcraFault::TimeRange`] above [`ARRIVE_MAX`](crate::ARRIVE_MAX). Nothing has changed then.
     pub fn check(&mut self, at: u64, spacing: u64) -> Result<Verdict, GcraFault>
         requires least { 1 ≤ spacing }
-        requires greatest { spacing ≤ SPACING_MAX }
+        requires greatest { spacing ≤ spacing_max }
         ensures clock_back { IsErrOf result GcraFault.ClockBack ↔ (at < self.old.clock) }
         ensures time_range { IsErrOf result GcraFault.TimeRange ↔
-            ((self.old.clock ≤ at) × (ARRIVE_MAX < at)) }
+            ((self.old.clock ≤ at) × (arrive_max < at)) }
         ensures ok { IfOk result (λ verdict. (verdict, self.new) ≡ checked self.old at spacing) }
         ensures windows { (taken : List Arrival) → StandsFor self.old taken →
             IfOk result (λ verdict. IsVerdict self.old.tau taken (arrival at spacing) verdict ×
@@ -73,8 +73,8 @@ impl Gcra {
     // Takes a cell that may arrive, unless it comes too early.
     #[tactic(auto, unfolding(crate::specs::Policing::checked))]
     fn take(&mut self, at: u64, spacing: u64) -> Verdict
-        requires arrival { at ≤ ARRIVE_MAX }
-        requires greatest { spacing ≤ SPACING_MAX }
+        requires arrival { at ≤ arrive_max }
+        requires greatest { spacing ≤ spacing_max }
         ensures { (result, self.new) ≡ checked self.old at spacing }
     {
         self.clock = at;
@@ -90,7 +90,7 @@ impl Gcra {
     pub(crate) fn advance(&mut self, at: u64) -> Result<(), GcraFault>
         ensures clock_back { IsErrOf result GcraFault.ClockBack ↔ (at < self.old.clock) }
         ensures time_range { IsErrOf result GcraFault.TimeRange ↔
-            ((self.old.clock ≤ at) × (ARRIVE_MAX < at)) }
+            ((self.old.clock ≤ at) × (arrive_max < at)) }
         ensures ok { IfOk result (λ _. self.new ≡ record self.old { clock = at }) }
         ensures same { OnErr result (self.new ≡ self.old) }
     {

@@ -1,5 +1,6 @@
 //! A policer that follows the rate that is held.
 ghost use Rattle.std.specs.Prelude.{◌≡◌, ◌<◌, ◌≤◌, ◌↔◌, List, [], IfOk, OnErr, IsErrOf};
+ghost use Rattle.abt_rate.specs.Limits.{arrive_max, tau_max};
 ghost use Rattle.abt_rate.specs.Rate.{spacing_of};
 ghost use Rattle.abt_gcra.specs.Policing.{fresh_policing, policed};
 ghost use Rattle.abt_gcra.specs.Standing.{StandsFor};
@@ -7,7 +8,6 @@ ghost use Rattle.abt_gcra.specs.Windows.{Arrival, arrival, IsVerdictAt, taken_af
 
 use crate::fault::GcraFault;
 use crate::gcra::Gcra;
-use crate::limits::{ARRIVE_MAX, TAU_MAX};
 use crate::verdict::Verdict;
 use abt_rate::Rate;
 use std::marker::Model;
@@ -36,7 +36,7 @@ impl Model for Policer {
 impl Policer {
     /// A policer of a tolerance that has met no cell.
     pub fn new(tau: u64) -> Policer
-        requires { tau ≤ TAU_MAX }
+        requires { tau ≤ tau_max }
         ensures value { result ≡ fresh_policing tau }
         ensures windows { StandsFor result [] }
     {
@@ -50,12 +50,12 @@ impl Policer {
     ///
     /// # Errors
     /// [`GcraFault::ClockBack`] if the arrival is below that of the last cell that was given a verdict, and else
-    /// [`GcraFault::TimeRange`] above [`ARRIVE_MAX`]. Nothing has changed then.
+    /// [`GcraFault::TimeRange`] above [`ARRIVE_MAX`](crate::ARRIVE_MAX). Nothing has changed then.
     #[tactic(auto, using(crate::proofs::PolicingLemmas::policed_windows), unfolding(crate::specs::Policing::policed))]
     pub fn arrive(&mut self, at: u64, held: Rate) -> Result<Verdict, GcraFault>
         ensures clock_back { IsErrOf result GcraFault.ClockBack ↔ (at < self.old.clock) }
         ensures time_range { IsErrOf result GcraFault.TimeRange ↔
-            ((self.old.clock ≤ at) × (ARRIVE_MAX < at)) }
+            ((self.old.clock ≤ at) × (arrive_max < at)) }
         ensures ok { IfOk result (λ verdict. (verdict, self.new) ≡ policed self.old at held) }
         ensures windows { (taken : List Arrival) → StandsFor self.old taken →
             IfOk result (λ verdict. IsVerdictAt self.old.tau taken at held verdict ×

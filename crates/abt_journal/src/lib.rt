@@ -12,6 +12,3 @@ pub use fault::ServeFault;
 pub use input::{PortInput, PortReply};
 pub use seat::Seat;
 pub use state::PortState;
-
-#[cfg(test)]
-mod tests;

@@ -10,6 +10,3 @@ pub use fault::StoreFault;
 pub use memory::MemoryStore;
 pub use plan::StorePlan;
 pub use store::SeqStore;
-
-#[cfg(test)]
-mod tests;

@@ -6,6 +6,3 @@ mod ledger;
 
 pub use hold::Hold;
 pub use ledger::Ledger;
-
-#[cfg(test)]
-mod tests;

@@ -9,7 +9,7 @@ use Rattle.abt_facts.specs.Requests.{was_asked, floor_of, ask_of}
 use Rattle.abt_facts.specs.Source.{stored_of, last_of, yes_was_heard}
 use Rattle.abt_facts.specs.Sent.{was_passed, was_shut, was_turned, was_back}
 use Rattle.abt_facts.specs.Hop.{newest_of}
-use Rattle.abt_model.specs.Answers.{number_max}
+use Rattle.abt_rate.specs.Limits.{number_max}
 use Rattle.abt_model.proofs.Lawful.{Route, IsAtHop, IsYesAtHop, MayFollow, IsLawful}
 use Rattle.abt_model.proofs.Cases.{passed_cases, shut_cases, back_cases, turned_cases, yes_heard_cases, passed_more, shut_more, back_more, turned_more, asked_more, passed_newest, shut_newest, newest_kept}
 

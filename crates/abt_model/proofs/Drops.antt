@@ -25,7 +25,8 @@ use Rattle.abt_model.specs.Conns.{conn_at}
 use Rattle.abt_cell.specs.Channel.{Channel}
 use Rattle.abt_model.specs.Past.{facts_of}
 use Rattle.abt_model.specs.Decision.{request_of, answer_to}
-use Rattle.abt_model.specs.Answers.{emit_max, start_max, number_max, if_up, start_answer, next_request, stored_answer, again_answer, emit_answer, arrive_answer, is_hop, answer_by}
+use Rattle.abt_rate.specs.Limits.{emit_max, number_max}
+use Rattle.abt_model.specs.Answers.{start_max, if_up, start_answer, next_request, stored_answer, again_answer, emit_answer, arrive_answer, is_hop, answer_by}
 use Rattle.abt_model.specs.Outcomes.{conn_of, outcome_at}
 use Rattle.abt_model.specs.Promises.{disputes, NeverDisputes}
 use Rattle.abt_model.proofs.Chain.{passed_all, at_asked, shut_next_passed, turned_passed, back_turned, turned_open}

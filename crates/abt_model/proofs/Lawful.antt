@@ -9,7 +9,8 @@ use Rattle.abt_facts.specs.Source.{Asking, state_of, rate_of, stored_of, last_of
 use Rattle.abt_facts.specs.Sent.{was_delivered, was_passed, was_shut, was_turned, was_back}
 use Rattle.abt_facts.specs.Hop.{newest_of, held_of}
 use Rattle.abt_facts.specs.Cells.{emitted_of, moment_of, fence_of, last_arrival_of, verdict_at}
-use Rattle.abt_model.specs.Answers.{emit_max, start_max, number_max}
+use Rattle.abt_rate.specs.Limits.{emit_max, number_max}
+use Rattle.abt_model.specs.Answers.{start_max}
 
 -- of a connection: its hops, the least delay of its access line, and by how much that varies
 pub record Route : Type 0 where

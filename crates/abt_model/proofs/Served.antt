@@ -21,7 +21,8 @@ use Rattle.abt_facts.specs.Cells.{emitted_of, moment_of, last_arrival_of, fence_
 use Rattle.abt_net.specs.Topology.{Topology, IsWithinRules, IsConnWithin}
 use Rattle.abt_model.specs.Conns.{conn_at}
 use Rattle.abt_model.specs.Past.{facts_of}
-use Rattle.abt_model.specs.Answers.{emit_max, arrive_answer}
+use Rattle.abt_rate.specs.Limits.{emit_max}
+use Rattle.abt_model.specs.Answers.{arrive_answer}
 use Rattle.abt_model.specs.Promises.{ArrivalsConform, NextIsDue, CellsAreApart, ArrivalsInRange}
 use Rattle.abt_model.proofs.Answered.{past_cases}
 use Rattle.abt_model.proofs.Worlds.{outcome_of-known, AllLawful, lawful_at, all_at}

@@ -30,7 +30,8 @@ use Rattle.abt_cell.specs.Message.{Reply}
 use Rattle.abt_cell.specs.Channel.{Channel}
 use Rattle.abt_model.specs.Events.{AsksRate}
 use Rattle.abt_model.specs.Decision.{request_of, answer_to}
-use Rattle.abt_model.specs.Answers.{emit_max, start_max, number_max, if_up, start_answer, ask_answer, emit_answer, arrive_answer, hearing, told_answer, is_hop, answer_by}
+use Rattle.abt_rate.specs.Limits.{emit_max, number_max}
+use Rattle.abt_model.specs.Answers.{start_max, if_up, start_answer, ask_answer, emit_answer, arrive_answer, hearing, told_answer, is_hop, answer_by}
 use Rattle.abt_model.specs.Outcomes.{delivery, request_adds, answer_adds, facts_added}
 use Rattle.abt_model.proofs.Chain.{at_asked, asked_last, stored_within}
 use Rattle.abt_model.proofs.Decisions.{decide, decide_back, decide_pass, decide_refuse, decide_back_pass}

@@ -1,6 +1,7 @@
 -- What the events of one connection answer, by the connection's facts, the newest first (docs/FORMATS.md, "Events and
 -- outcomes"). The causes that stop an event are tried in the order of that table.
 use Rattle.std.specs.Prelude.{ℕ, ◌+◌, ◌-◌, ◌^◌, ◌==◌, ◌&&◌, not, nat_lt, nat_le, Bool, List, length, if◌then◌else◌, min}
+use Rattle.abt_rate.specs.Limits.{emit_max, number_max}
 use Rattle.abt_rate.specs.Rate.{spacing_of}
 use Rattle.abt_cell.specs.Channel.{Channel}
 use Rattle.abt_cell.specs.Message.{Terms}
@@ -24,16 +25,9 @@ use Rattle.abt_model.specs.declared.outcome.Outcome.{Outcome}
 use Rattle.abt_model.specs.declared.outcome.Outcome.TheVariants.{Started, StartRefused, Asked, AskRefused, Repeated, Crashed, Emitted, EmitRefused, Arrived, Requested, Turned, Answered, Told as HasTold, NotEnabled}
 use Rattle.abt_model.specs.Decision.{request_of, answer_to, request_decision, answer_decision}
 
--- the greatest moment of an emission, so that a shaper's next moment stays in range, and the greatest of a start
-abbrev pub emit_max : ℕ
-emit_max = 2 ^ 61
-
+-- the greatest moment of a start: the hold-off then ends at the last moment at which a cell may leave
 abbrev pub start_max : ℕ
 start_max = emit_max - hold_off
-
--- the last of all numbers: a source that used it refuses to ask
-abbrev pub number_max : ℕ
-number_max = 4294967295
 
 -- what a source that is up answers, while one that is down answers nothing else
 abbrev pub if_up : SourceState → Outcome → Outcome

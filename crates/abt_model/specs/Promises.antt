@@ -1,5 +1,6 @@
 -- What is promised of every past that events lead to, beside that it is safe.
-use Rattle.std.specs.Prelude.{◌≡◌, ◌≢◌, ◌⊎◌, ℕ, ◌+◌, ◌*◌, ◌^◌, ◌≤◌, Bool, true, false, List, length, All, Some}
+use Rattle.std.specs.Prelude.{◌≡◌, ◌≢◌, ◌⊎◌, ℕ, ◌+◌, ◌*◌, ◌≤◌, Bool, true, false, List, length, All, Some}
+use Rattle.abt_rate.specs.Limits.{arrive_max}
 use Rattle.abt_rate.specs.Rate.{spacing_of}
 use Rattle.abt_gcra.specs.declared.verdict.Verdict.{Verdict}
 use Rattle.abt_gcra.specs.declared.verdict.Verdict.TheVariants.{Conforming}
@@ -96,4 +97,4 @@ CellsAreApart net past = (c : ℕ) → 234 * emitted_of (facts_of c past) ≤ ne
 abbrev pub ArrivalsInRange : Topology → List ConnectionFact → Type 0
 ArrivalsInRange net past =
     (c cell at : ℕ) (conn : Conn) (verdict : Verdict) → conn_at net c ≡ Some conn → outcome_of net past (Arrive c cell at) ≡ Arrived verdict →
-    (last_arrival_of (facts_of c past) ≤ at) × (at ≤ 2 ^ 62) × (held_of (facts_of c past) 1 ≢ 0)
+    (last_arrival_of (facts_of c past) ≤ at) × (at ≤ arrive_max) × (held_of (facts_of c past) 1 ≢ 0)

@@ -1,5 +1,6 @@
 -- Why two lists are no net, and which fault is named where several apply.
-use Rattle.std.specs.Prelude.{◌≡◌, ℕ, ◌^◌, ◌<◌, ◌≤◌, ◌⊎◌, List, length, slice_index, IsSomeAnd, Any}
+use Rattle.std.specs.Prelude.{◌≡◌, ℕ, ◌<◌, ◌≤◌, ◌⊎◌, List, length, slice_index, IsSomeAnd, Any}
+use Rattle.abt_rate.specs.Limits.{capacity_max, ports_max, net_connections_max, hops_max, tau_max, delay_max}
 use Rattle.abt_net.specs.declared.conn.Conn.{Conn}
 use Rattle.abt_net.specs.declared.fault.NetFault.{NetFault}
 use Rattle.abt_net.specs.declared.fault.NetFault.TheVariants.{NoPort, PathLength, PathRepeat, VcRepeat, Limit, Memory}
@@ -11,7 +12,7 @@ LeavesNet ports conn = Any (λ p. ports ≤ p) conn.path
 
 -- The path has no hop, or too many.
 abbrev pub HasWrongLength : Conn → Type 0
-HasWrongLength conn = (length conn.path ≡ 0) ⊎ (16 < length conn.path)
+HasWrongLength conn = (length conn.path ≡ 0) ⊎ (hops_max < length conn.path)
 
 -- The path visits a port, and later visits it again.
 abbrev pub VisitsTwice : Conn → Type 0
@@ -24,10 +25,10 @@ RepeatsChannel conns c = (c < length conns) × ((b : ℕ) × (b < c) × (channel
 -- There are too many ports or connections, a capacity is too great, or a connection's tau or delay is too long.
 abbrev pub IsPastLimits : Topology → Type 0
 IsPastLimits net =
-    (256 < length net.capacities)
-    ⊎ ((1024 < length net.conns)
-    ⊎ (Any (λ u. 2 ^ 60 < u) net.capacities
-    ⊎ Any (λ conn. (10 ^ 12 < conn.tau) ⊎ (10 ^ 13 < conn.delay)) net.conns))
+    (ports_max < length net.capacities)
+    ⊎ ((net_connections_max < length net.conns)
+    ⊎ (Any (λ u. capacity_max < u) net.capacities
+    ⊎ Any (λ conn. (tau_max < conn.tau) ⊎ (delay_max < conn.delay)) net.conns))
 
 -- what each fault says; of want of memory the lists say nothing
 abbrev pub IsWrong : NetFault → Topology → Type 0

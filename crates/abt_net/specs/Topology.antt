@@ -1,5 +1,6 @@
 -- Nets, and the rules that they keep.
-use Rattle.std.specs.Prelude.{◌≢◌, ℕ, ◌^◌, ◌<◌, ◌≤◌, List, length, Option, slice_get, option_map, All, AllPairs}
+use Rattle.std.specs.Prelude.{◌≢◌, ℕ, ◌<◌, ◌≤◌, List, length, Option, slice_get, option_map, All, AllPairs}
+use Rattle.abt_rate.specs.Limits.{capacity_max, ports_max, net_connections_max, hops_max, tau_max, delay_max}
 use Rattle.abt_cell.specs.Channel.{Channel}
 use Rattle.abt_net.specs.declared.conn.Conn.{Conn}
 
@@ -20,15 +21,15 @@ channel_at conns c = option_map (λ (conn : Conn). conn.vc) (slice_get conns c)
 pub record IsConnWithin (ports : ℕ) (conn : Conn) : Type 0 where
   pub in_net : All (λ p. p < ports) conn.path
   pub has_hop : 0 < length conn.path
-  pub hops : length conn.path ≤ 16
+  pub hops : length conn.path ≤ hops_max
   pub visits_once : AllPairs (λ p q. p ≢ q) conn.path
-  pub tau : conn.tau ≤ 10 ^ 12
-  pub delay : conn.delay ≤ 10 ^ 13
+  pub tau : conn.tau ≤ tau_max
+  pub delay : conn.delay ≤ delay_max
 
 -- the rules that each net keeps
 pub record IsWithinRules (net : Topology) : Type 0 where
   pub each_conn : All (IsConnWithin (length net.capacities)) net.conns
   pub own_channels : AllPairs (λ b c. b.vc ≢ c.vc) net.conns
-  pub ports : length net.capacities ≤ 256
-  pub connections : length net.conns ≤ 1024
-  pub each_capacity : All (λ u. u ≤ 2 ^ 60) net.capacities
+  pub ports : length net.capacities ≤ ports_max
+  pub connections : length net.conns ≤ net_connections_max
+  pub each_capacity : All (λ u. u ≤ capacity_max) net.capacities

@@ -14,6 +14,3 @@ pub use fault::NetFault;
 pub use limits::{CAPACITY_MAX, CONNECTIONS_MAX, DELAY_MAX, HOPS_MAX, PORTS_MAX, TAU_MAX};
 pub use net::Net;
 pub use path::Path;
-
-#[cfg(test)]
-mod tests;

@@ -6,8 +6,8 @@ use Rattle.std.specs.Coded.{Coded, code_by, coded×, coded_ℕ, coded_option}
 use Rattle.std.specs.FinMap as map
 use Rattle.abt_cell.specs.Channel.{Channel, channel_cmp, channel_code}
 use Rattle.abt_cell.specs.Message.{Terms, Reply}
+use Rattle.abt_rate.specs.Limits.{arrive_max}
 use Rattle.abt_gcra.specs.Policing.{Policing, policing_code, fresh_policing, policed}
-use Rattle.abt_gcra.specs.declared.limits.TheConstants.{ARRIVE_MAX}
 use Rattle.abt_gcra.specs.declared.verdict.Verdict.{Verdict}
 use Rattle.abt_node.specs.declared.fault.ArriveFault.{ArriveFault}
 use Rattle.abt_node.specs.declared.fault.ArriveFault.TheVariants as fault
@@ -120,7 +120,7 @@ abbrev pub arrival_by : (at held : ℕ) → Option Policing → Result Verdict A
 arrival_by at held None = Err fault.NotIngress
 arrival_by at held (Some p) =
     if nat_lt at p.clock then Err fault.ClockBack
-    else if nat_lt ARRIVE_MAX at then Err fault.TimeRange
+    else if nat_lt arrive_max at then Err fault.TimeRange
     else Ok (policed p at held).0
 
 abbrev pub arrival_of : ℕ → Option Connection → Result Verdict ArriveFault
@@ -135,7 +135,7 @@ arrival_at t vc at = arrival_of at (connection_at t vc)
 abbrev pub policing_after : (at held : ℕ) → Policing → Policing
 policing_after at held p =
     if nat_lt at p.clock then p
-    else if nat_lt ARRIVE_MAX at then p
+    else if nat_lt arrive_max at then p
     else (policed p at held).1
 
 abbrev pub table_by_arrival : Table → Channel → ℕ → Option Connection → Table

@@ -1,5 +1,6 @@
 //! A port: the ledger of its link, and a row for each connection.
 ghost use Rattle.std.specs.Prelude.{◌≡◌, ◌<◌, ◌≤◌, ◌↔◌, IsSome, IsNone, IsSomeAnd, IfOk, OnOk, OnErr, IsErrOf};
+ghost use Rattle.abt_rate.specs.Limits.{arrive_max, capacity_max, port_connections_max, tau_max};
 ghost use Rattle.std.specs.Option.{option_map, ForSome};
 ghost use Rattle.std.specs.FinMap as map;
 ghost use Rattle.indexmap.specs.IndexMap as index;
@@ -13,7 +14,7 @@ use crate::fault::{AddFault, ArriveFault};
 use crate::reply::{Back, DropCause, Onward};
 use crate::row::Row;
 use abt_cell::{Answer, Request, Vc};
-use abt_gcra::{ARRIVE_MAX, TAU_MAX, Verdict};
+use abt_gcra::Verdict;
 use abt_ledger::Ledger;
 use abt_rate::Rate;
 use indexmap::IndexMap;
@@ -25,6 +26,12 @@ pub const CONNECTIONS_MAX: usize = 1024;
 
 /// The greatest capacity of a port's link, in units: 2^60.
 pub const CAPACITY_MAX: u64 = 1152921504606846976;
+
+/// The constants are the limits that contracts name.
+pub fn limits_are_kept()
+    ensures connections { CONNECTIONS_MAX ≡ port_connections_max }
+    ensures capacity { CAPACITY_MAX ≡ capacity_max }
+{}
 
 /// The connections for which a new port has room.
 const ROWS_AT_FIRST: usize = 4;
@@ -70,7 +77,7 @@ fn place_of(places: &IndexMap<Vc, usize>, vc: Vc) -> Option<usize>
 impl Port {
     /// A port without connections, by the number given to it and the capacity of its link.
     pub fn new(alloc: Global, id: u16, capacity: u64) -> Result<Port, AllocError>
-        requires { capacity ≤ CAPACITY_MAX }
+        requires { capacity ≤ capacity_max }
         ensures { IfOk result (λ port. port ≡ new_table id capacity) }
     {
         let places = IndexMap::with_capacity(alloc, ROWS_AT_FIRST)?;
@@ -144,10 +151,10 @@ impl Port {
 
     /// Adds a connection that asked for nothing yet. With a tau the port is its ingress.
     pub fn add(&mut self, vc: Vc, tau: Option<u64>) -> Result<(), AddFault>
-        requires { ForSome tau (λ t. t ≤ TAU_MAX) }
+        requires { ForSome tau (λ t. t ≤ tau_max) }
         ensures known { IsErrOf result AddFault.Known ↔ IsSome (connection_at self.old vc) }
         ensures full { IsErrOf result AddFault.Full
-            ↔ (IsNone (connection_at self.old vc) × (CONNECTIONS_MAX ≤ map.len self.old.connections)) }
+            ↔ (IsNone (connection_at self.old vc) × (port_connections_max ≤ map.len self.old.connections)) }
         ensures ok { OnOk result (self.new ≡ with_connection self.old vc (opening tau)) }
         ensures same { OnErr result (self.new ≡ self.old) }
     {
@@ -204,7 +211,7 @@ impl Port {
         ensures clock_back { IsErrOf result ArriveFault.ClockBack
             ↔ IsSomeAnd (policing_at self.old vc) (λ p. at < p.clock) }
         ensures time_range { IsErrOf result ArriveFault.TimeRange
-            ↔ IsSomeAnd (policing_at self.old vc) (λ p. (p.clock ≤ at) × (ARRIVE_MAX < at)) }
+            ↔ IsSomeAnd (policing_at self.old vc) (λ p. (p.clock ≤ at) × (arrive_max < at)) }
     {
         let Some(place) = place_of(&self.places, vc) else {
             return Err(ArriveFault::UnknownVc);

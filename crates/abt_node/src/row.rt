@@ -1,10 +1,11 @@
 //! What a port keeps of one connection.
 ghost use Rattle.std.specs.Prelude.{◌≡◌, ◌≢◌, ◌<◌, ◌≤◌, ◌↔◌, IsNone, IsSomeAnd, IsErrOf};
+ghost use Rattle.abt_rate.specs.Limits.{arrive_max, tau_max};
 
 use crate::any_grant::AnyGrant;
 use crate::fault::ArriveFault;
 use abt_cell::Vc;
-use abt_gcra::{ARRIVE_MAX, Policer, TAU_MAX, Verdict};
+use abt_gcra::{Policer, Verdict};
 use abt_ledger::Ledger;
 
 /// What a port keeps of one connection: its grant and, where the port is its ingress, its policer.
@@ -23,7 +24,7 @@ impl Row {
 
     /// The row of a connection that asked for nothing yet. With a tau the port is its ingress.
     pub fn opening(ledger: &mut Ledger, vc: Vc, tau: Option<u64>) -> Row
-        requires { ForSome tau (λ t. t ≤ TAU_MAX) }
+        requires { ForSome tau (λ t. t ≤ tau_max) }
         ensures vc { result.vc ≡ vc }
         ensures value { connection_of result ≡ opening tau }
         ensures same { ledger.new ≡ ledger.old }
@@ -45,7 +46,7 @@ impl Row {
         ensures clock_back { IsErrOf result ArriveFault.ClockBack
             ↔ IsSomeAnd self.old.policer (λ p. at < p.clock) }
         ensures time_range { IsErrOf result ArriveFault.TimeRange
-            ↔ IsSomeAnd self.old.policer (λ p. (p.clock ≤ at) × (ARRIVE_MAX < at)) }
+            ↔ IsSomeAnd self.old.policer (λ p. (p.clock ≤ at) × (arrive_max < at)) }
     {
         let held = self.grant.held();
         let Some(policer) = &mut self.policer else {

@@ -3,3 +3,4 @@ pub mod RateText
 pub mod CellText
 pub mod PortText
 pub mod Plans
+pub mod Words

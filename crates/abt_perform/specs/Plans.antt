@@ -1,9 +1,10 @@
 -- What plans may ask for, and what they print.
-use Rattle.std.specs.Prelude.{◌≡◌, ℕ, ◌^◌, ◌≤◌, ◌⊎◌, ⊤, List, map, Option, Result, Ok, Err, IsOkAnd, String, string_bytes}
+use Rattle.std.specs.Prelude.{◌≡◌, ℕ, ◌+◌, ◌≤◌, ◌⊎◌, ⊤, List, map, Option, Result, Ok, Err, IsOkAnd, String, string_bytes}
 use Rattle.std.specs.Io.KnownBytes.{Appends, Keeps}
 use Rattle.std.specs.declared.alloc.Global.{Global}
+use Rattle.abt_rate.specs.Limits.{capacity_max, workers_max}
 use Rattle.abt_text.specs.Text.{Text}
-use Rattle.abt_text.specs.Streams.{AppendsPrefix, ConsumesAtMost}
+use Rattle.abt_text.specs.Streams.{AppendsPrefix, ConsumesAtMost, text_max}
 use Rattle.abt_scenario.specs.Engine.{Reports, Leaves}
 use Rattle.abt_scenario.specs.declared.engine.EngineFault.{EngineFault}
 use Rattle.abt_perform.specs.Names.{fault_line, fault_of_engine}
@@ -19,8 +20,8 @@ use Rattle.abt_perform.specs.declared.plan.Plan.{Plan}
 use Rattle.abt_perform.specs.declared.plan.Plan.TheVariants.{Rate, Cell, Port, Run, Threads}
 
 abbrev pub IsWithinLimits : Plan → Type 0
-IsWithinLimits (Port capacity cells) = capacity ≤ 2 ^ 60
-IsWithinLimits (Threads file workers) = (1 ≤ workers) × (workers ≤ 64)
+IsWithinLimits (Port capacity cells) = capacity ≤ capacity_max
+IsWithinLimits (Threads file workers) = (1 ≤ workers) × (workers ≤ workers_max)
 IsWithinLimits _ = ⊤
 
 -- a plan for threads, and one that needs none
@@ -72,23 +73,19 @@ EndsBy fault (Threads file workers) left old new = ⊥
 
 -- what a plan takes of the reader: nothing, but a scenario's text
 abbrev pub ReadsFor : Plan → (old new : Option Text) → Type 0
-ReadsFor (Run file) old new = ConsumesAtMost old new 16777217
-ReadsFor (Threads file workers) old new = ConsumesAtMost old new 16777217
+ReadsFor (Run file) old new = ConsumesAtMost old new (text_max + 1)
+ReadsFor (Threads file workers) old new = ConsumesAtMost old new (text_max + 1)
 ReadsFor _ old new = Keeps old new
 
 -- a text went out as far as the writer took it
 abbrev pub Tells : Text → Option Text → Option Text → Type 0
 Tells text old new = Appends old new text ⊎ AppendsPrefix old new text
 
--- the line of a fault, or, where no memory was found for it, that of want of memory, was told on standard error
-abbrev pub TellsFault : Fault → Option Text → Option Text → Type 0
-TellsFault fault old new = Tells (fault_line fault) old new ⊎ Tells (fault_line Memory) old new
-
 -- A plan that isn't done: why, what went out of its text, and what was told.
 pub record IsRefused (plan : Plan) (left old new errors_old errors_new : Option Text) : Type 0 where
   pub fault : Fault
   pub printed : EndsBy fault plan left old new
-  pub told : TellsFault fault errors_old errors_new
+  pub told : Tells (fault_line fault) errors_old errors_new
 
 -- What is answered where words are no plan: help, all of it, on standard output with status 0; what is told of words that
 -- are refused on standard error with status 2; else a fault with status 1.

@@ -1,6 +1,7 @@
 -- What `abt port` prints (docs/FORMATS.md, "The program"): a line for each cell, counted from 1, and the total.
 use Rattle.std.specs.Prelude.{ℕ, ◌+◌, List, [], ◌∷◌, Option, Some, None, Result, Ok, Err, codes, nat_le, if◌then◌else◌}
 use Rattle.std.specs.FinMap as map
+use Rattle.abt_rate.specs.Limits.{port_connections_max}
 use Rattle.abt_cell.specs.Channel.{Channel}
 use Rattle.abt_cell.specs.declared.message.Rm.{Rm}
 use Rattle.abt_cell.specs.declared.message.Rm.TheVariants.{Request, Answer}
@@ -16,11 +17,11 @@ use Rattle.abt_perform.specs.CellText.{message_of, message_hex, terms_of}
 use Rattle.abt_perform.specs.declared.fault.Fault.{Fault}
 use Rattle.abt_perform.specs.declared.fault.Fault.TheVariants.{Full}
 
--- a port's table that knows a connection: a new one is added, unless 1,024 are there
+-- a port's table that knows a connection: a new one is added, unless it has as many as it may
 abbrev pub table_knowing : Table → Channel → Option Table
 table_knowing table vc =
     if map.contains_key table.connections vc then Some table
-    else if nat_le 1024 (map.len table.connections) then None
+    else if nat_le port_connections_max (map.len table.connections) then None
     else Some (with_connection table vc (opening None))
 
 abbrev pub drop_text : DropCause → Text

@@ -1,11 +1,11 @@
-//! Why a plan isn't done, and what is printed of it.
-ghost use Rattle.std.specs.Prelude.{◌≡◌, IfOk, Some, string_bytes};
-ghost use Rattle.abt_perform.specs.Names.{fault_name, fault_line, rm_fault_name, fault_of_engine};
+//! Why a plan isn't done.
+ghost use Rattle.std.specs.Prelude.{◌≡◌, Some};
+ghost use Rattle.abt_perform.specs.Names.{fault_name, fault_of_engine};
 
-use crate::scenario_fault::ScenarioFaultName;
+use crate::naming::{FaultName, Fields, name_of};
 use abt_cell::RmFault;
 use abt_scenario::{EngineFault, ScenarioFault};
-use std::alloc::{AllocError, Global};
+use std::alloc::AllocError;
 use std::fmt;
 
 /// Why a plan, or one cell of it, isn't done. A fault shows itself by its name and its fields (docs/FORMATS.md, "The program").
@@ -78,50 +78,12 @@ impl fmt::Display for Fault {
     ghost output = { λ fault. Some (fault_name fault) };
 
     fn fmt<W: fmt::Write>(&self, f: &mut fmt::Formatter<W>) -> fmt::Result {
-        match self {
-            Fault::Code => write!(f, "code"),
-            Fault::Hex => write!(f, "hex"),
-            Fault::Length => write!(f, "Length"),
-            Fault::Rm(fault) => write!(f, "{}", rm_fault_name(*fault)),
-            Fault::Full => write!(f, "Full"),
-            Fault::Read => write!(f, "read"),
-            Fault::TooLong => write!(f, "TooLong"),
-            Fault::NotUtf8 => write!(f, "NotUtf8"),
-            Fault::Scenario(fault) => write!(f, "{}", ScenarioFaultName(*fault)),
-            Fault::Workers => write!(f, "Workers"),
-            Fault::Scripts => write!(f, "Scripts"),
-            Fault::Thread => write!(f, "Thread"),
-            Fault::Wound => write!(f, "Wound"),
-            Fault::Gather => write!(f, "Gather"),
-            Fault::NoOrder => write!(f, "NoOrder"),
-            Fault::Mismatch => write!(f, "Mismatch"),
-            Fault::Write => write!(f, "write"),
-            Fault::Memory => write!(f, "memory"),
+        let FaultName { words, fields } = name_of(*self);
+        match fields {
+            Fields::None => write!(f, "{words}"),
+            Fields::Key(key) => write!(f, "{words} {key}"),
+            Fields::One(number) => write!(f, "{words} {number}"),
+            Fields::Two(first, second) => write!(f, "{words} {first} {second}"),
         }
-    }
-}
-
-impl Fault {
-    /// The line that tells the fault of a plan.
-    pub fn line(self, alloc: Global) -> Result<String, AllocError>
-        ensures { IfOk result (λ line. string_bytes line ≡ fault_line self) }
-    {
-        let fault = self;
-        format!(in alloc; "fault: {fault}\n")
-    }
-}
-
-fn rm_fault_name(fault: RmFault) -> &'static str
-    ensures { result.now ≡ rm_fault_name fault }
-{
-    match fault {
-        RmFault::NotRm => "NotRm",
-        RmFault::Crc => "Crc",
-        RmFault::Protocol => "Protocol",
-        RmFault::Maintenance => "Maintenance",
-        RmFault::Elastic => "Elastic",
-        RmFault::Direction => "Direction",
-        RmFault::SeqZero => "SeqZero",
-        RmFault::RateOrder => "RateOrder",
     }
 }

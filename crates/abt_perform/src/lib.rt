@@ -4,11 +4,11 @@
 
 mod cell;
 mod fault;
+mod naming;
 mod performing;
 mod plan;
 mod port;
 mod rate;
-mod scenario_fault;
 mod telling;
 
 pub use cell::message_hex;

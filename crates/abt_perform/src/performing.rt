@@ -1,12 +1,13 @@
 //! Plans, carried out.
-ghost use Rattle.std.specs.Prelude.{◌≡◌, ◌≢◌, ◌⊎◌, ◌≤◌, ◌^◌, ◌+◌, Ok, Err, IfOk, IfErr, OnOk, IsOkAnd, string_bytes};
+ghost use Rattle.std.specs.Prelude.{◌≡◌, ◌≢◌, ◌⊎◌, ◌≤◌, ◌+◌, Ok, Err, IfOk, IfErr, OnOk, IsOkAnd, string_bytes};
+ghost use Rattle.abt_rate.specs.Limits.{capacity_max};
 ghost use Rattle.std.specs.Io.KnownBytes.{Appends, Keeps};
 ghost use Rattle.abt_perform.specs.Names.{fault_line};
 ghost use Rattle.abt_perform.specs.Plans.{IsWithinLimits, NeedsNoThreads, Prints, EndsBy, EndsTextBy, EndsRunBy, ReadsFor, IsRefused, text_seen, texts_of};
 ghost use Rattle.abt_perform.specs.PortText.{port_text};
 ghost use Rattle.abt_perform.specs.declared.fault.Fault.TheVariants.{Memory};
 ghost use Rattle.abt_scenario.specs.Engine.{Reports};
-ghost use Rattle.abt_text.specs.Streams.{ConsumesAtMost};
+ghost use Rattle.abt_text.specs.Streams.{ConsumesAtMost, text_max};
 
 use crate::cell::cell_text;
 use crate::fault::Fault;
@@ -15,7 +16,7 @@ use crate::port::port_text;
 use crate::rate::rate_text;
 use crate::telling::tell_fault;
 use abt_scenario::run_text;
-use abt_text::{TEXT_MAX, put};
+use abt_text::put;
 use std::alloc::Global;
 use std::io::{Read, Write};
 
@@ -40,7 +41,7 @@ pub fn perform<R: Read, W: Write, E: Write>(
     match print(alloc, plan, reader, writer) {
         Ok(()) => 0,
         Err(fault) => {
-            tell_fault(alloc, fault, errors);
+            tell_fault(fault, errors);
             1
         }
     }
@@ -84,7 +85,7 @@ fn put_text<W: Write>(text: Result<String, Fault>, writer: &mut W) -> Result<(),
 
 // The lines of some cells at a new port.
 fn port_lines(alloc: Global, capacity: u64, cells: &[String]) -> Result<String, Fault>
-    requires { capacity ≤ 2 ^ 60 }
+    requires { capacity ≤ capacity_max }
     ensures ok { IfOk result (λ text. string_bytes text ≡ port_text capacity (texts_of cells.now)) }
     ensures err { IfErr result (λ fault. fault ≡ Memory) }
 {
@@ -93,7 +94,7 @@ fn port_lines(alloc: Global, capacity: u64, cells: &[String]) -> Result<String, 
 
 // Writes the report of the scenario that the reader has.
 fn run<R: Read, W: Write>(alloc: Global, reader: &mut R, writer: &mut W) -> Result<(), Fault>
-    ensures reads { ConsumesAtMost (R.remaining reader.old) (R.remaining reader.new) (TEXT_MAX + 1) }
+    ensures reads { ConsumesAtMost (R.remaining reader.old) (R.remaining reader.new) (text_max + 1) }
     ensures ok { OnOk result (Reports (R.remaining reader.old) (W.contents writer.old) (W.contents writer.new)) }
     ensures err { IfErr result (λ fault.
         EndsRunBy fault (R.remaining reader.old) (W.contents writer.old) (W.contents writer.new)) }

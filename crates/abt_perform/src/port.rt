@@ -1,5 +1,6 @@
 //! The text of `abt port`.
-ghost use Rattle.std.specs.Prelude.{◌≡◌, ◌^◌, ◌≤◌, ◌+◌, ◌++◌, IfOk, OnOk, IfErr, string_bytes};
+ghost use Rattle.std.specs.Prelude.{◌≡◌, ◌≤◌, ◌+◌, ◌++◌, IfOk, OnOk, IfErr, string_bytes};
+ghost use Rattle.abt_rate.specs.Limits.{capacity_max};
 ghost use Rattle.abt_perform.specs.Names.{cause_name};
 ghost use Rattle.abt_perform.specs.Plans.{texts_of};
 ghost use Rattle.abt_perform.specs.PortText.{port_text, line_of, table_past, served_text, table_served, table_knowing, decision_text, table_decided, onward_text, back_text, drop_text, fault_text};
@@ -15,7 +16,7 @@ use std::alloc::{AllocError, Global};
 ///
 /// A connection is added when its first readable cell comes.
 pub fn port_text(alloc: Global, capacity: u64, cells: &[String]) -> Result<String, AllocError>
-    requires { capacity ≤ 2 ^ 60 }
+    requires { capacity ≤ capacity_max }
     ensures { IfOk result (λ text. string_bytes text ≡ port_text capacity (texts_of cells.now)) }
 {
     let mut port = Port::new(alloc, 0, capacity)?;

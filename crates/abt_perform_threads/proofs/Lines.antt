@@ -1,61 +1,63 @@
 -- Lines that go out one after the other.
-use Rattle.std.proofs.Common.{◌≡◌, ℕ, ◌+◌, ◌<◌, ◌≤◌, ◌⊎◌, inl, inr, true, List, ◌++◌, Option, Result, Ok, Err, IfErr, OnOk, length, take, sym, subst, arith, length-append}
-use Rattle.std.proofs.KnownBytes.{Appends-trans, Appends-kept}
-use Rattle.std.proofs.lemmas.List.{take-append-le}
-use Rattle.std.proofs.Math.Seq.{take-append-add}
-use Rattle.std.specs.Io.KnownBytes.{Appends, Keeps}
+use Rattle.std.proofs.Common.{◌≡◌, ℕ, List, [], Option, Result, Ok, Err, IfErr, IsErrAnd, take, ◌++◌, sym, subst, inl, inr}
+use Rattle.std.proofs.KnownBytes.{Appends-trans}
+use Rattle.std.specs.Io.KnownBytes.{Appends}
 use Rattle.abt_text.specs.Streams.{AppendsPrefix}
-use Rattle.abt_scenario.specs.declared.scenario.Scenario.{Scenario}
-use Rattle.abt_threads.specs.Runs.{IsRun}
+use Rattle.abt_net.specs.Topology.{Topology}
+use Rattle.abt_model.specs.declared.event.Event.{Event}
+use Rattle.abt_trace.specs.Traces.{IsTrace}
 use Rattle.abt_threads.specs.declared.gathered.Gathered.{Gathered}
-use Rattle.abt_perform.specs.declared.fault.Fault.{Fault}
-use Rattle.abt_perform_threads.specs.Shown.{gathered_line, woven_line, verdict_line, judged_text, shown_text, EndsJudgingBy, EndsShowingBy}
+use Rattle.abt_woven.specs.Woven.{IsWoven}
+use Rattle.abt_perform_threads.specs.Judging.{IsJudged, IsVerdict}
+use Rattle.abt_perform_threads.specs.Shown.{BreaksOff, BreaksOffJudged, ShowsAll, ShowsUntil, gathered_line, woven_line, verdict_line}
+use Rattle.abt_perform_threads.specs.declared.judging.Judged.{Judged}
+use Rattle.abt_perform_threads.specs.declared.ran.Ran.{Ran}
+use Rattle.abt_perform_threads.specs.declared.showing.ShowFault.TheVariants.{Trace, Write}
 
--- a part of the first text is one of both
-pub prefix_of_both : (a b : Option (List ℕ)) (bs cs : List ℕ) → AppendsPrefix a b bs → AppendsPrefix a b (bs ++ cs)
-prefix_of_both a b bs cs p =
-    let short = p.short in
-    record {
-      count = p.count;
-      short = (let sum = length-append bs cs in omega arith);
-      front = subst (Appends a b) (sym (take-append-le p.count bs cs (omega arith))) p.front;
-    }
+-- the first line breaks off
+pub breaks_off : (a b : Option (List ℕ)) (line : List ℕ) → AppendsPrefix a b line → BreaksOff [] line a b
+breaks_off a b line p = record { count = p.count; short = p.short; front = p.front }
 
--- the first text, and a part of the second
-pub prefix_after : (a b c : Option (List ℕ)) (bs cs : List ℕ) → Appends a b bs → AppendsPrefix b c cs → AppendsPrefix a c (bs ++ cs)
-prefix_after a b c bs cs first p =
-    let short = p.short in
-    record {
-      count = length bs + p.count;
-      short = (let sum = length-append bs cs in omega arith);
-      front = subst (Appends a c) (sym (take-append-add bs cs p.count)) (Appends-trans a b c bs (take p.count cs) first p.front);
-    }
+-- a line breaks off behind others
+pub breaks_off_after : (a b c : Option (List ℕ)) (before line : List ℕ) → Appends a b before → AppendsPrefix b c line → BreaksOff before line a c
+breaks_off_after a b c before line first p = record {
+  count = p.count;
+  short = p.short;
+  front = Appends-trans a b c before (take p.count line) first p.front;
+}
 
--- ---- the lines of a run
+-- what is said of the events that were woven, and of their trace
+pub is_judged : (net : Topology) (run : Gathered) (events : List Event) (judged : Judged)
+    → IsWoven net run.journals run.sources.items events → IsVerdict net events judged → IsJudged net run judged
+is_judged net run events judged woven verdict = record {
+  are_woven = subst (IsWoven net run.journals run.sources.items) (sym verdict.are_events) woven;
+  is_trace = subst (λ (these : List Event). IsTrace net these judged.trace) (sym verdict.are_events) verdict.is_trace;
+  is_safe = verdict.is_safe;
+}
 
-pub woven_part : (a b : Option (List ℕ)) → AppendsPrefix a b woven_line → AppendsPrefix a b judged_text
-woven_part a b p = prefix_of_both a b woven_line (verdict_line true) p
+-- two lines, and then the last one, or a part of it
+pub all_lines : (ran : Ran) (judged : Judged) (line : List ℕ) (a b c d : Option (List ℕ)) → IsJudged ran.net ran.gathered judged
+    → line ≡ verdict_line judged.trace.safe → Appends a b gathered_line → Appends b c woven_line → Appends c d line → ShowsAll ran judged a d
+all_lines ran judged line a b c d is word first second third = record {
+  is_judged = is;
+  lines = Appends-trans a b d gathered_line _ first (Appends-trans b c d woven_line _ second (subst (Appends c d) word third));
+}
 
-pub judged_part : (a b c : Option (List ℕ)) → Appends a b woven_line → AppendsPrefix b c (verdict_line true) → AppendsPrefix a c judged_text
-judged_part a b c first p = prefix_after a b c woven_line (verdict_line true) first p
+pub cut_verdict : (ran : Ran) (judged : Judged) (line : List ℕ) (a b c d : Option (List ℕ)) → IsJudged ran.net ran.gathered judged
+    → line ≡ verdict_line judged.trace.safe → Appends a b gathered_line → Appends b c woven_line → AppendsPrefix c d line → ShowsUntil ran Write a d
+cut_verdict ran judged line a b c d is word first second third = inr (inr (record {
+  judged = judged;
+  is_judged = is;
+  part = breaks_off_after a c d _ (verdict_line judged.trace.safe) (Appends-trans a b c gathered_line woven_line first second)
+      (subst (AppendsPrefix c d) word third);
+}))
 
-pub gathered_part : (a b : Option (List ℕ)) → AppendsPrefix a b gathered_line → AppendsPrefix a b shown_text
-gathered_part a b p = prefix_of_both a b gathered_line judged_text p
+pub untraced : (ran : Ran) (events : List Event) (a b c : Option (List ℕ)) → IsWoven ran.net ran.gathered.journals ran.gathered.sources.items events
+    → Appends a b gathered_line → Appends b c woven_line → ShowsUntil ran Trace a c
+untraced ran events a b c woven first second =
+    (record { events = events; are_woven = woven }, Appends-trans a b c gathered_line woven_line first second)
 
--- what a fault says once a run was gathered is what it says of the whole run
-pub shown_of_judged : (workers : ℕ) (scenario : Scenario) (run : Gathered) (fault : Fault) (a b c : Option (List ℕ))
-    → IsRun scenario.net scenario.scripts workers run → Appends a b gathered_line → EndsJudgingBy scenario.net run fault b c → EndsShowingBy workers scenario fault a c
-shown_of_judged workers scenario run fault a b c ran first (inl (why, kept)) =
-    inr (inl (record { run = run; ran = ran; why = why }, Appends-kept a b c gathered_line first kept))
-shown_of_judged workers scenario run fault a b c ran first (inr (inl (memory, woven))) =
-    inr (inr (inl (memory, Appends-trans a b c gathered_line woven_line first woven)))
-shown_of_judged workers scenario run fault a b c ran first (inr (inr (written, part))) =
-    inr (inr (inr (written, prefix_after a b c gathered_line judged_text first part)))
-
-pub if_err-map : {T E : Type 0} (r : Result T E) (P Q : E → Type 0) → ((y : E) → P y → Q y) → IfErr r P → IfErr r Q
-if_err-map (Ok x) P Q f p = p
-if_err-map (Err y) P Q f p = f y p
-
-pub on_ok-map : {T E : Type 0} (r : Result T E) (P Q : Type 0) → (P → Q) → OnOk r P → OnOk r Q
-on_ok-map (Ok x) P Q f p = f p
-on_ok-map (Err y) P Q f p = p
+-- an error of which a fact is known
+pub if_err-from : {T E : Type 0} (r : Result T E) (P Q : E → Type 0) → ((y : E) → P y → Q y) → IsErrAnd r P → IfErr r Q
+if_err-from (Ok x) P Q f p = absurd p
+if_err-from (Err y) P Q f p = f y p

@@ -1,10 +1,12 @@
--- What the faults of a run, and of weaving it, are to the program.
+-- What the faults of a run, and of showing it, are to the program.
 use Rattle.abt_perform.specs.declared.fault.Fault.{Fault}
-use Rattle.abt_perform.specs.declared.fault.Fault.TheVariants.{Workers, Scripts, Thread, Wound, Gather, NoOrder, Mismatch, Memory}
+use Rattle.abt_perform.specs.declared.fault.Fault.TheVariants.{Workers, Scripts, Thread, Wound, Gather, NoOrder, Mismatch, Write, Memory}
 use Rattle.abt_threads.specs.declared.fault.RunFault.{RunFault}
 use Rattle.abt_threads.specs.declared.fault.RunFault.TheVariants as run
 use Rattle.abt_weave.specs.declared.fault.WeaveFault.{WeaveFault}
 use Rattle.abt_weave.specs.declared.fault.WeaveFault.TheVariants as weave
+use Rattle.abt_perform_threads.specs.declared.showing.ShowFault.{ShowFault}
+use Rattle.abt_perform_threads.specs.declared.showing.ShowFault.TheVariants as show
 
 abbrev pub fault_of_run : RunFault → Fault
 fault_of_run run.Workers = Workers
@@ -18,3 +20,8 @@ abbrev pub fault_of_weave : WeaveFault → Fault
 fault_of_weave (weave.Mismatch actor place) = Mismatch
 fault_of_weave (weave.NoOrder stuck) = NoOrder
 fault_of_weave weave.Memory = Memory
+
+abbrev pub fault_of_show : ShowFault → Fault
+fault_of_show (show.Weave reason) = fault_of_weave reason
+fault_of_show show.Trace = Memory
+fault_of_show show.Write = Write

@@ -1,2 +1,4 @@
 pub mod Faults
+pub mod Judging
 pub mod Shown
+pub mod Performing

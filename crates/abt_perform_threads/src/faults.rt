@@ -1,7 +1,8 @@
-//! What the faults of a run, and of weaving it, are to the program.
+//! What the faults of a run, and of showing it, are to the program.
 ghost use Rattle.std.specs.Prelude.{◌≡◌};
 ghost use Rattle.abt_perform_threads.specs.Faults as named;
 
+use crate::showing::ShowFault;
 use abt_perform::Fault;
 use abt_threads::RunFault;
 use abt_weave::WeaveFault;
@@ -19,7 +20,17 @@ pub(crate) fn fault_of_run(fault: RunFault) -> Fault
     }
 }
 
-pub(crate) fn fault_of_weave(fault: &WeaveFault) -> Fault
+pub(crate) fn fault_of_show(fault: &ShowFault) -> Fault
+    ensures { result ≡ named.fault_of_show fault.now }
+{
+    match fault {
+        ShowFault::Weave(reason) => fault_of_weave(reason),
+        ShowFault::Trace => Fault::Memory,
+        ShowFault::Write => Fault::Write,
+    }
+}
+
+fn fault_of_weave(fault: &WeaveFault) -> Fault
     ensures { result ≡ named.fault_of_weave fault.now }
 {
     match fault {

@@ -2,10 +2,15 @@
 #![tactic(auto)]
 
 mod faults;
+mod judging;
 mod performing;
-mod steps;
+mod ran;
+mod showing;
 
+pub use judging::{Judged, judge};
 pub use performing::perform_threads;
+pub use ran::{Ran, Unrun};
+pub use showing::{ShowFault, Shown, show_run};
 
 #[cfg(test)]
 mod tests;

@@ -3,10 +3,9 @@
 mod faults;
 mod lines;
 mod memory;
+mod once;
 mod parcels;
 mod streams;
-
-ghost use Rattle.std.specs.Prelude.{◌≤◌};
 
 use crate::perform_threads;
 use abt_perform::Plan;
@@ -14,7 +13,6 @@ use std::alloc::Global;
 use std::io::{self, Error, ErrorKind, Read, Write};
 use std::process::Abort;
 use std::sync::Wait;
-use std::test::Fail;
 use std::thread::Threads;
 
 /// Three sources whose paths cross on two ports, with all that a script can have but failing stores. A source that hears no yes
@@ -81,15 +79,7 @@ struct Ended {
 }
 
 impl Ended {
-    /// Whether memory was refused, or what a refusal can look like: a thread that doesn't start, and a worker that keeps no
-    /// receipt.
-    fn lacked_memory(&self) -> bool {
-        self.status == 1
-            && (self.errors.taken() == "fault: memory\n".as_bytes()
-                || self.errors.taken() == "fault: Thread\n".as_bytes()
-                || self.errors.taken() == "fault: Gather\n".as_bytes())
-    }
-
+    /// Whether a run ended so.
     fn is(&self, status: u8, text: &str, fault: &str) -> bool {
         self.status == status
             && self.out.taken() == text.as_bytes()
@@ -104,9 +94,7 @@ fn run_over<T: Threads + Wait + Sync, R: Read>(
     workers: u16,
     reader: &mut R,
     room: usize,
-) -> Ended
-    requires { (1 ≤ workers) × (workers ≤ 64) }
-{
+) -> Ended {
     let plan = Plan::Threads {
         file: None,
         workers,
@@ -121,7 +109,7 @@ fn run_over<T: Threads + Wait + Sync, R: Read>(
     }
 }
 
-/// Runs a scenario's text, and demands the status, what goes out and what is told. Where memory is refused, it is run again.
+/// Runs a scenario's text, and demands the status, what goes out and what is told.
 fn expect<T: Threads + Wait + Sync + Abort>(
     rt: &T,
     alloc: Global,
@@ -129,17 +117,10 @@ fn expect<T: Threads + Wait + Sync + Abort>(
     scenario: &[u8],
     text: &str,
     fault: &str,
-) -> Result<(), Fail>
-    requires { (1 ≤ workers) × (workers ≤ 64) }
-{
-    let status = if fault.is_empty() { 0 } else { 1 };
-    for _attempt in 0..2 {
-        let mut reader = scenario;
-        let end = run_over(rt, alloc, workers, &mut reader, 64);
-        if end.is(status, text, fault) {
-            return Ok(());
-        }
-        assert!(rt; end.lacked_memory());
-    }
-    Err(Fail::from("memory was refused twice"))
+) {
+    let mut reader = scenario;
+    let end = run_over(rt, alloc, workers, &mut reader, 64);
+    assert_eq!(rt; end.errors.taken(), fault.as_bytes());
+    assert_eq!(rt; end.out.taken(), text.as_bytes());
+    assert_eq!(rt; end.status, if fault.is_empty() { 0 } else { 1 });
 }

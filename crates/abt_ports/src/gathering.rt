@@ -7,8 +7,7 @@ ghost use Rattle.abt_ports.specs.Faults.{IsFirstFault};
 
 use crate::fault::GatherFault;
 use crate::journals::Journals;
-use crate::opening::first_foreign;
-use crate::receipts::{counts_fit, first_missing};
+use crate::looks::{Room, first_fault};
 use abt_journal::{Entry, PortState, Seat};
 use abt_net::Net;
 use std::alloc::Global;
@@ -30,18 +29,11 @@ pub fn gather(
     ensures receipts { IfOk result (λ journals. AreReceipts journals seats.items) }
     ensures err { IfErr result (IsFirstFault net.now states.items seats.items) }
 {
-    let mut seen = vec![in alloc; 0u64; states.len()]?;
-    let ports = Vec::with_capacity(alloc, states.len())?;
-    if let Some(port) = first_foreign(net, &states) {
-        return Err(GatherFault::Foreign { port });
+    let mut room = Room::for_ports(alloc, states.len())?;
+    if let Some(fault) = first_fault(&mut room, net, &states, &seats) {
+        return Err(fault);
     }
-    if !counts_fit(&states, &seats) {
-        return Err(GatherFault::Count);
-    }
-    if let Some((port, place)) = first_missing(&states, &seats, &mut seen) {
-        return Err(GatherFault::Missing { port, place });
-    }
-    Ok(entries_of(states, ports))
+    Ok(entries_of(states, room.ports))
 }
 
 // The journals, in the room that is there for them.

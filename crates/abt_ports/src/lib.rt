@@ -6,14 +6,10 @@ mod fault;
 mod gate;
 mod gathering;
 mod journals;
-mod opening;
-mod receipts;
+mod looks;
 
 pub use cell::PortCell;
 pub use fault::GatherFault;
 pub use gate::{Gate, OpenGate};
 pub use gathering::gather;
 pub use journals::Journals;
-
-#[cfg(test)]
-mod tests;

@@ -1,3 +1,4 @@
 pub mod Rate
 pub mod Extremes
 pub mod Code
+pub mod Limits

@@ -1,3 +1,5 @@
 pub mod Plan
 pub mod Messages
 pub mod Cells
+pub mod Deliveries
+pub mod Counting

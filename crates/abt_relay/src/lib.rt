@@ -1,6 +1,8 @@
 //! Parcels on their way between ports, and the workers that carry them.
 #![tactic(auto)]
 
+mod count;
+mod delivery;
 mod link;
 mod parcel;
 mod plan;

@@ -2,14 +2,16 @@
 ghost use Rattle.std.specs.Prelude.{◌≡◌, ◌<◌, ℕ, All, IfOk, IsErrOf, length};
 ghost use Rattle.abt_journal.specs.declared.fault.ServeFault.{ServeFault};
 ghost use Rattle.abt_relay.specs.Cells.{AreCellsOf};
+ghost use Rattle.abt_relay.specs.Deliveries as deliveries;
 ghost use Rattle.abt_relay.specs.Messages as messages;
 ghost use Rattle.abt_relay.specs.Messages.{IsMessage};
 
+use crate::count::{CellCount, NumberedCell};
 use crate::parcel::{AnswerBox, Parcel, message_in};
 use crate::plan::ThreadPlan;
 use crate::post::Post;
 use abt_cell::Rm;
-use abt_journal::{PortInput, Seat, ServeFault};
+use abt_journal::{PortInput, PortReply, Seat, ServeFault};
 use abt_net::Net;
 use abt_ports::{Gate, PortCell};
 use crossbeam_channel::{Receiver, Sender};
@@ -45,46 +47,57 @@ pub fn link_worker<R: Wait, G: Gate>(
 {
     let post = Post::new(net, to, boxes);
     let mut seat = Seat::new(alloc, caller);
-    let mut taken: u64 = 0;
+    let mut count = CellCount::new();
     for _ in rt.forever() {
-        let Ok(Parcel::Cell { port, octets }) = from.recv(rt) else {
+        let Ok(parcel) = from.recv(rt) else {
             break;
         };
-        taken = taken.saturating_add(1);
-        for _time in 0..plan.times(taken) {
-            relay(rt, &post, cells, gate, &mut seat, port, &octets)?;
+        let Some(taken) = count.count(parcel) else {
+            break;
+        };
+        for _time in 0..plan.times(taken.number) {
+            relay(rt, &post, cells, gate, &mut seat, &taken)?;
         }
     }
     Ok(seat)
 }
 
-// Has the message in a parcel served by its port, and sends on what that has sent.
+// Has the message in a cell served by its port, and sends on what that has sent.
 fn relay<R: Wait, G: Gate>(
     rt: &R,
     post: &Post,
     cells: &[PortCell],
     gate: &G,
     seat: &mut Seat,
-    port: u16,
-    octets: &[u8; 52],
+    taken: &NumberedCell,
 ) -> Result<(), ServeFault>
     ensures caller { seat.new.caller ≡ seat.old.caller }
     ensures messages { All IsMessage seat.old.receipts → All IsMessage seat.new.receipts }
     ensures wound { (seen found : ℕ) → IsErrOf result (ServeFault.Wound seen found) → found < seen }
     ensures memory { ¬ IsErrOf result ServeFault.Memory }
 {
-    let Some(cell) = cells.get(usize::from(port)) else {
+    let Some(cell) = cells.get(usize::from(taken.port)) else {
         return Ok(());
     };
-    let Some(rm) = message_in(octets) else {
+    let Some(rm) = message_in(&taken.octets) else {
         return Ok(());
     };
-    match cell.serve(rt, seat, gate, input_of(&rm)) {
-        Ok((_, reply)) => post.send_on(rt, port, &rm, &reply),
-        Err(ServeFault::Memory) => {}
-        Err(wound) => return Err(wound),
+    let served = cell.serve(rt, seat, gate, input_of(&rm));
+    if let Some(reply) = reply_in(served)? {
+        post.send_on(rt, taken.port, &rm, &reply);
     }
     Ok(())
+}
+
+// What the worker goes on with once a port was to serve a message.
+fn reply_in(served: Result<(u64, PortReply), ServeFault>) -> Result<Option<PortReply>, ServeFault>
+    ensures { result ≡ deliveries.reply_in served }
+{
+    match served {
+        Ok((_, reply)) => Ok(Some(reply)),
+        Err(ServeFault::Memory) => Ok(None),
+        Err(wound) => Err(wound),
+    }
 }
 
 // What a message is to a port.

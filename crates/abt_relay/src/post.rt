@@ -1,7 +1,15 @@
 //! The way of messages from one worker to another.
+ghost use Rattle.std.specs.Prelude.{◌≡◌, ◌≢◌, ℕ, Some, slice_get, option_copied};
+ghost use Rattle.abt_follow.specs.Following as following;
+ghost use Rattle.abt_model.specs.Reserved.{hop_of};
+ghost use Rattle.abt_net.specs.Topology.{conn_at, channel_at};
+ghost use Rattle.abt_net.specs.declared.conn.Conn.{Conn};
+ghost use Rattle.abt_relay.specs.Deliveries as deliveries;
+
+use crate::delivery::{Delivery, delivery_of};
 use crate::parcel::{AnswerBox, Parcel};
-use abt_cell::{Answer, Rm};
-use abt_follow::{Next, follow};
+use abt_cell::Rm;
+use abt_follow::follow;
 use abt_journal::PortReply;
 use abt_net::Net;
 use crossbeam_channel::Sender;
@@ -18,7 +26,10 @@ pub struct Post<'net> {
 
 impl<'net> Post<'net> {
     /// The post of a net.
-    pub fn new(net: &'net Net, parcels: Sender<Parcel>, boxes: &'net [AnswerBox]) -> Post<'net> {
+    pub fn new(net: &'net Net, parcels: Sender<Parcel>, boxes: &'net [AnswerBox]) -> Post<'net>
+        ensures net { result.net.now ≡ net.now }
+        ensures boxes { result.boxes.now ≡ boxes.now }
+    {
         Post {
             net,
             parcels,
@@ -28,19 +39,36 @@ impl<'net> Post<'net> {
 
     /// Sends what a port's reply to a message has sent ([`follow`]). What there is no memory for is lost.
     pub fn send_on<R: Wait>(&self, rt: &R, port: u16, rm: &Rm, reply: &PortReply) {
-        match follow(self.net, port, rm, reply) {
-            Next::Send { port, rm } => {
-                let _ = self.parcels.send(rt, Parcel::of(port, &rm));
+        match self.delivery(port, rm, reply) {
+            Delivery::ToLinks(parcel) => {
+                let _ = self.parcels.send(rt, parcel);
             }
-            Next::Tell { conn, answer } => self.tell(rt, conn, answer),
-            Next::Nothing => {}
+            Delivery::ToBox { conn, answer } => {
+                if let Some(answers) = self.box_of(conn) {
+                    let _ = answers.lock(rt).push_back(answer);
+                }
+            }
+            Delivery::Nowhere => {}
         }
     }
 
-    // Puts an answer into a source's box.
-    fn tell<R: Wait>(&self, rt: &R, conn: u16, answer: Answer) {
-        if let Some(answers) = self.boxes.get(usize::from(conn)) {
-            let _ = answers.lock(rt).push_back(answer);
-        }
+    // Where what a port's reply to a message has sent is left.
+    fn delivery(&self, port: u16, rm: &Rm, reply: &PortReply) -> Delivery
+        ensures on_path { (c : ℕ) (conn : Conn) → conn_at self.now.net.now c ≡ Some conn → conn.vc ≡ following.channel_of rm.now →
+            hop_of conn.path port ≢ 0 →
+            result ≡ deliveries.delivery_of (following.sent_after conn.path c (hop_of conn.path port) rm.now reply.now) }
+        ensures off_path { (c : ℕ) (conn : Conn) → conn_at self.now.net.now c ≡ Some conn → conn.vc ≡ following.channel_of rm.now →
+            hop_of conn.path port ≡ 0 → result ≡ Delivery.Nowhere }
+        ensures unknown { ((c : ℕ) → channel_at self.now.net.now.conns c ≢ Some (following.channel_of rm.now)) →
+            result ≡ Delivery.Nowhere }
+    {
+        delivery_of(&follow(self.net, port, rm, reply))
+    }
+
+    // The box of the source of a connection, if the net has it.
+    fn box_of(&self, conn: u16) -> Option<&AnswerBox>
+        ensures { option_copied result ≡ slice_get self.now.boxes.now conn }
+    {
+        self.boxes.get(usize::from(conn))
     }
 }

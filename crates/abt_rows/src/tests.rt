@@ -1,10 +1,12 @@
 //! Stories: lists of events, each with what it answers. The rates are those of docs/RULES.md, "Rates": codes 5120, 5258
 //! and 53e8 are 400, 600 and 1,000 cells per second, 7fff is the greatest.
+mod actors;
 mod cells;
 mod logs;
 mod memory;
 mod messages;
 mod restarts;
+mod walks;
 mod whole;
 
 use abt_cell::{Answer, Request, Vc};

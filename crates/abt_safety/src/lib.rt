@@ -8,6 +8,3 @@ mod tally;
 pub use holding::{held_along, is_held};
 pub use sums::{fits, is_over};
 pub use tally::{Marks, Tally, recount};
-
-#[cfg(test)]
-mod tests;

@@ -3,7 +3,7 @@ use Rattle.std.specs.Prelude.{◌≡◌, ◌<◌, ◌≤◌, ⊤, true, length, 
 use Rattle.std.specs.Str.{IsUtf8}
 use Rattle.std.specs.Io.KnownBytes.{Appends, Keeps}
 use Rattle.abt_report.specs.Report.{report_of}
-use Rattle.abt_text.specs.Streams.{AppendsPrefix}
+use Rattle.abt_text.specs.Streams.{AppendsPrefix, text_max}
 use Rattle.abt_text.specs.Text.{Text}
 use Rattle.abt_trace.specs.Traces.{IsTrace}
 use Rattle.abt_trace.specs.declared.trace.Trace.{Trace}
@@ -21,12 +21,12 @@ told fault = Scenario fault
 
 -- The text has at most as many octets as a scenario's.
 abbrev pub IsOfLength : Text → Type 0
-IsOfLength text = length text ≤ 16777216
+IsOfLength text = length text ≤ text_max
 
 -- What each fault says of the whole text; of a reader that failed, and of want of memory, it says nothing.
 abbrev pub Explains : EngineFault → Text → Type 0
 Explains Read text = ⊤
-Explains TooLong text = 16777216 < length text
+Explains TooLong text = text_max < length text
 Explains NotUtf8 text = IsOfLength text × (¬ IsUtf8 text)
 Explains (Scenario fault) text = IsOfLength text × Reads text (Err fault)
 Explains Write text = ⊥

@@ -1,6 +1,6 @@
 //! Scenarios from any reader, reports to any writer.
 ghost use Rattle.std.specs.Prelude.{◌≡◌, ◌≤◌, ◌≢◌, ◌+◌, Ok, IfOk, IfErr, IfSome, OnOk, length, string_bytes};
-ghost use Rattle.abt_text.specs.Streams.{ConsumesAtMost};
+ghost use Rattle.abt_text.specs.Streams.{ConsumesAtMost, text_max};
 ghost use Rattle.abt_scenario.specs.Scenarios.{Reads};
 ghost use Rattle.abt_scenario.specs.Engine.{Explains, IsReportText, Reports, Leaves, told};
 
@@ -8,7 +8,7 @@ use crate::fault::ScenarioFault;
 use crate::scenario::Scenario;
 use crate::text::{scenario_in, table_of};
 use abt_report::report_text;
-use abt_text::{TEXT_MAX, TextFault, octets_of, put};
+use abt_text::{TextFault, octets_of, put};
 use abt_world::run;
 use std::alloc::{AllocError, Global};
 use std::io::{Read, Write};
@@ -20,7 +20,7 @@ pub enum EngineFault {
     /// The reader failed.
     #[error("the input can't be read")]
     Read,
-    /// There are more than [`TEXT_MAX`] octets.
+    /// There are more than [`TEXT_MAX`](abt_text::TEXT_MAX) octets.
     #[error("the text is too long")]
     TooLong,
     /// The octets are no UTF-8 text.
@@ -37,14 +37,14 @@ pub enum EngineFault {
     Memory,
 }
 
-/// The scenario of the text that a reader has left. At most one octet more than [`TEXT_MAX`] is taken, which shows that the
-/// text is too long; a failure of the reader ends the reading at once.
+/// The scenario of the text that a reader has left. At most one octet more than [`TEXT_MAX`](abt_text::TEXT_MAX) is taken,
+/// which shows that the text is too long; a failure of the reader ends the reading at once.
 pub fn read_from<R: Read>(alloc: Global, reader: &mut R) -> Result<Scenario, EngineFault>
     ensures ok { IfOk result (λ scenario. IfSome (R.remaining reader.old) (λ text. Reads text (Ok scenario))) }
-    ensures limit { IfOk result (λ _. IfSome (R.remaining reader.old) (λ text. length text ≤ TEXT_MAX)) }
+    ensures limit { IfOk result (λ _. IfSome (R.remaining reader.old) (λ text. length text ≤ text_max)) }
     ensures err { IfErr result (λ fault. IfSome (R.remaining reader.old) (Explains fault)) }
     ensures reads { IfErr result (λ fault. fault ≢ EngineFault.Write) }
-    ensures stops { ConsumesAtMost (R.remaining reader.old) (R.remaining reader.new) (TEXT_MAX + 1) }
+    ensures stops { ConsumesAtMost (R.remaining reader.old) (R.remaining reader.new) (text_max + 1) }
 {
     let octets = match octets_of(alloc, reader) {
         Ok(octets) => octets,
@@ -85,10 +85,10 @@ pub fn run_text<R: Read, W: Write>(
     writer: &mut W,
 ) -> Result<(), EngineFault>
     ensures ok { OnOk result (Reports (R.remaining reader.old) (W.contents writer.old) (W.contents writer.new)) }
-    ensures limit { OnOk result (IfSome (R.remaining reader.old) (λ text. length text ≤ TEXT_MAX)) }
+    ensures limit { OnOk result (IfSome (R.remaining reader.old) (λ text. length text ≤ text_max)) }
     ensures err { IfErr result (λ fault. Leaves fault (R.remaining reader.old)
         (W.contents writer.old) (W.contents writer.new)) }
-    ensures stops { ConsumesAtMost (R.remaining reader.old) (R.remaining reader.new) (TEXT_MAX + 1) }
+    ensures stops { ConsumesAtMost (R.remaining reader.old) (R.remaining reader.new) (text_max + 1) }
 {
     let scenario = read_from(alloc, reader)?;
     let Ok(text) = report_of_run(alloc, scenario) else {

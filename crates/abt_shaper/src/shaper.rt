@@ -1,5 +1,6 @@
 //! A shaper.
 ghost use Rattle.std.specs.Prelude.{◌≡◌, ◌≢◌, ℕ, ◌+◌, ◌<◌, ◌≤◌, ◌↔◌, IsOk, IsErrOf, MatchResult};
+ghost use Rattle.abt_rate.specs.Limits.{emit_max};
 ghost use Rattle.abt_rate.specs.Rate.{spacing_of};
 ghost use Rattle.abt_shaper.specs.Shaping.{IsBehind, IsOnward};
 
@@ -37,7 +38,7 @@ impl Model for Shaper {
 impl Shaper {
     /// A shaper that lets no cell leave before a moment.
     pub fn new(not_before: u64) -> Shaper
-        requires { not_before ≤ EMIT_MAX }
+        requires { not_before ≤ emit_max }
         ensures { result ≡ record { next = not_before; emitted = None } }
     {
         Shaper {
@@ -55,13 +56,13 @@ impl Shaper {
     pub fn emit(&mut self, now: u64, rate: Rate) -> Result<u64, ShapeFault>
         ensures clock_back { IsErrOf result ShapeFault.ClockBack ↔ IsBehind self.old now }
         ensures time_range { IsErrOf result ShapeFault.TimeRange ↔
-            (IsOnward self.old now × (EMIT_MAX < now)) }
+            (IsOnward self.old now × (emit_max < now)) }
         ensures zero { IsErrOf result ShapeFault.Zero ↔
-            (IsOnward self.old now × (now ≤ EMIT_MAX) × (rate ≡ 0)) }
+            (IsOnward self.old now × (now ≤ emit_max) × (rate ≡ 0)) }
         ensures too_soon { (next : ℕ) → IsErrOf result (ShapeFault.TooSoon next) ↔
-            (IsOnward self.old now × (now ≤ EMIT_MAX) × (rate ≢ 0) ×
+            (IsOnward self.old now × (now ≤ emit_max) × (rate ≢ 0) ×
             (now < self.old.next) × (next ≡ self.old.next)) }
-        ensures ok { IsOk result ↔ ((now ≤ EMIT_MAX) × (rate ≢ 0) × (self.old.next ≤ now)) }
+        ensures ok { IsOk result ↔ ((now ≤ emit_max) × (rate ≢ 0) × (self.old.next ≤ now)) }
         ensures value { MatchResult result
             (λ next. (next ≡ now + spacing_of rate) ×
             (self.new ≡ record { next = next; emitted = Some now }))

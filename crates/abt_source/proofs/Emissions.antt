@@ -6,7 +6,7 @@ use Rattle.abt_rate.specs.Rate.{spacing_of}
 use Rattle.abt_shaper.specs.Shaping.{Shaping, IsBehind, IsOnward}
 use Rattle.abt_shaper.specs.declared.fault.ShapeFault.{ShapeFault}
 use Rattle.abt_shaper.specs.declared.fault.ShapeFault.TheVariants.{ClockBack, TimeRange, Zero, TooSoon}
-use Rattle.abt_shaper.specs.declared.limits.TheConstants.{EMIT_MAX}
+use Rattle.abt_rate.specs.Limits.{emit_max}
 use Rattle.abt_source.specs.Calls.{emission_at}
 
 -- what is computed, by each condition of the shaper
@@ -19,57 +19,57 @@ behind :
 behind None next rate now h = absurd h
 behind (Some last) next rate now h = some_behind last next rate now h
 
-none_late : (next rate now : ℕ) → EMIT_MAX < now → emission_at None next rate now ≡ Err TimeRange
+none_late : (next rate now : ℕ) → emit_max < now → emission_at None next rate now ≡ Err TimeRange
 none_late next rate now h = grind (arith, nat_tests)
 
-some_late : (last next rate now : ℕ) → last ≤ now → EMIT_MAX < now → emission_at (Some last) next rate now ≡ Err TimeRange
+some_late : (last next rate now : ℕ) → last ≤ now → emit_max < now → emission_at (Some last) next rate now ≡ Err TimeRange
 some_late last next rate now h l = grind (arith, nat_tests)
 
 late :
-    (emitted : Option ℕ) (next rate now : ℕ) → IfSome emitted (λ last. last ≤ now) → EMIT_MAX < now →
+    (emitted : Option ℕ) (next rate now : ℕ) → IfSome emitted (λ last. last ≤ now) → emit_max < now →
     emission_at emitted next rate now ≡ Err TimeRange
 late None next rate now h l = none_late next rate now l
 late (Some last) next rate now h l = some_late last next rate now h l
 
-none_zero : (next now : ℕ) → now ≤ EMIT_MAX → emission_at None next 0 now ≡ Err Zero
+none_zero : (next now : ℕ) → now ≤ emit_max → emission_at None next 0 now ≡ Err Zero
 none_zero next now h = grind (arith, nat_tests)
 
-some_zero : (last next now : ℕ) → last ≤ now → now ≤ EMIT_MAX → emission_at (Some last) next 0 now ≡ Err Zero
+some_zero : (last next now : ℕ) → last ≤ now → now ≤ emit_max → emission_at (Some last) next 0 now ≡ Err Zero
 some_zero last next now h l = grind (arith, nat_tests)
 
 zero :
-    (emitted : Option ℕ) (next rate now : ℕ) → IfSome emitted (λ last. last ≤ now) → now ≤ EMIT_MAX → rate ≡ 0 →
+    (emitted : Option ℕ) (next rate now : ℕ) → IfSome emitted (λ last. last ≤ now) → now ≤ emit_max → rate ≡ 0 →
     emission_at emitted next rate now ≡ Err Zero
 zero None next rate now h l z = rw z (none_zero next now l)
 zero (Some last) next rate now h l z = rw z (some_zero last next now h l)
 
 none_soon :
-    (next rate now : ℕ) → now ≤ EMIT_MAX → rate ≢ 0 → now < next → emission_at None next rate now ≡ Err (TooSoon next)
+    (next rate now : ℕ) → now ≤ emit_max → rate ≢ 0 → now < next → emission_at None next rate now ≡ Err (TooSoon next)
 none_soon next rate now l nz soon = grind (arith, nat_tests)
 
 some_soon :
-    (last next rate now : ℕ) → last ≤ now → now ≤ EMIT_MAX → rate ≢ 0 → now < next →
+    (last next rate now : ℕ) → last ≤ now → now ≤ emit_max → rate ≢ 0 → now < next →
     emission_at (Some last) next rate now ≡ Err (TooSoon next)
 some_soon last next rate now h l nz soon = grind (arith, nat_tests)
 
 soon :
-    (emitted : Option ℕ) (next rate now : ℕ) → IfSome emitted (λ last. last ≤ now) → now ≤ EMIT_MAX → rate ≢ 0 →
+    (emitted : Option ℕ) (next rate now : ℕ) → IfSome emitted (λ last. last ≤ now) → now ≤ emit_max → rate ≢ 0 →
     now < next → emission_at emitted next rate now ≡ Err (TooSoon next)
 soon None next rate now h l nz s = none_soon next rate now l nz s
 soon (Some last) next rate now h l nz s = some_soon last next rate now h l nz s
 
 none_leaves :
-    (next rate now : ℕ) → now ≤ EMIT_MAX → rate ≢ 0 → next ≤ now →
+    (next rate now : ℕ) → now ≤ emit_max → rate ≢ 0 → next ≤ now →
     emission_at None next rate now ≡ Ok (now + spacing_of rate)
 none_leaves next rate now l nz from = grind (arith, nat_tests)
 
 some_leaves :
-    (last next rate now : ℕ) → (now < last → ⊥) → now ≤ EMIT_MAX → rate ≢ 0 → next ≤ now →
+    (last next rate now : ℕ) → (now < last → ⊥) → now ≤ emit_max → rate ≢ 0 → next ≤ now →
     emission_at (Some last) next rate now ≡ Ok (now + spacing_of rate)
 some_leaves last next rate now h l nz from = grind (arith, nat_tests)
 
 leaves :
-    (emitted : Option ℕ) (next rate now : ℕ) → (IsSomeAnd emitted (λ last. now < last) → ⊥) → now ≤ EMIT_MAX →
+    (emitted : Option ℕ) (next rate now : ℕ) → (IsSomeAnd emitted (λ last. now < last) → ⊥) → now ≤ emit_max →
     rate ≢ 0 → next ≤ now → emission_at emitted next rate now ≡ Ok (now + spacing_of rate)
 leaves None next rate now h l nz from = none_leaves next rate now l nz from
 leaves (Some last) next rate now h l nz from = some_leaves last next rate now h l nz from
@@ -77,11 +77,11 @@ leaves (Some last) next rate now h l nz from = some_leaves last next rate now h 
 pub emission_exact :
     (s new : Shaping) (now rate : ℕ) (r : Result ℕ ShapeFault) →
     (IsErrOf r ClockBack ↔ IsBehind s now) →
-    (IsErrOf r TimeRange ↔ (IsOnward s now × (EMIT_MAX < now))) →
-    (IsErrOf r Zero ↔ (IsOnward s now × (now ≤ EMIT_MAX) × (rate ≡ 0))) →
+    (IsErrOf r TimeRange ↔ (IsOnward s now × (emit_max < now))) →
+    (IsErrOf r Zero ↔ (IsOnward s now × (now ≤ emit_max) × (rate ≡ 0))) →
     ((next : ℕ) → IsErrOf r (TooSoon next) ↔
-    (IsOnward s now × (now ≤ EMIT_MAX) × (rate ≢ 0) × (now < s.next) × (next ≡ s.next))) →
-    (IsOk r ↔ ((now ≤ EMIT_MAX) × (rate ≢ 0) × (s.next ≤ now))) →
+    (IsOnward s now × (now ≤ emit_max) × (rate ≢ 0) × (now < s.next) × (next ≡ s.next))) →
+    (IsOk r ↔ ((now ≤ emit_max) × (rate ≢ 0) × (s.next ≤ now))) →
     MatchResult r (λ next. (next ≡ now + spacing_of rate) × (new ≡ record { next = next; emitted = Some now })) (λ _. new ≡ s) →
     r ≡ emission_at s.emitted s.next rate now
 emission_exact s new now rate (Err ClockBack) cb tr z ts ok value = sym (behind s.emitted s.next rate now (cb.0 refl))

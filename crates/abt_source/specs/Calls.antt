@@ -4,10 +4,10 @@ use Rattle.abt_cell.specs.Channel.{Channel, same_channel}
 use Rattle.abt_cell.specs.Message.{Terms, Reply}
 use Rattle.abt_facts.specs.Source.{hold_off}
 use Rattle.abt_keep.specs.declared.fault.StoreFault.{StoreFault}
+use Rattle.abt_rate.specs.Limits.{emit_max}
 use Rattle.abt_rate.specs.Rate.{spacing_of}
 use Rattle.abt_shaper.specs.declared.fault.ShapeFault.{ShapeFault}
 use Rattle.abt_shaper.specs.declared.fault.ShapeFault.TheVariants.{ClockBack, TimeRange as EmissionTimeRange, Zero, TooSoon}
-use Rattle.abt_shaper.specs.declared.limits.TheConstants.{EMIT_MAX}
 use Rattle.abt_source.specs.SourceView.{SourceView}
 use Rattle.abt_source.specs.declared.start.StartRefused.{StartRefused}
 use Rattle.abt_source.specs.declared.fault.StartFault.TheVariants.{Keep as StartKeep, TimeRange}
@@ -27,7 +27,7 @@ started_source s number now =
 
 -- the greatest moment of a start: the hold-off then ends at the last moment at which a cell may leave
 abbrev pub greatest_start : ℕ
-greatest_start = EMIT_MAX - hold_off
+greatest_start = emit_max - hold_off
 
 -- what a start answers, by what the store gave
 abbrev pub result_of_start : SourceView → (now : ℕ) → Result ℕ StoreFault → Result SourceView StartRefused
@@ -62,7 +62,7 @@ is_behind (Some last) now = nat_lt now last
 abbrev pub emission_at : (emitted : Option ℕ) → (next rate now : ℕ) → Result ℕ ShapeFault
 emission_at emitted next rate now =
     if is_behind emitted now then Err ClockBack
-    else if nat_lt EMIT_MAX now then Err EmissionTimeRange
+    else if nat_lt emit_max now then Err EmissionTimeRange
     else if rate == 0 then Err Zero
     else if nat_lt now next then Err (TooSoon next)
     else Ok (now + spacing_of rate)

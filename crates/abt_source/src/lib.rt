@@ -14,6 +14,3 @@ pub use fault::{AskFault, StartFault};
 pub use source::Source;
 pub use start::{HOLD_OFF, START_MAX, StartRefused};
 pub use state::{Asking, Down, Idle, State, Up};
-
-#[cfg(test)]
-mod tests;

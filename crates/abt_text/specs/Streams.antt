@@ -3,6 +3,10 @@ use Rattle.std.specs.Prelude.{ℕ, ◌<◌, ◌≤◌, Option, length, take}
 use Rattle.std.specs.Io.KnownBytes.{Appends, Consumes}
 use Rattle.abt_text.specs.Text.{Text}
 
+-- how many octets a text has at most (docs/FORMATS.md, "Scenario")
+abbrev pub text_max : ℕ
+text_max = 16777216
+
 -- A part of the text went out, from its beginning, and not all of it.
 pub record AppendsPrefix (old new : Option Text) (text : Text) : Type 0 where
   pub count : ℕ

@@ -1,7 +1,7 @@
 //! All octets of a reader, up to a limit.
 ghost use Rattle.std.specs.Prelude.{◌≡◌, ◌<◌, ◌≤◌, ◌+◌, length, vec_len, IfOk, IfSome, IsErrOf};
 ghost use Rattle.std.specs.Io.KnownBytes.{IsAtEnd};
-ghost use Rattle.abt_text.specs.Streams.{ConsumesAtMost};
+ghost use Rattle.abt_text.specs.Streams.{ConsumesAtMost, text_max};
 
 use std::alloc::Global;
 use std::io::Read;
@@ -31,10 +31,10 @@ pub enum TextFault {
 pub fn octets_of<R: Read>(alloc: Global, reader: &mut R) -> Result<Vec<u8>, TextFault>
     ensures ok { IfOk result (λ text. IfSome (R.remaining reader.old) (λ left. text.items ≡ left)) }
     ensures end { IfOk result (λ _. IsAtEnd (R.remaining reader.new)) }
-    ensures limit { IfOk result (λ text. vec_len text ≤ TEXT_MAX) }
+    ensures limit { IfOk result (λ text. vec_len text ≤ text_max) }
     ensures too_long { IsErrOf result TextFault.TooLong
-        → IfSome (R.remaining reader.old) (λ left. TEXT_MAX < length left) }
-    ensures stops { ConsumesAtMost (R.remaining reader.old) (R.remaining reader.new) (TEXT_MAX + 1) }
+        → IfSome (R.remaining reader.old) (λ left. text_max < length left) }
+    ensures stops { ConsumesAtMost (R.remaining reader.old) (R.remaining reader.new) (text_max + 1) }
 {
     let mut text = Vec::new(alloc);
     let mut piece = [0; 4096];

@@ -1,5 +1,5 @@
 -- From receipts to entries.
-use Rattle.std.proofs.Common.{◌≡◌, ◌≢◌, ℕ, ◌+◌, ◌<◌, ◌≤◌, ◌==◌, cond, true, false, zero, suc, List, [], ◌∷◌, ◌++◌, length, map, All, Any, Some, slice_get, slice_index, refl, sym, ap, subst, ◌∙◌, arith, length-append}
+use Rattle.std.proofs.Common.{◌≡◌, ◌≢◌, ℕ, ◌+◌, ◌<◌, ◌≤◌, ◌==◌, true, false, zero, suc, List, [], ◌∷◌, ◌++◌, length, map, All, Any, Some, slice_get, slice_index, refl, sym, ap, subst, ◌∙◌, arith}
 use Rattle.std.specs.List.{filter}
 use Rattle.std.proofs.lemmas.Bool.Decides.{nat_tests}
 use Rattle.std.proofs.lemmas.List.Elements.{All-nil, All-cons, All-append, All-map, All-filter}
@@ -17,7 +17,7 @@ use Rattle.abt_relay.specs.Messages.{IsMessage}
 use Rattle.abt_ports.specs.Foreign.{AreHistories}
 use Rattle.abt_threads.specs.Runs.{ScriptsFit, IsRunOf, AreRunsFrom, IsMessageEntry, IsRun}
 use Rattle.abt_threads.specs.Promises.{IsAccess, AreSourcesFrom, AreLinkSeatsFrom, AreWorked}
-use Rattle.abt_threads.specs.declared.workers.Worked.{Worked}
+use Rattle.abt_threads.specs.declared.worked.Worked.{Worked}
 use Rattle.abt_threads.proofs.Fitting.{fits_length}
 
 same_port : (p q : ℕ) → p ≡ q → (p == q) ≡ true

@@ -1,5 +1,5 @@
 -- Scripts that fit a net.
-use Rattle.std.proofs.Common.{◌≡◌, ℕ, zero, suc, ◌<◌, List, [], ◌∷◌, length, All, Some, None, slice_get, refl, ap, subst, sym, ◌∙◌, get_or, arith}
+use Rattle.std.proofs.Common.{◌≡◌, ℕ, zero, suc, ◌<◌, List, [], ◌∷◌, length, All, Some, slice_get, refl, ap, subst, sym, ◌∙◌, get_or, arith}
 use Rattle.std.proofs.lemmas.Option.{slice_get-get_or}
 use Rattle.abt_net.specs.declared.conn.Conn.{Conn}
 use Rattle.abt_script.specs.declared.command.Command.{Command}

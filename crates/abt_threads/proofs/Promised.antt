@@ -1,16 +1,19 @@
 -- Promises that are added one by one, and what they come to when they are kept.
-use Rattle.std.proofs.Common.{◌≡◌, ℕ, ◌+◌, List, [], ◌∷◌, ◌++◌, length, map, Option, Some, slice_get, Result, Ok, Err, IfOk, Vec, refl, sym, ap, subst, ◌∙◌, arith}
+use Rattle.std.proofs.Common.{◌≡◌, ℕ, ◌+◌, Bool, true, false, List, [], ◌∷◌, ◌++◌, length, map, Option, None, Some, option_map, slice_get, Result, Ok, Err, IfOk, IfErr, inl, inr, refl, sym, ap, subst, ◌∙◌, arith}
+use Rattle.std.specs.Prelude.{◌⊎◌}
 use Rattle.std.specs.Option.{ForSome}
-use Rattle.std.specs.declared.alloc.Global.{Global}
 use Rattle.std.proofs.lemmas.List.{map-append, length-map}
 use Rattle.abt_net.specs.Topology.{Topology}
 use Rattle.abt_journal.specs.Receipts.{Seated}
 use Rattle.abt_journal.specs.declared.fault.ServeFault.{ServeFault}
-use Rattle.abt_journal.specs.declared.fault.ServeFault.TheVariants.{Wound}
+use Rattle.abt_journal.specs.declared.fault.ServeFault.TheVariants.{Wound, Memory}
 use Rattle.abt_script.specs.declared.command.Command.{Command}
 use Rattle.abt_source_journal.specs.declared.journal.SourceJournal.{SourceJournal}
-use Rattle.abt_threads.specs.Faults.{IsRight, worked_of}
-use Rattle.abt_threads.specs.Promises.{IsAccess, AreLinksFrom, AreAccessesFrom, KeepLinks, KeepAccesses, AreSourcesFrom, AreLinkSeatsFrom, AreWorked, WoundsRight}
+use Rattle.abt_threads.specs.Faults.{IsRight, run_fault, graver, fault_in, fault_among, given_back, fault_told}
+use Rattle.abt_threads.specs.Promises.{IsAccess, AreLinksFrom, AreAccessesFrom, KeepEachLink, KeepEachAccess, KeepLinks, KeepAccesses, AreSourcesFrom, AreLinkSeatsFrom, AreWorked, IsOwn, IsOwnFault, WoundsRight}
+use Rattle.abt_threads.specs.declared.fault.RunFault.{RunFault}
+use Rattle.abt_threads.specs.declared.fault.RunFault.TheVariants.{Thread, Wound as RunWound, Memory as RunMemory}
+use Rattle.abt_threads.specs.declared.worked.Worked.{Worked}
 use Rattle.abt_threads.specs.declared.promises.AccessOf.{AccessOf}
 use Rattle.abt_threads.specs.declared.promises.LinkOf.{LinkOf}
 
@@ -65,21 +68,130 @@ sources_kept net n (c ∷ cs) (p ∷ ps) (s ∷ ss) [] a l k = absurd k
 sources_kept net n (c ∷ cs) (p ∷ ps) (s ∷ ss) (j ∷ js) a l k =
     (access_is net p.net.value n p.conn c p.script.value s j a.0 a.1 a.2 k.0, sources_kept net (n + 1) cs ps ss js a.3 (omega arith) k.1)
 
--- a fault that was kept right
-pub wound_right : {A : Type 0} (fault : Option ServeFault) (x : ServeFault) → fault ≡ Some x → ForSome fault IsRight → WoundsRight {A = A} (Err x)
-wound_right {A} fault x is right seen found err =
-    let same : x ≡ Wound seen found = cc in
-    let P : ServeFault → Type 0 = IsRight in subst P same (right x is)
+-- faults of workers that kept their promises
+
+graver_none : (a b : Option ServeFault) → graver a b ≡ None → (a ≡ None) × (b ≡ None)
+graver_none None b none = (refl, none)
+graver_none (Some (Wound seen short)) b none = absurd (cc)
+graver_none (Some Memory) None none = absurd (cc)
+graver_none (Some Memory) (Some other) none = absurd (cc)
+
+graver_right : (a b : Option ServeFault) → ForSome a IsRight → ForSome b IsRight → ForSome (graver a b) IsRight
+graver_right None b ra rb = rb
+graver_right (Some (Wound seen short)) b ra rb = ra
+graver_right (Some Memory) None ra rb = ra
+graver_right (Some Memory) (Some other) ra rb = rb
+
+fault_right : {A : Type 0} (r : Result A ServeFault) → WoundsRight r → ForSome (fault_in r) IsRight
+fault_right {A} (Ok given) right x is = absurd (cc)
+fault_right {A} (Err (Wound seen short)) right x is =
+    let same : Wound seen short ≡ x = cc in
+    let P : ServeFault → Type 0 = IsRight in subst P same (right seen short refl)
+fault_right {A} (Err Memory) right x is =
+    let same : Memory ≡ x = cc in
+    let P : ServeFault → Type 0 = IsRight in subst P same tt
+
+links_right : (ps : List LinkOf) (rs : List (Result Seated ServeFault)) → KeepEachLink ps rs → ForSome (fault_among rs) IsRight
+links_right [] [] k = λ x is. absurd (cc)
+links_right [] (r ∷ rs) k = absurd k
+links_right (p ∷ ps) [] k = absurd k
+links_right (p ∷ ps) (r ∷ rs) k = graver_right (fault_in r) (fault_among rs) (fault_right r k.0.1) (links_right ps rs k.1)
+
+accesses_right : (ps : List AccessOf) (rs : List (Result (Seated × SourceJournal) ServeFault)) → KeepEachAccess ps rs → ForSome (fault_among rs) IsRight
+accesses_right [] [] k = λ x is. absurd (cc)
+accesses_right [] (r ∷ rs) k = absurd k
+accesses_right (p ∷ ps) [] k = absurd k
+accesses_right (p ∷ ps) (r ∷ rs) k = graver_right (fault_in r) (fault_among rs) (fault_right r k.0.1) (accesses_right ps rs k.1)
+
+-- where no worker had a fault
+keep_links : (ps : List LinkOf) (rs : List (Result Seated ServeFault)) → KeepEachLink ps rs → fault_among rs ≡ None → KeepLinks ps (given_back rs)
+keep_links [] [] k none = tt
+keep_links [] (r ∷ rs) k none = absurd k
+keep_links (p ∷ ps) [] k none = absurd k
+keep_links (p ∷ ps) (Ok seat ∷ rs) k none = (k.0.0, keep_links ps rs k.1 none)
+keep_links (p ∷ ps) (Err fault ∷ rs) k none = absurd (let h : Some fault ≡ None = (graver_none (Some fault) (fault_among rs) none).0 in cc)
+
+keep_accesses : (ps : List AccessOf) (rs : List (Result (Seated × SourceJournal) ServeFault)) → KeepEachAccess ps rs → fault_among rs ≡ None
+    → KeepAccesses ps (map (λ (r : Seated × SourceJournal). r.0) (given_back rs)) (map (λ (r : Seated × SourceJournal). r.1) (given_back rs))
+keep_accesses [] [] k none = tt
+keep_accesses [] (r ∷ rs) k none = absurd k
+keep_accesses (p ∷ ps) [] k none = absurd k
+keep_accesses (p ∷ ps) (Ok given ∷ rs) k none = (k.0.0, keep_accesses ps rs k.1 none)
+keep_accesses (p ∷ ps) (Err fault ∷ rs) k none = absurd (let h : Some fault ≡ None = (graver_none (Some fault) (fault_among rs) none).0 in cc)
+
+unmapped : (fault : Option ServeFault) → option_map run_fault fault ≡ None → fault ≡ None
+unmapped None none = refl
+unmapped (Some fault) none = absurd (cc)
+
+mapped_own : (told : Option ServeFault) (fault : RunFault) → ForSome told IsRight → option_map run_fault told ≡ Some fault → IsOwn fault
+mapped_own None fault right is = absurd (cc)
+mapped_own (Some (Wound seen short)) fault right is =
+    let same : RunWound seen short ≡ fault = cc in
+    let P : RunFault → Type 0 = IsOwn in subst P same (right (Wound seen short) refl)
+mapped_own (Some Memory) fault right is =
+    let same : RunMemory ≡ fault = cc in
+    let P : RunFault → Type 0 = IsOwn in subst P same tt
+
+-- no fault is told
+none_told : (complete : Bool) (ss : List (Result (Seated × SourceJournal) ServeFault)) (ls : List (Result Seated ServeFault)) → fault_told complete ss ls ≡ None
+    → (complete ≡ true) × (fault_among ss ≡ None) × (fault_among ls ≡ None)
+none_told false ss ls none = absurd (cc)
+none_told true ss ls none =
+    let clean = graver_none (fault_among ss) (fault_among ls) (unmapped (graver (fault_among ss) (fault_among ls)) none) in (refl, clean.0, clean.1)
+
+-- the fault that is told is one of the workers themselves
+told_own : (complete : Bool) (ps : List AccessOf) (qs : List LinkOf) (ss : List (Result (Seated × SourceJournal) ServeFault)) (ls : List (Result Seated ServeFault)) (fault : RunFault)
+    → KeepEachAccess ps ss → KeepEachLink qs ls → fault_told complete ss ls ≡ Some fault → IsOwn fault
+told_own false ps qs ss ls fault kept linked told =
+    let same : Thread ≡ fault = cc in
+    let P : RunFault → Type 0 = IsOwn in subst P same tt
+told_own true ps qs ss ls fault kept linked told =
+    mapped_own (graver (fault_among ss) (fault_among ls)) fault (graver_right (fault_among ss) (fault_among ls) (accesses_right ps ss kept) (links_right qs ls linked)) told
 
 -- what all workers gave back, who kept their promises
-pub worked_is : (net : Topology) (scripts : List (List Command)) (workers : ℕ) (ps : List AccessOf) (qs : List LinkOf)
-    (sources : Result (Vec Seated Global × Vec SourceJournal Global) ServeFault) (links : Result (Vec Seated Global) ServeFault)
-    → AreAccessesFrom net 0 scripts ps → length ps ≡ length scripts → AreLinksFrom (length net.conns) qs → length qs ≡ workers
-    → IfOk sources (λ r. KeepAccesses ps r.0.items r.1.items) → IfOk links (λ v. KeepLinks qs v.items)
-    → IfOk (worked_of sources links) (AreWorked net scripts workers)
-worked_is net scripts workers ps qs (Ok done) (Ok links) a l b m kept linked =
-    let h = links_kept (length net.conns) qs links.items b linked in
-    record { sources = sources_kept net 0 scripts ps done.0.items done.1.items a l kept; links = h.0; count = h.1 ∙ m }
-worked_is net scripts workers ps qs (Ok done) (Err fault) a l b m kept linked = tt
-worked_is net scripts workers ps qs (Err fault) (Ok links) a l b m kept linked = tt
-worked_is net scripts workers ps qs (Err fault) (Err other) a l b m kept linked = tt
+worked_is : (net : Topology) (scripts : List (List Command)) (workers : ℕ) (ps : List AccessOf) (qs : List LinkOf) (complete : Bool)
+    (ss : List (Result (Seated × SourceJournal) ServeFault)) (ls : List (Result Seated ServeFault)) (worked : Worked)
+    → AreAccessesFrom net 0 scripts ps → AreLinksFrom (length net.conns) qs
+    → (complete ≡ true → (length ps ≡ length scripts) × (length qs ≡ workers))
+    → KeepEachAccess ps ss → KeepEachLink qs ls → fault_told complete ss ls ≡ None
+    → worked.accesses.items ≡ map (λ (r : Seated × SourceJournal). r.0) (given_back ss) → worked.sources.items ≡ map (λ (r : Seated × SourceJournal). r.1) (given_back ss)
+    → worked.links.items ≡ given_back ls → AreWorked net scripts workers worked
+worked_is net scripts workers ps qs complete ss ls worked a b all kept linked none seats journals links =
+    let clean = none_told complete ss ls none in
+    let counts = all clean.0 in
+    let accesses = keep_accesses ps ss kept clean.1 in
+    let h = links_kept (length net.conns) qs (given_back ls) b (keep_links qs ls linked clean.2) in
+    record {
+      sources = rw (seats, journals) (sources_kept net 0 scripts ps (map (λ (r : Seated × SourceJournal). r.0) (given_back ss)) (map (λ (r : Seated × SourceJournal). r.1) (given_back ss)) a counts.0 accesses);
+      links = rw links h.0;
+      count = ap length links ∙ h.1 ∙ counts.1;
+    }
+
+-- what a run tells of joined workers
+cases_told : (told : Option RunFault) → (told ≡ None) ⊎ ((fault : RunFault) × (told ≡ Some fault))
+cases_told None = inl refl
+cases_told (Some fault) = inr (fault, refl)
+
+pub worked_or : (net : Topology) (scripts : List (List Command)) (workers : ℕ) (ps : List AccessOf) (qs : List LinkOf) (complete : Bool)
+    (ss : List (Result (Seated × SourceJournal) ServeFault)) (ls : List (Result Seated ServeFault)) (result : Result Worked RunFault)
+    → AreAccessesFrom net 0 scripts ps → AreLinksFrom (length net.conns) qs → (complete ≡ true → (length ps ≡ length scripts) × (length qs ≡ workers))
+    → KeepEachAccess ps ss → KeepEachLink qs ls → ((fault : RunFault) → fault_told complete ss ls ≡ Some fault → result ≡ Err fault)
+    → IfOk result (λ w. w.accesses.items ≡ map (λ (r : Seated × SourceJournal). r.0) (given_back ss))
+    → IfOk result (λ w. w.sources.items ≡ map (λ (r : Seated × SourceJournal). r.1) (given_back ss))
+    → IfOk result (λ w. w.links.items ≡ given_back ls) → IfOk result (AreWorked net scripts workers)
+worked_or net scripts workers ps qs complete ss ls (Err fault) a b all kept linked told seats journals links = tt
+worked_or net scripts workers ps qs complete ss ls (Ok worked) a b all kept linked told seats journals links = elim (cases_told (fault_told complete ss ls)) [
+  | inl none ↦ worked_is net scripts workers ps qs complete ss ls worked a b all kept linked none seats journals links
+  | inr some ↦ absurd (let clash = told some.0 some.1 in cc)
+]
+
+pub own_or : (ps : List AccessOf) (qs : List LinkOf) (complete : Bool) (ss : List (Result (Seated × SourceJournal) ServeFault)) (ls : List (Result Seated ServeFault)) (result : Result Worked RunFault)
+    → KeepEachAccess ps ss → KeepEachLink qs ls → ((fault : RunFault) → fault_told complete ss ls ≡ Some fault → result ≡ Err fault)
+    → (fault_told complete ss ls ≡ None → IfErr result (λ fault. fault ≡ RunMemory)) → IsOwnFault result
+own_or ps qs complete ss ls (Ok worked) kept linked told none = tt
+own_or ps qs complete ss ls (Err fault) kept linked told none = elim (cases_told (fault_told complete ss ls)) [
+  | inl clean ↦ (let P : RunFault → Type 0 = IsOwn in subst P (sym (none clean)) tt)
+  | inr some ↦ (
+      let same : fault ≡ some.0 = (let e = told some.0 some.1 in cc) in
+      let P : RunFault → Type 0 = IsOwn in subst P (sym same) (told_own complete ps qs ss ls some.0 kept linked some.1))
+]

@@ -1,6 +1,5 @@
 -- Faults that a run hands on.
-use Rattle.std.specs.Prelude.{◌<◌, Option, None, Some, Result, Ok, Err, Vec}
-use Rattle.std.specs.declared.alloc.Global.{Global}
+use Rattle.std.specs.Prelude.{◌<◌, Bool, true, false, List, [], ◌∷◌, Option, None, Some, option_map, Result, Ok, Err}
 use Rattle.abt_journal.specs.Receipts.{Seated}
 use Rattle.abt_journal.specs.declared.fault.ServeFault.{ServeFault}
 use Rattle.abt_journal.specs.declared.fault.ServeFault.TheVariants as serve
@@ -8,8 +7,7 @@ use Rattle.abt_ports.specs.declared.fault.GatherFault.{GatherFault}
 use Rattle.abt_ports.specs.declared.fault.GatherFault.TheVariants as gather
 use Rattle.abt_source_journal.specs.declared.journal.SourceJournal.{SourceJournal}
 use Rattle.abt_threads.specs.declared.fault.RunFault.{RunFault}
-use Rattle.abt_threads.specs.declared.fault.RunFault.TheVariants.{Wound, Gather, Memory}
-use Rattle.abt_threads.specs.declared.workers.Worked.{Worked}
+use Rattle.abt_threads.specs.declared.fault.RunFault.TheVariants.{Thread, Wound, Gather, Memory}
 
 -- what a worker's fault is to the run
 abbrev pub run_fault : ServeFault → RunFault
@@ -23,19 +21,34 @@ gather_fault (gather.Foreign port) = Gather (gather.Foreign port)
 gather_fault gather.Count = Gather gather.Count
 gather_fault (gather.Missing port place) = Gather (gather.Missing port place)
 
--- of two faults a Wound, if the first is one, and else the second
-abbrev pub graver_of : Option ServeFault → ServeFault → ServeFault
-graver_of None found = found
-graver_of (Some serve.Memory) found = found
-graver_of (Some (serve.Wound seen short)) found = serve.Wound seen short
+-- of two faults the first, if it is a Wound or the only one, and else the second
+abbrev pub graver : Option ServeFault → Option ServeFault → Option ServeFault
+graver None other = other
+graver (Some (serve.Wound seen short)) other = Some (serve.Wound seen short)
+graver (Some serve.Memory) None = Some serve.Memory
+graver (Some serve.Memory) (Some other) = Some other
 
--- what all workers gave back, or what a fault of theirs is to the run: of the sources alone, of the link workers alone, or the graver
--- one of both
-abbrev pub worked_of : Result (Vec Seated Global × Vec SourceJournal Global) ServeFault → Result (Vec Seated Global) ServeFault → Result Worked RunFault
-worked_of (Ok done) (Ok links) = Ok (record { accesses = done.0; sources = done.1; links = links })
-worked_of (Ok done) (Err fault) = Err (run_fault fault)
-worked_of (Err fault) (Ok links) = Err (run_fault fault)
-worked_of (Err fault) (Err other) = Err (run_fault (graver_of (Some fault) other))
+-- the fault of one worker
+abbrev pub fault_in : {A : Type 0} → Result A ServeFault → Option ServeFault
+fault_in (Ok given) = None
+fault_in (Err fault) = Some fault
+
+-- the first Wound of these, or else want of memory, if there is a fault
+abbrev pub fault_among : {A : Type 0} → List (Result A ServeFault) → Option ServeFault
+fault_among [] = None
+fault_among (r ∷ rs) = graver (fault_in r) (fault_among rs)
+
+-- what those gave back that had no fault
+abbrev pub given_back : {A : Type 0} → List (Result A ServeFault) → List A
+given_back [] = []
+given_back (Ok given ∷ rs) = given ∷ given_back rs
+given_back (Err fault ∷ rs) = given_back rs
+
+-- The fault that a run tells of its workers, if there is one: that not all could be started, or else the first Wound, of the sources
+-- before the link workers, or else want of memory.
+abbrev pub fault_told : (complete : Bool) → List (Result (Seated × SourceJournal) ServeFault) → List (Result Seated ServeFault) → Option RunFault
+fault_told false sources links = Some Thread
+fault_told true sources links = option_map run_fault (graver (fault_among sources) (fault_among links))
 
 -- A Wound is told only where fewer entries were found than seen.
 abbrev pub IsRight : ServeFault → Type 0

@@ -1,3 +1,4 @@
 pub mod Runs
 pub mod Faults
 pub mod Promises
+pub mod Stopping

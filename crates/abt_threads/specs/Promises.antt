@@ -13,7 +13,7 @@ use Rattle.abt_threads.specs.declared.promises.AccessOf.{AccessOf}
 use Rattle.abt_threads.specs.declared.promises.LinkOf.{LinkOf}
 use Rattle.abt_threads.specs.declared.fault.RunFault.{RunFault}
 use Rattle.abt_threads.specs.declared.fault.RunFault.TheVariants as run
-use Rattle.abt_threads.specs.declared.workers.Worked.{Worked}
+use Rattle.abt_threads.specs.declared.worked.Worked.{Worked}
 
 -- A Wound is told only where fewer entries were found than seen.
 abbrev pub WoundsRight : {A : Type 0} → Result A ServeFault → Type 0
@@ -47,6 +47,19 @@ AreAccessesFrom net n scripts [] = Unit {0}
 AreAccessesFrom net n [] (p ∷ ps) = ⊥
 AreAccessesFrom net n (script ∷ scripts) (p ∷ ps) =
     (p.conn ≡ n) × (p.net.value ≡ net) × (p.script.value ≡ script) × AreAccessesFrom net (n + 1) scripts ps
+
+-- what each worker gave back keeps the promise at its place
+abbrev pub KeepEachLink : List LinkOf → List (Result Seated ServeFault) → Type 0
+KeepEachLink [] [] = Unit {0}
+KeepEachLink [] (r ∷ rs) = ⊥
+KeepEachLink (p ∷ ps) [] = ⊥
+KeepEachLink (p ∷ ps) (r ∷ rs) = KeepsLink p.caller r × KeepEachLink ps rs
+
+abbrev pub KeepEachAccess : List AccessOf → List (Result (Seated × SourceJournal) ServeFault) → Type 0
+KeepEachAccess [] [] = Unit {0}
+KeepEachAccess [] (r ∷ rs) = ⊥
+KeepEachAccess (p ∷ ps) [] = ⊥
+KeepEachAccess (p ∷ ps) (r ∷ rs) = KeepsAccess p.net.value p.conn p.script.value r × KeepEachAccess ps rs
 
 -- each seat keeps the promise at its place
 abbrev pub KeepLinks : List LinkOf → List Seated → Type 0

@@ -1,71 +1,58 @@
 //! Workers that are joined.
-ghost use Rattle.std.specs.Prelude.{◌≡◌, ◌≤◌, [], IfOk, map, vec_len, vec_capacity};
-ghost use Rattle.abt_threads.specs.Faults.{graver_of};
-ghost use Rattle.abt_threads.specs.Promises.{KeepAccesses, KeepLinks, WoundsRight};
+ghost use Rattle.std.specs.Prelude.{◌≡◌, ◌≤◌, [], map, vec_len, vec_capacity};
+ghost use Rattle.abt_threads.specs.Promises.{KeepEachAccess, KeepEachLink};
 
-use crate::start::{AccessHandle, LinkHandle};
+use crate::promises::{AccessOf, LinkOf};
 use abt_journal::{Seat, ServeFault};
 use abt_source_journal::SourceJournal;
-use std::thread::Threads;
+use std::thread::{PromisedHandle, Threads};
 
-// Of two faults a Wound, if the first is one, and else the second.
-pub(crate) fn graver(fault: Option<ServeFault>, found: ServeFault) -> ServeFault
-    ensures { result ≡ graver_of fault found }
-{
-    match fault {
-        Some(ServeFault::Wound { seen, found }) => ServeFault::Wound { seen, found },
-        _ => found,
-    }
+/// What an access worker gives back.
+pub(crate) type AccessResult = Result<(Seat, SourceJournal), ServeFault>;
+
+/// What a link worker gives back.
+pub(crate) type LinkResult = Result<Seat, ServeFault>;
+
+pub(crate) type AccessHandle = PromisedHandle<AccessResult, AccessOf>;
+
+pub(crate) type LinkHandle = PromisedHandle<LinkResult, LinkOf>;
+
+/// What all workers that were started gave back, and whether all that were to start were.
+#[derive(Drop)]
+pub(crate) struct Joined {
+    pub(crate) complete: bool,
+    pub(crate) sources: Vec<AccessResult>,
+    pub(crate) links: Vec<LinkResult>,
 }
 
-// Joins the link workers. A fault is the first of theirs.
+// Joins the link workers.
 pub(crate) fn join_links<R: Threads>(
     rt: &R,
     handles: Vec<LinkHandle>,
-    mut seats: Vec<Seat>,
-) -> Result<Vec<Seat>, ServeFault>
-    requires empty { seats.items ≡ [] }
-    requires room { vec_len handles ≤ vec_capacity seats }
-    ensures kept { IfOk result (λ v. KeepLinks (map (λ h. h.promise) handles.items) v.items) }
-    ensures wound { WoundsRight result }
+    mut results: Vec<LinkResult>,
+) -> Vec<LinkResult>
+    requires empty { results.items ≡ [] }
+    requires room { vec_len handles ≤ vec_capacity results }
+    ensures { KeepEachLink (map (λ h. h.promise) handles.items) result.items }
 {
-    let mut fault = None;
     for handle in handles {
-        match handle.join(rt) {
-            Ok(seat) => seats.push_reserved(seat),
-            Err(found) => fault = Some(graver(fault, found)),
-        }
+        results.push_reserved(handle.join(rt));
     }
-    match fault {
-        None => Ok(seats),
-        Some(found) => Err(found),
-    }
+    results
 }
 
-// Joins the access workers. A fault is a Wound of theirs, if there is one, and else the last.
+// Joins the access workers.
 pub(crate) fn join_sources<R: Threads>(
     rt: &R,
     handles: Vec<AccessHandle>,
-    mut seats: Vec<Seat>,
-    mut journals: Vec<SourceJournal>,
-) -> Result<(Vec<Seat>, Vec<SourceJournal>), ServeFault>
-    requires empty { (seats.items ≡ []) × (journals.items ≡ []) }
-    requires room { (vec_len handles ≤ vec_capacity seats) × (vec_len handles ≤ vec_capacity journals) }
-    ensures kept { IfOk result (λ r. KeepAccesses (map (λ h. h.promise) handles.items) r.0.items r.1.items) }
-    ensures wound { WoundsRight result }
+    mut results: Vec<AccessResult>,
+) -> Vec<AccessResult>
+    requires empty { results.items ≡ [] }
+    requires room { vec_len handles ≤ vec_capacity results }
+    ensures { KeepEachAccess (map (λ h. h.promise) handles.items) result.items }
 {
-    let mut fault = None;
     for handle in handles {
-        match handle.join(rt) {
-            Ok((seat, journal)) => {
-                seats.push_reserved(seat);
-                journals.push_reserved(journal);
-            }
-            Err(found) => fault = Some(graver(fault, found)),
-        }
+        results.push_reserved(handle.join(rt));
     }
-    match fault {
-        None => Ok((seats, journals)),
-        Some(found) => Err(found),
-    }
+    results
 }

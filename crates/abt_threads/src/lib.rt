@@ -2,6 +2,7 @@
 #![tactic(auto)]
 
 mod boxes;
+mod crew;
 mod fault;
 mod gathered;
 mod join;
@@ -10,11 +11,10 @@ mod promises;
 mod run;
 mod scripts;
 mod start;
+mod stop;
+mod worked;
 mod workers;
 
 pub use fault::RunFault;
 pub use gathered::Gathered;
 pub use run::{WORKERS_MAX, run_threads};
-
-#[cfg(test)]
-mod tests;

@@ -1,7 +1,7 @@
 //! A slow walk of the definitions, which tests compare the code with, and lists of events that are drawn along it.
 #![tactic(auto)]
 
-mod cells;
+pub mod cells;
 mod choices;
 pub mod drawn;
 pub mod draws;
@@ -10,7 +10,5 @@ mod hops;
 pub mod nets;
 mod sources;
 mod step;
-#[cfg(test)]
-mod tests;
 pub mod walk;
 pub mod words;

@@ -26,7 +26,8 @@ use Rattle.abt_model.specs.declared.event.Event.TheVariants.{Start, Ask, Again, 
 use Rattle.abt_model.specs.declared.outcome.Cause.TheVariants.{ClockBack, NotSent, Unknown, Fenced, Delay}
 use Rattle.abt_model.specs.declared.outcome.Outcome.{Outcome}
 use Rattle.abt_model.specs.declared.outcome.Outcome.TheVariants.{AskRefused, Crashed, Emitted, EmitRefused, Repeated, Requested, Answered, Arrived, Told as HasTold, NotEnabled}
-use Rattle.abt_model.specs.Answers.{emit_max, number_max, if_up, start_answer, next_request, stored_answer, ask_answer, again_answer, emit_answer, arrive_answer, told_answer, is_hop, answer_by}
+use Rattle.abt_rate.specs.Limits.{emit_max, number_max}
+use Rattle.abt_model.specs.Answers.{if_up, start_answer, next_request, stored_answer, ask_answer, again_answer, emit_answer, arrive_answer, told_answer, is_hop, answer_by}
 use Rattle.abt_model.specs.Conns.{conn_at}
 use Rattle.abt_model.specs.Decision.{request_of, answer_to, request_decision, answer_decision}
 use Rattle.abt_model.specs.Outcomes.{conn_of, port_of, outcome_at, outcome_of}

@@ -32,7 +32,7 @@ use Rattle.abt_weave.proofs.Ends.{own_or_visit}
 use Rattle.abt_weave.proofs.Leavings.{all_reversed}
 use Rattle.abt_weave.proofs.NoneWoven.{AreBegun, begun_before, HaveEnded, cases_less, step_due, entry_due, PortHas, ConnHas, below_on, visit_low, fits_again, again_at, ArrivesAlone}
 use Rattle.abt_weave.proofs.OwnEvents.{made_own, own_fits}
-use Rattle.abt_weave.proofs.Numbers.{AreJournalsOf}
+use Rattle.abt_weave.specs.OneFault.{AreJournalsOf}
 use Rattle.abt_weave.proofs.Places.{less_if, Names, IsFirstStep, named_now, named_low, step_named}
 use Rattle.abt_cell.specs.Channel.{Channel}
 use Rattle.abt_facts.specs.declared.fact.Fact.{Fact}
@@ -56,7 +56,7 @@ entry_had net js ended earlier event x end begun low made less =
     get_beginning (entries_on net (conn_of event) ended) (source_journal js (conn_of event)) (length (entries_on net (conn_of event) earlier)) x (end.stands.placed.conns (conn_of event)) less
     (entry_due net js event earlier x begun low made)
 
-conn_there : (net : Topology) (c : ℕ) → c < length net.conns → (conn : Conn) × (conn_at net c ≡ Some conn)
+pub conn_there : (net : Topology) (c : ℕ) → c < length net.conns → (conn : Conn) × (conn_at net c ≡ Some conn)
 conn_there net c low = elim (cases_option (conn_at net c)) [
   | inl none ↦ absurd (some_there net.conns c low none)
   | inr some ↦ some
@@ -123,7 +123,7 @@ silent net earlier ended (Arrive c cell at) v is none =
     let clash = sym none ∙ made in absurd (cc)
 silent net earlier ended other v is none = tt
 
-alone_if : (net : Topology) (earlier ended : List Event) (event : Event) → entries_on net (conn_of event) earlier ≡ entries_on net (conn_of event) ended → ArrivesAlone net earlier ended event
+pub alone_if : (net : Topology) (earlier ended : List Event) (event : Event) → entries_on net (conn_of event) earlier ≡ entries_on net (conn_of event) ended → ArrivesAlone net earlier ended event
 alone_if net earlier ended (Arrive c cell at) same = same
 alone_if net earlier ended other same = tt
 
@@ -237,13 +237,13 @@ port_whole net js ended end ports conns events rates woven p low left =
     let n = ap (λ l. length l) whole in
     omega (arith, e, n, left)
 
-entries_there : (js : Journaled) (c n : ℕ) (x : SourceEntry) → slice_get (source_journal js c) n ≡ Some x → c < length js.sources
+pub entries_there : (js : Journaled) (c n : ℕ) (x : SourceEntry) → slice_get (source_journal js c) n ≡ Some x → c < length js.sources
 entries_there js c n x h = elim (cases_option (slice_get js.sources c)) [
   | inl none ↦ (let clash = ap (λ (o : Option SourceJournal). slice_get (entries_in o) n) (sym none) ∙ h in absurd (cc))
   | inr some ↦ slice_get_within js.sources c some.0 some.1
 ]
 
-steps_there : (js : Journaled) (p n : ℕ) (s : Step) → slice_get (port_journal js p) n ≡ Some s → p < length js.ports
+pub steps_there : (js : Journaled) (p n : ℕ) (s : Step) → slice_get (port_journal js p) n ≡ Some s → p < length js.ports
 steps_there js p n s h = elim (cases_option (slice_get js.ports p)) [
   | inl none ↦ (let clash = ap (λ (o : Option (List Entry)). slice_get (steps_in o) n) (sym none) ∙ h in absurd (cc))
   | inr some ↦ slice_get_within js.ports p some.0 some.1

@@ -24,7 +24,8 @@ use Rattle.abt_woven.specs.Stuck.{Journaled, steps_in, entries_in, port_journal,
 use Rattle.abt_weave.specs.Actors.{actor_count}
 use Rattle.abt_weave.specs.Board.{AreSettled}
 use Rattle.abt_weave.proofs.Candidates.{cond_some, and_both}
-use Rattle.abt_weave.proofs.Numbers.{AreJournalsOf, source_settled, port_settled}
+use Rattle.abt_weave.specs.OneFault.{AreJournalsOf}
+use Rattle.abt_weave.proofs.Numbers.{source_settled, port_settled}
 use Rattle.abt_weave.proofs.PortEvents.{some_same, visit_made, has_reply}
 use Rattle.abt_weave.proofs.PortLooks.{first_hop}
 

@@ -11,7 +11,8 @@ use Rattle.abt_woven.specs.declared.actor.Stuck.{Stuck}
 use Rattle.abt_woven.specs.Stuck.{Journaled}
 use Rattle.abt_weave.specs.Actors.{actor_count, actor_at, placed_on, entry_count}
 use Rattle.abt_weave.specs.Faults.{left_at, left_below, source_left, port_left, all_left}
-use Rattle.abt_weave.proofs.Numbers.{AreJournalsOf, source_at, port_at}
+use Rattle.abt_weave.specs.OneFault.{AreJournalsOf}
+use Rattle.abt_weave.proofs.Numbers.{source_at, port_at}
 
 -- what the actor of a number has left
 abbrev pub left_of : Topology → Journaled → List Event → ℕ → List Stuck

@@ -30,3 +30,5 @@ pub mod Again
 pub mod VisitAgain
 pub mod NoneWoven
 pub mod AllBelow
+pub mod OneFault
+pub mod Needed

@@ -12,12 +12,8 @@ use Rattle.abt_source_journal.specs.declared.journal.SourceJournal.{SourceJourna
 use Rattle.abt_woven.specs.declared.actor.Actor.TheVariants.{Source, Port}
 use Rattle.abt_woven.specs.Stuck.{Journaled}
 use Rattle.abt_weave.specs.Actors.{actor_count, actor_at}
+use Rattle.abt_weave.specs.OneFault.{AreJournalsOf}
 use Rattle.abt_weave.specs.Board.{journaled, IsSourceSettled, IsPortSettled, IsActorSettled, AreSettled}
-
--- one journal for each port and one for each source
-pub record AreJournalsOf (net : Topology) (js : Journaled) : Type 0 where
-  pub ports : length js.ports ≡ length net.capacities
-  pub conns : length js.sources ≡ length net.conns
 
 pub are_journals : (net : Topology) (ports : List (Vec Entry Global)) (sources : List SourceJournal) → length sources ≡ length net.conns → length ports ≡ length net.capacities → AreJournalsOf net (journaled ports sources)
 are_journals net ports sources one other = record { ports = length-map ports (λ (entries : Vec Entry Global). entries.items) ∙ other; conns = one }

@@ -1,5 +1,5 @@
 -- Nothing is placed.
-use Rattle.std.proofs.Common.{◌≡◌, ◌∙◌, ◌<◌, ℕ, ap, sym, subst, refl, length, List, [], Vec, reverse}
+use Rattle.std.proofs.Common.{◌≡◌, ◌∙◌, ◌<◌, ℕ, ap, sym, subst, refl, length, List, [], Vec}
 use Rattle.std.specs.Prelude.{slice_index}
 use Rattle.std.specs.Global.{Global}
 use Rattle.std.proofs.Math.ListN.{replicate}
@@ -24,6 +24,7 @@ opening_board net ports sources events world sp pp stands none s p =
     subst (λ l. IsPlacing net js l world sp pp) (sym none) (record {
       stands = stands;
       placed = record { ports = λ q. (port_journal js q, refl); conns = λ c. (source_journal js c, refl) };
+      shown = tt;
       source_count = ap (λ l. length l) s ∙ length-replicate (length sources) 0;
       port_count = ap (λ l. length l) p ∙ length-replicate (length ports) 0 ∙ sym (length-map ports (λ (entries : Vec Entry Global). entries.items));
       source_places = zeros sp (length sources) s;

@@ -1,14 +1,12 @@
 -- Placing a port's next entry.
-use Rattle.std.proofs.Common.{◌≡◌, ◌≢◌, ℕ, ◌+◌, ◌-◌, ◌<◌, ◌≤◌, inl, inr, refl, ap, Bool, true, false, List, [], ◌∷◌, ◌++◌, length, reverse, ◌∙◌, sym, subst, Option, None, Some, arith}
-use Rattle.std.specs.Prelude.{◌==◌, if◌then◌else◌, slice_get, slice_index, get_or}
+use Rattle.std.proofs.Common.{◌≡◌, ℕ, ◌+◌, ◌-◌, ◌<◌, ◌≤◌, inl, inr, refl, ap, Bool, true, false, List, [], ◌∷◌, ◌++◌, length, reverse, ◌∙◌, sym, subst, None, Some, arith}
+use Rattle.std.specs.Prelude.{if◌then◌else◌, slice_index}
 use Rattle.std.proofs.Math.ListN.{set, length-set}
-use Rattle.std.proofs.lemmas.Bool.{false≢true, cond-false, cond-true, cases_Bool}
+use Rattle.std.proofs.lemmas.Bool.{false≢true, cond-false, cond-true}
 use Rattle.std.proofs.lemmas.List.{set-get_or}
 use Rattle.abt_net.specs.Topology.{Topology}
 use Rattle.abt_model.specs.declared.event.Event.{Event}
-use Rattle.abt_model.specs.declared.event.Event.TheVariants.{Start, Ask, Again, Crash, Emit, Arrive, Request, Turn, Answer, Told}
-use Rattle.abt_model.specs.declared.outcome.Outcome.{Outcome}
-use Rattle.abt_model.specs.declared.outcome.Outcome.TheVariants.{Turned}
+use Rattle.abt_model.specs.declared.event.Event.TheVariants.{Arrive, Request}
 use Rattle.abt_model.specs.Outcomes.{conn_of, outcome_of}
 use Rattle.abt_model.specs.Past.{facts_of}
 use Rattle.abt_model.specs.Run.{facts_after}
@@ -17,13 +15,14 @@ use Rattle.abt_journal.specs.declared.input.PortReply.{PortReply}
 use Rattle.abt_source_journal.specs.declared.entry.SourceEntry.{SourceEntry}
 use Rattle.abt_source_journal.specs.declared.entry.SourceEntry.TheVariants.{Sent, Arrived as ArrivedAt}
 use Rattle.abt_world.specs.Standing.{WorldView, StandsFor}
-use Rattle.abt_woven.specs.Projections.{Step, Visit, reply_of, hop_met, is_enabled, past_of, visit, steps_on, entry_made, entries_on}
-use Rattle.abt_woven.specs.Stuck.{Journaled, port_journal, source_journal, next_step, next_entry, Fits, ArePlaced, IsBeginning}
+use Rattle.abt_woven.specs.Projections.{Step, Visit, reply_of, hop_met, past_of, steps_on, entry_made, entries_on}
+use Rattle.abt_woven.specs.Stuck.{Journaled, port_journal, source_journal, next_step, ArePlaced, IsBeginning}
 use Rattle.abt_woven.proofs.Placing.{fits_placed}
 use Rattle.abt_woven.proofs.Turns.{steps_turn, entries_turn}
 use Rattle.abt_weave.specs.Candidates.{is_beside}
-use Rattle.abt_weave.specs.Comes.{entry_beside, Comes, IsComing, IsTurnOf, IsExpected, reached_by}
+use Rattle.abt_weave.specs.Comes.{entry_beside, IsComing, IsTurnOf, IsExpected, reached_by}
 use Rattle.abt_weave.specs.Board.{total, IsPlacing}
+use Rattle.abt_weave.specs.Shown.{AreShown, IsNeeded}
 use Rattle.abt_weave.proofs.Pasts.{past-is, pushed}
 use Rattle.abt_weave.proofs.Growth.{ArePlaces, entries_none, entries_one, entries_other, steps_other, steps_one, places_same, places_set}
 use Rattle.abt_weave.proofs.SourceLooks.{sum-set_up}
@@ -73,9 +72,11 @@ port_placed net js events world new sp pp p place c come event input reply board
     made_beside net earlier event p place comes.conn (outcome_of net past event) input (facts_of (conn_of event) past) comes.known comes.port comes.at brings enabled in
     let now = sym (pushed events event) in
     let v : Visit = record { port = slice_index comes.conn.path (hop_met event - 1); input = input; reply = reply } in
+    let fits = comes_fits net js earlier event p place input reply comes answers next in
     let whole : IsPlacing net js (events ++ event ∷ []) new (set sp c (reached_by event (slice_index sp c))) (set pp p (slice_index pp p + 1)) = record {
       stands = stands;
-      placed = subst (ArePlaced net js) now (fits_placed net js earlier event board.placed (comes_fits net js earlier event p place input reply comes answers next));
+      placed = subst (ArePlaced net js) now (fits_placed net js earlier event board.placed fits);
+      shown = subst (AreShown net js) now (inl fits, board.shown);
       source_count = length-set sp c (reached_by event (slice_index sp c)) ∙ board.source_count;
       port_count = length-set pp p (slice_index pp p + 1) ∙ board.port_count;
       source_places = subst (λ l. ArePlaces (set sp c (reached_by event (slice_index sp c))) (λ d. length (entries_on net d l))) now
@@ -95,8 +96,8 @@ port_placed net js events world new sp pp p place c come event input reply board
 
 -- a Turn stands in no journal
 pub turn_placed : (net : Topology) (js : Journaled) (events : List Event) (world new : WorldView) (sp pp : List ℕ) (event turn : Event) → IsPlacing net js events world sp pp → IsTurnOf net event turn →
-    StandsFor net (events ++ turn ∷ []) new → IsPlacing net js (events ++ turn ∷ []) new sp pp
-turn_placed net js events world new sp pp event turn board its stands =
+    StandsFor net (events ++ turn ∷ []) new → IsNeeded net js (reverse events) turn → IsPlacing net js (events ++ turn ∷ []) new sp pp
+turn_placed net js events world new sp pp event turn board its stands needed =
     let earlier = reverse events in
     let now : turn ∷ earlier ≡ reverse (events ++ turn ∷ []) = sym (pushed events turn) in
     let steps : (q : ℕ) → steps_on net q (turn ∷ earlier) ≡ steps_on net q earlier = λ q. ap (λ e. steps_on net q (e ∷ earlier)) its.turn_is ∙ steps_turn net earlier its.c its.seq q in
@@ -107,6 +108,7 @@ turn_placed net js events world new sp pp event turn board its stands =
         ports = λ q. subst (λ l. IsBeginning l (port_journal js q)) (sym (steps q)) (board.placed.ports q);
         conns = λ d. subst (λ l. IsBeginning l (source_journal js d)) (sym (entries d)) (board.placed.conns d);
       });
+      shown = subst (AreShown net js) now (inr needed, board.shown);
       source_count = board.source_count;
       port_count = board.port_count;
       source_places = subst (λ l. ArePlaces sp (λ d. length (entries_on net d l))) now

@@ -1,6 +1,6 @@
 -- What a look at a source's next entry shows.
-use Rattle.std.proofs.Common.{◌≡◌, ◌≢◌, ℕ, ◌+◌, ◌<◌, ◌≤◌, refl, ap, Bool, true, false, List, [], ◌∷◌, ◌++◌, length, reverse, ◌∙◌, sym, subst, None, Some, Vec, arith}
-use Rattle.std.specs.Prelude.{◌&&◌, not, slice_get, slice_index, get_or, sum_by}
+use Rattle.std.proofs.Common.{inl, ◌≡◌, ◌≢◌, ℕ, ◌+◌, ◌<◌, ◌≤◌, refl, ap, true, false, List, [], ◌∷◌, ◌++◌, length, reverse, ◌∙◌, sym, subst, None, Some, Vec, arith}
+use Rattle.std.specs.Prelude.{◌&&◌, not, slice_get, slice_index, get_or}
 use Rattle.std.proofs.lemmas.List.Sums.{sum_by-set}
 use Rattle.std.specs.Global.{Global}
 use Rattle.std.proofs.Math.ListN.{set, length-set}
@@ -9,7 +9,7 @@ use Rattle.std.proofs.lemmas.Option.{slice_get_read, slice_get_past, get_or_from
 use Rattle.abt_net.specs.Topology.{Topology}
 use Rattle.abt_model.specs.declared.event.Event.{Event}
 use Rattle.abt_model.specs.declared.outcome.Outcome.{Outcome}
-use Rattle.abt_model.specs.Outcomes.{conn_of, outcome_of}
+use Rattle.abt_model.specs.Outcomes.{outcome_of}
 use Rattle.abt_model.specs.Run.{facts_after}
 use Rattle.abt_journal.specs.declared.entry.Entry.{Entry}
 use Rattle.abt_source_journal.specs.declared.entry.SourceEntry.{SourceEntry}
@@ -21,6 +21,7 @@ use Rattle.abt_woven.specs.Stuck.{Journaled, source_journal, entries_in, next_en
 use Rattle.abt_woven.proofs.Placing.{fits_placed}
 use Rattle.abt_weave.specs.Candidates.{is_own_of, is_told}
 use Rattle.abt_weave.specs.Board.{journaled, total, IsPlacing, IsSourceSettled}
+use Rattle.abt_weave.specs.Shown.{AreShown}
 use Rattle.abt_weave.proofs.Pasts.{past-is, pushed}
 use Rattle.abt_weave.proofs.Growth.{ArePlaces, entries_one, entries_other, steps_none, places_same, places_set}
 use Rattle.abt_weave.proofs.OwnEvents.{own_visit, own_conn, own_made, own_fits, settled_none, settled_absent, settled_differs}
@@ -77,9 +78,11 @@ own_placed net js events world new sp pp c event told board low next own answers
     let made : entry_made net earlier event ≡ Some (Did event (outcome_of net (past_of net earlier) event)) = own_made (place_at_first net earlier event) c event (outcome_of net (past_of net earlier) event) own enabled2 in
     let whose = own_conn c event own in
     let now = sym (pushed events event) in
+    let fits = own_fits net js earlier c event told own answers2 enabled2 next in
     record {
       stands = stands;
-      placed = subst (ArePlaced net js) now (fits_placed net js earlier event board.placed (own_fits net js earlier c event told own answers2 enabled2 next));
+      placed = subst (ArePlaced net js) now (fits_placed net js earlier event board.placed fits);
+      shown = subst (AreShown net js) now (inl fits, board.shown);
       source_count = length-set sp c (slice_index sp c + 1) ∙ board.source_count;
       port_count = board.port_count;
       source_places = subst (λ l. ArePlaces (set sp c (slice_index sp c + 1)) (λ d. length (entries_on net d l))) now
@@ -102,6 +105,7 @@ pub board_kept : (net : Topology) (js : Journaled) (events more : List Event) (w
 board_kept net js events more world new sp pp board stands same = subst (λ l. IsPlacing net js l new sp pp) (sym same) (record {
   stands = stands;
   placed = board.placed;
+  shown = board.shown;
   source_count = board.source_count;
   port_count = board.port_count;
   source_places = board.source_places;

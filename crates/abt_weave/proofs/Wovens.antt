@@ -17,7 +17,8 @@ use Rattle.abt_weave.specs.Marks.{AreUnmarked, IsFirstMark}
 use Rattle.abt_weave.specs.Faults.{source_left, port_left, all_left, IsFirstMismatch, NoneMismatches}
 use Rattle.abt_weave.proofs.Ends.{beyond_source, beyond_port, whole_beginning}
 use Rattle.abt_weave.proofs.Lefts.{at_end, all_at_end}
-use Rattle.abt_weave.proofs.Numbers.{AreJournalsOf, below_if, below_else, source_at, port_at, source_settled, port_settled}
+use Rattle.abt_weave.specs.OneFault.{AreJournalsOf}
+use Rattle.abt_weave.proofs.Numbers.{below_if, below_else, source_at, port_at, source_settled, port_settled}
 
 -- the first actor that is marked is the first whose next entry mismatches
 pub first_is : (net : Topology) (js : Journaled) → AreJournalsOf net js → (events : List Event) (world : WorldView) (sp pp : List ℕ) (marks : List Bool) (stuck : Stuck) → IsPlacing net js events world sp pp →

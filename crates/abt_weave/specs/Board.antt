@@ -14,6 +14,7 @@ use Rattle.abt_woven.specs.declared.actor.Actor.TheVariants.{Source, Port}
 use Rattle.abt_woven.specs.Projections.{Visit, past_of, visit, steps_on, entry_made, entries_on}
 use Rattle.abt_woven.specs.Stuck.{Journaled, ArePlaced, AreTurns, Fits, PortMismatches, SourceMismatches}
 use Rattle.abt_weave.specs.Actors.{actor_at}
+use Rattle.abt_weave.specs.Shown.{AreShown}
 use Rattle.abt_weave.specs.declared.board.Board.{Board}
 use Rattle.abt_weave.specs.declared.look.Look.{Look}
 use Rattle.abt_weave.specs.declared.look.Look.TheVariants.{Placed, Waits, Mismatches}
@@ -21,10 +22,11 @@ use Rattle.abt_weave.specs.declared.look.Look.TheVariants.{Placed, Waits, Mismat
 abbrev pub journaled : List (Vec Entry Global) → List SourceJournal → Journaled
 journaled ports sources = record { ports = map (λ (entries : Vec Entry Global). entries.items) ports; sources = sources }
 
--- The world stands for the events, which are the beginnings of the journals that the places say.
+-- The world stands for the events, which are the beginnings of the journals that the places say, and each of them is shown.
 pub record IsPlacing (net : Topology) (journals : Journaled) (events : List Event) (world : WorldView) (sources ports : List ℕ) : Type 0 where
   pub stands : StandsFor net events world
   pub placed : ArePlaced net journals (reverse events)
+  pub shown : AreShown net journals (reverse events)
   pub source_count : length sources ≡ length journals.sources
   pub port_count : length ports ≡ length journals.ports
   pub source_places : (c : ℕ) → c < length sources → slice_index sources c ≡ length (entries_on net c (reverse events))

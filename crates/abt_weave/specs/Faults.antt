@@ -45,13 +45,13 @@ pub record NoneMismatches (net : Topology) (journals : Journaled) (earlier : Lis
   pub sources : (c : ℕ) → SourceMismatches net journals earlier c → ⊥
   pub ports : (p : ℕ) → PortMismatches net journals earlier p → ⊥
 
--- Some list of events stands still. A mismatch is the first of its stuck entries that does; where none does, all actors with
+-- Some list of events, each of whose rates a code can name, stands still. A mismatch is the first of its stuck entries that does; where none does, all actors with
 -- entries left are named.
 abbrev pub IsWeaveFault : Topology → Journaled → WeaveFault → Type 0
 IsWeaveFault net journals (Mismatch actor place) =
-    (events : List Event) × (StandsStill net journals (reverse events) × IsFirstMismatch net journals (reverse events) actor place)
+    (events : List Event) × All AsksRate events × StandsStill net journals (reverse events) × IsFirstMismatch net journals (reverse events) actor place
 IsWeaveFault net journals (NoOrder stuck) =
-    (events : List Event) × (StandsStill net journals (reverse events) × NoneMismatches net journals (reverse events) × (stuck ≡ all_left net journals (reverse events)) × (stuck ≢ []))
+    (events : List Event) × All AsksRate events × StandsStill net journals (reverse events) × NoneMismatches net journals (reverse events) × (stuck ≡ all_left net journals (reverse events)) × (stuck ≢ [])
 IsWeaveFault net journals Memory = Unit {0}
 
 -- no list of events, each of whose rates a code can name, is woven from the journals

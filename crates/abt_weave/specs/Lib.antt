@@ -7,3 +7,5 @@ pub mod Comes
 pub mod Marks
 pub mod Faults
 pub mod Leaving
+pub mod Shown
+pub mod OneFault

@@ -1,11 +1,12 @@
 //! Journals woven into events.
-ghost use Rattle.std.specs.Prelude.{◌≡◌, ◌++◌, List, length, IfOk, IfErr};
+ghost use Rattle.std.specs.Prelude.{◌≡◌, ◌++◌, List, length, reverse, IfOk, IfErr};
 ghost use Rattle.abt_model.specs.declared.event.Event.{Event as EventSpec};
 ghost use Rattle.abt_model.specs.Run.{facts_after};
 ghost use Rattle.abt_woven.specs.Woven.{IsWoven};
 ghost use Rattle.abt_weave.specs.Board.{journaled};
 ghost use Rattle.abt_weave.specs.Faults.{IsWeaveFault, SaysNoneIsWoven};
 ghost use Rattle.abt_weave.specs.Leaving.{LeavesAsJournaled};
+ghost use Rattle.abt_weave.specs.Shown.{AreShown};
 ghost use Rattle.abt_world.specs.Headline.{HeadlineHolds};
 
 use crate::board::Board;
@@ -23,7 +24,8 @@ use abt_woven::Stuck;
 use std::alloc::Global;
 
 /// Weaves the journals of the ports and of the sources of a net into one list of events, which are just these journals to each
-/// port and each source (docs/THREADS.md). The Turn of a yes stands in no journal, and is added where the yes needs it.
+/// port and each source (docs/THREADS.md). The Turn of a yes stands in no journal, and is added where the yes needs it; no other
+/// event is added.
 ///
 /// # Errors
 /// Where entries are left that no event can be: see [`WeaveFault`]. [`WeaveFault::Memory`] wherever a growth is refused.
@@ -36,6 +38,7 @@ pub fn weave(
     requires ports { length journals.now ≡ length net.now.capacities }
     requires sources { length sources.now ≡ length net.now.conns }
     ensures ok { IfOk result (λ events. IsWoven net.now journals.now sources.now events) }
+    ensures shown { IfOk result (λ events. AreShown net.now (record { ports = journals.now; sources = sources.now }) (reverse events)) }
     ensures leaves { IfOk result (λ events. LeavesAsJournaled net.now journals.now sources.now (facts_after net.now events)) }
     ensures headline { IfOk result (λ events. (before after : List EventSpec) → before ++ after ≡ events →
         HeadlineHolds net.now (facts_after net.now before)) }
@@ -55,6 +58,8 @@ fn weave_given(alloc: Global, given: &Given) -> Result<Sequence<Event>, WeaveFau
     requires ports { length given.now.ports.now ≡ length given.now.net.now.capacities }
     ensures ok { let journals = journaled given.now.ports.now given.now.sources.now in
         IfOk result (λ events. IsWoven given.now.net.now journals.ports journals.sources events) }
+    ensures shown { let journals = journaled given.now.ports.now given.now.sources.now in
+        IfOk result (λ events. AreShown given.now.net.now journals (reverse events)) }
     ensures leaves { let journals = journaled given.now.ports.now given.now.sources.now in
         IfOk result (λ events. LeavesAsJournaled given.now.net.now journals.ports journals.sources (facts_after given.now.net.now events)) }
     ensures headline { IfOk result (λ events. (before after : List EventSpec) → before ++ after ≡ events →

@@ -56,7 +56,7 @@ numbered_from_0 : {A B : Type 0} (ys : List B) (f : ℕ × A → B) (xs : List A
 numbered_from_0 ys f xs h = numbered ys f xs 0 (λ i. (let same : i ≡ 0 + i = omega arith in h i ∙ ap (λ n. option_map (λ x. f (n, x)) (slice_get xs i)) same))
 
 -- all of a list passes if each element does
-all_pass : {A : Type 0} (test : A → Bool) (xs : List A) → ((i : ℕ) (x : A) → slice_get xs i ≡ Some x → test x ≡ true) → list_all test xs ≡ true
+pub all_pass : {A : Type 0} (test : A → Bool) (xs : List A) → ((i : ℕ) (x : A) → slice_get xs i ≡ Some x → test x ≡ true) → list_all test xs ≡ true
 all_pass test [] h = refl
 all_pass test (x ∷ xs) h = (let here : test x ≡ true = h 0 x refl in let rest : list_all test xs ≡ true = all_pass test xs (λ i y at. h (suc i) y at) in grind (arith, nat_tests))
 
@@ -166,7 +166,7 @@ held_read net events courses ports are =
     ])
 
 -- what is safe passes
-le_passes : (m n : ℕ) → m ≤ n → nat_le m n ≡ true
+pub le_passes : (m n : ℕ) → m ≤ n → nat_le m n ≡ true
 le_passes m n le = grind (arith, nat_tests)
 
 conforming_pass : (facts : List Fact) → AllConform facts → list_all conforms_if_arrived facts ≡ true

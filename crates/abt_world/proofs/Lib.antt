@@ -12,3 +12,5 @@ mod Beginning
 mod Noting
 mod Stepping
 pub mod Admitting
+mod Sounding
+mod Looking

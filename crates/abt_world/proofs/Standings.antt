@@ -126,7 +126,7 @@ step_taken net events world e conn outcome course ports looks stands asks known 
     )
 
 -- the headline holds whatever happened
-headline_holds : (net : Topology) (events : List Event) → IsWithinRules net → All AsksRate events → HeadlineHolds net (facts_after net events)
+pub headline_holds : (net : Topology) (events : List Event) → IsWithinRules net → All AsksRate events → HeadlineHolds net (facts_after net events)
 headline_holds net events rules asks = record {
   safe = every_safe net events rules asks;
   drops = every_never_disputes net events rules asks;

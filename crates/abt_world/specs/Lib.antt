@@ -8,3 +8,5 @@ pub mod Opening
 pub mod Seen
 pub mod Readings
 pub mod Headline
+pub mod Sound
+pub mod Looked

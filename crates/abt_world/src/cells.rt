@@ -1,5 +1,6 @@
 //! What the arrival of a cell answers and adds, and what it makes of the port.
-ghost use Rattle.std.specs.Prelude.{◌≡◌, ◌+◌, ◌≤◌, ◌&&◌, nat_lt, nat_le, List};
+ghost use Rattle.std.specs.Prelude.{◌≡◌, ◌+◌, ◌≤◌, ◌&&◌, nat_lt, nat_le, List, length};
+ghost use Rattle.std.specs.Option.{option_map_or};
 ghost use Rattle.abt_actor.specs.Facts.{facts_in};
 ghost use Rattle.abt_facts.specs.declared.fact.Fact.{Fact as FactSpec};
 ghost use Rattle.abt_facts.specs.Cells.{emitted_of, fence_of};
@@ -8,6 +9,7 @@ ghost use Rattle.abt_model.specs.declared.connection_fact.ConnectionFact.{Connec
 ghost use Rattle.abt_model.specs.declared.event.Event.TheVariants.{Arrive};
 ghost use Rattle.abt_model.specs.Outcomes.{after_event};
 ghost use Rattle.abt_net.specs.Topology.{Topology};
+ghost use Rattle.abt_world.specs.Looked.{looks_at_cell, looks_to_take};
 ghost use Rattle.abt_world.specs.Steps as steps;
 ghost use Rattle.abt_world.specs.Steps.{IsConnAt, ArePorts, Happens};
 ghost use Rattle.abt_world.specs.Touches.{Touches};
@@ -50,6 +52,7 @@ fn arrival_cause(
     ensures value { (facts : List FactSpec) → IsLogOf facts log.now → emitted ≡ emitted_of facts →
         result ≡ steps.arrival_cause conn.now facts cell at }
     ensures looks { looks.new ≤ looks.old + 1 }
+    ensures counted { looks.old + 1 ≤ u64.MAX → looks.new ≡ looks.old + option_map_or looks_at_cell result 1 }
 {
     if cell >= emitted {
         Some(Cause::NotSent)
@@ -82,6 +85,10 @@ pub(crate) fn arrive(
         × ArePorts net (after_event net past (Arrive place cell at)) ports.new }
     ensures touches { Touches (steps.port_at conn.now.path 1) conn.now.vc ports.old ports.new }
     ensures looks { looks.new ≤ looks.old + 3 }
+    ensures counted { (net : Topology) (past : List ConnectionFact) (facts : List FactSpec) → IsLogOf facts log.now →
+        IsConnAt net past place conn.now facts →
+        ArePorts net past ports.old → emitted ≡ emitted_of facts → looks.old + 3 ≤ u64.MAX →
+        looks.new ≡ looks.old + looks_to_take (length conn.now.path) (Arrive place cell at) result.0 }
 {
     if let Some(cause) = arrival_cause(conn, log, emitted, cell, at, looks) {
         return not_enabled(cause);

@@ -6,8 +6,10 @@ ghost use Rattle.abt_facts.specs.declared.fact.Fact.{Fact as FactSpec};
 ghost use Rattle.abt_log.specs.Log.{IsLogOf};
 ghost use Rattle.abt_model.specs.declared.connection_fact.ConnectionFact.{ConnectionFact};
 ghost use Rattle.abt_model.specs.Events.{AsksRate};
-ghost use Rattle.abt_model.specs.Outcomes.{conn_of};
+ghost use Rattle.abt_model.specs.Outcomes.{conn_of, outcome_of};
+ghost use Rattle.abt_model.specs.Past.{facts_of};
 ghost use Rattle.abt_net.specs.Topology.{Topology};
+ghost use Rattle.abt_world.specs.Looked.{looks_to_happen, looks_to_note};
 ghost use Rattle.abt_world.specs.Notes.{all_noted, CanAllFollow};
 ghost use Rattle.abt_world.specs.Steps.{IsConnAt, ArePorts, Leaves};
 ghost use Rattle.abt_world.specs.Touches.{visited, Touches};
@@ -32,6 +34,7 @@ fn note(log: &mut Log, added: Added, looks: &mut Looks)
     requires { 2 ≤ log.old.room }
     ensures index { CanAllFollow (facts_in added) log.old.index → log.new.index ≡ all_noted (facts_in added) log.old.index }
     ensures looks { looks.new ≤ looks.old + 4 }
+    ensures counted { looks.old + 4 ≤ u64.MAX → looks.new ≡ looks.old + looks_to_note (facts_in added) }
 {
     match added {
         Added::Nothing => {}
@@ -60,6 +63,10 @@ impl Course {
         ensures memory { OnErr result ((self.new.actor ≡ self.old.actor) × (self.new.log.index ≡ self.old.log.index) × (ports.new ≡ ports.old)) }
         ensures touches { OnOk result (Touches (visited conn.now event.now) conn.now.vc ports.old ports.new) }
         ensures looks { looks.new ≤ looks.old + 7 }
+        ensures counted { (net : Topology) (past : List ConnectionFact) (facts : List FactSpec) → IsLogOf facts self.old.log →
+            AsksRate event.now → IsConnAt net past (conn_of event.now) conn.now facts → ArePorts net past ports.old →
+            self.old.actor ≡ actor_of conn.now.vc facts → looks.old + 7 ≤ u64.MAX → OnOk result (looks.new
+            ≡ looks.old + looks_to_happen conn.now (facts_of (conn_of event.now) past) event.now (outcome_of net past event.now)) }
     {
         self.log.reserve()?;
         let (outcome, added) = happen(conn, &self.log, &mut self.actor, ports, event, looks);

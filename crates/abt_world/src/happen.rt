@@ -1,5 +1,5 @@
 //! What one event does to its connection.
-ghost use Rattle.std.specs.Prelude.{◌≡◌, ◌+◌, ◌≤◌, ◌++◌, List};
+ghost use Rattle.std.specs.Prelude.{◌≡◌, ◌+◌, ◌≤◌, ◌++◌, List, length};
 ghost use Rattle.abt_actor.specs.Actor.{actor_of};
 ghost use Rattle.abt_actor.specs.Facts.{facts_in};
 ghost use Rattle.abt_facts.specs.declared.fact.Fact.{Fact as FactSpec};
@@ -8,6 +8,7 @@ ghost use Rattle.abt_model.specs.declared.connection_fact.ConnectionFact.{Connec
 ghost use Rattle.abt_model.specs.Events.{AsksRate};
 ghost use Rattle.abt_model.specs.Outcomes.{conn_of, after_event};
 ghost use Rattle.abt_net.specs.Topology.{Topology};
+ghost use Rattle.abt_world.specs.Looked.{looks_to_take};
 ghost use Rattle.abt_world.specs.Steps.{IsConnAt, ArePorts, Happens};
 ghost use Rattle.abt_world.specs.Touches as touches;
 ghost use Rattle.abt_world.specs.Touches.{Touches};
@@ -75,6 +76,10 @@ pub(crate) fn happen(
         × (actor.new ≡ actor_of conn.now.vc (facts_in result.1 ++ facts)) }
     ensures touches { Touches (touches.visited conn.now event.now) conn.now.vc ports.old ports.new }
     ensures looks { looks.new ≤ looks.old + 3 }
+    ensures counted { (net : Topology) (past : List ConnectionFact) (facts : List FactSpec) → IsLogOf facts log.now →
+        IsConnAt net past (conn_of event.now) conn.now facts → ArePorts net past ports.old →
+        actor.old ≡ actor_of conn.now.vc facts → looks.old + 3 ≤ u64.MAX →
+        looks.new ≡ looks.old + looks_to_take (length conn.now.path) event.now result.0 }
 {
     match *event {
         Event::Start { now, .. } => actor.carry_out(&SourceCommand::Start { now }),

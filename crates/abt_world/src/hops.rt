@@ -1,5 +1,5 @@
 //! What one connection's events answer and add that come to a port, and what they make of the port.
-ghost use Rattle.std.specs.Prelude.{◌≡◌, ◌+◌, ◌≤◌, ◌<◌, List};
+ghost use Rattle.std.specs.Prelude.{◌≡◌, ◌+◌, ◌≤◌, ◌<◌, false, List, length};
 ghost use Rattle.abt_facts.specs.declared.fact.Fact.{Fact as FactSpec};
 ghost use Rattle.abt_facts.specs.Sent.{request_is_at, yes_is_at, no_is_at, answer_is_at};
 ghost use Rattle.abt_actor.specs.Facts.{facts_in};
@@ -8,6 +8,7 @@ ghost use Rattle.abt_model.specs.declared.connection_fact.ConnectionFact.{Connec
 ghost use Rattle.abt_model.specs.declared.event.Event.TheVariants as event;
 ghost use Rattle.abt_model.specs.Outcomes as outcomes;
 ghost use Rattle.abt_net.specs.Topology.{Topology};
+ghost use Rattle.abt_world.specs.Looked.{looks_at_answer, looks_to_take};
 ghost use Rattle.abt_world.specs.Steps as steps;
 ghost use Rattle.abt_world.specs.Steps.{IsConnAt, ArePorts, Happens};
 ghost use Rattle.abt_world.specs.Touches.{Touches};
@@ -61,6 +62,7 @@ fn answer_adds(hop: u16, seq: u32, granted: bool, back: &Back) -> Added
 fn is_request_at(log: &Log, hop: u16, seq: u32, looks: &mut Looks) -> bool
     ensures value { (facts : List FactSpec) → IsLogOf facts log.now → 1 ≤ hop → result ≡ request_is_at facts seq hop }
     ensures looks { looks.new ≤ looks.old + 1 }
+    ensures counted { 1 ≤ hop → looks.old + 1 ≤ u64.MAX → looks.new ≡ looks.old + 1 }
 {
     if hop == 1 {
         log.asked(seq, looks).is_some()
@@ -73,6 +75,7 @@ fn is_request_at(log: &Log, hop: u16, seq: u32, looks: &mut Looks) -> bool
 fn is_yes_at(log: &Log, hops: u16, hop: u16, seq: u32, looks: &mut Looks) -> bool
     ensures value { (facts : List FactSpec) → IsLogOf facts log.now → hop < u16.MAX → result ≡ yes_is_at hops facts seq hop }
     ensures looks { looks.new ≤ looks.old + 1 }
+    ensures counted { hop < u16.MAX → looks.old + 1 ≤ u64.MAX → looks.new ≡ looks.old + 1 }
 {
     if hop == hops {
         log.was_turned(seq, looks)
@@ -85,6 +88,7 @@ fn is_yes_at(log: &Log, hops: u16, hop: u16, seq: u32, looks: &mut Looks) -> boo
 fn is_no_at(log: &Log, hops: u16, hop: u16, seq: u32, looks: &mut Looks) -> bool
     ensures value { (facts : List FactSpec) → IsLogOf facts log.now → result ≡ no_is_at hops facts seq hop }
     ensures looks { looks.new ≤ looks.old + 1 }
+    ensures counted { looks.old + 1 ≤ u64.MAX → looks.new ≡ looks.old + looks_at_answer hops hop false }
 {
     hop < hops && log.was_shut(seq, hop + 1, looks)
 }
@@ -94,6 +98,7 @@ fn is_answer_at(log: &Log, hops: u16, hop: u16, seq: u32, granted: bool, looks: 
     ensures value { (facts : List FactSpec) → IsLogOf facts log.now → hop < u16.MAX →
         result ≡ answer_is_at hops facts seq hop granted }
     ensures looks { looks.new ≤ looks.old + 1 }
+    ensures counted { hop < u16.MAX → looks.old + 1 ≤ u64.MAX → looks.new ≡ looks.old + looks_at_answer hops hop granted }
 {
     if granted {
         is_yes_at(log, hops, hop, seq, looks)
@@ -119,6 +124,10 @@ pub(crate) fn request(
         × ArePorts net (outcomes.after_event net past (event.Request place hop seq)) ports.new }
     ensures touches { Touches (steps.port_at conn.now.path hop) conn.now.vc ports.old ports.new }
     ensures looks { looks.new ≤ looks.old + 3 }
+    ensures counted { (net : Topology) (past : List ConnectionFact) (facts : List FactSpec) → IsLogOf facts log.now →
+        IsConnAt net past place conn.now facts →
+        ArePorts net past ports.old → looks.old + 3 ≤ u64.MAX →
+        looks.new ≡ looks.old + looks_to_take (length conn.now.path) (event.Request place hop seq) result.0 }
 {
     let Some(port) = port_at(conn, hop) else {
         return not_enabled(Cause::Unknown);
@@ -155,6 +164,10 @@ pub(crate) fn answer(
         × ArePorts net (outcomes.after_event net past (event.Answer place hop seq granted)) ports.new }
     ensures touches { Touches (steps.port_at conn.now.path hop) conn.now.vc ports.old ports.new }
     ensures looks { looks.new ≤ looks.old + 3 }
+    ensures counted { (net : Topology) (past : List ConnectionFact) (facts : List FactSpec) → IsLogOf facts log.now →
+        IsConnAt net past place conn.now facts →
+        ArePorts net past ports.old → looks.old + 3 ≤ u64.MAX →
+        looks.new ≡ looks.old + looks_to_take (length conn.now.path) (event.Answer place hop seq granted) result.0 }
 {
     let Some(port) = port_at(conn, hop) else {
         return not_enabled(Cause::Unknown);

@@ -1,5 +1,6 @@
 //! What one connection's events answer and add that come to no port.
 ghost use Rattle.std.specs.Prelude.{◌≡◌, ◌+◌, ◌≤◌, ◌++◌, List, length, IsSome, IfSome, true};
+ghost use Rattle.abt_rate.specs.Limits.{hops_max};
 ghost use Rattle.abt_facts.specs.declared.fact.Fact.{Fact as FactSpec};
 ghost use Rattle.abt_facts.specs.Requests.{was_asked, floor_of, ask_of};
 ghost use Rattle.abt_facts.specs.Sent.{answer_is_home};
@@ -10,6 +11,7 @@ ghost use Rattle.abt_model.specs.declared.connection_fact.ConnectionFact.{Connec
 ghost use Rattle.abt_model.specs.declared.event.Event.TheVariants.{Turn, Told};
 ghost use Rattle.abt_model.specs.Decision as decision;
 ghost use Rattle.abt_net.specs.Topology.{Topology};
+ghost use Rattle.abt_world.specs.Looked.{looks_to_take};
 ghost use Rattle.abt_world.specs.Steps.{IsConnAt, Happens};
 
 use abt_actor::{Added, SourceActor};
@@ -27,6 +29,7 @@ pub(crate) fn request_of(conn: &Conn, log: &Log, seq: u32, looks: &mut Looks) ->
     ensures some { (facts : List FactSpec) → IsLogOf facts log.now → (was_asked facts seq ≡ true) → 1 ≤ seq →
         floor_of facts seq ≤ ask_of facts seq → IsSome result }
     ensures looks { looks.new ≤ looks.old + 1 }
+    ensures counted { looks.old + 1 ≤ u64.MAX → looks.new ≡ looks.old + 1 }
 {
     let (floor, ask) = log.asked(seq, looks)?;
     Request::new(conn.vc, seq, floor, ask)
@@ -41,7 +44,7 @@ pub(crate) fn not_enabled(cause: Cause) -> (Outcome, Added)
 
 // How many hops a path has, of which a net's has 16 at most.
 pub(crate) fn hops_of(conn: &Conn) -> u16
-    ensures { length conn.now.path ≤ 16 → result ≡ length conn.now.path }
+    ensures { length conn.now.path ≤ hops_max → result ≡ length conn.now.path }
 {
     u16::try_from(conn.path.len()).unwrap_or(u16::MAX)
 }
@@ -58,6 +61,7 @@ pub(crate) fn turn(
         IsConnAt net past place conn.now facts →
         Happens net past (Turn place seq) result.0 (facts_in result.1) }
     ensures looks { looks.new ≤ looks.old + 1 }
+    ensures counted { looks.old + 1 ≤ u64.MAX → looks.new ≡ looks.old + 1 }
 {
     if log.was_passed(seq, hops_of(conn), looks) {
         (Outcome::Turned, Added::One(Fact::Turned { seq }))
@@ -70,6 +74,7 @@ pub(crate) fn turn(
 fn is_home(log: &Log, seq: u32, granted: bool, looks: &mut Looks) -> bool
     ensures value { (facts : List FactSpec) → IsLogOf facts log.now → result ≡ answer_is_home facts seq granted }
     ensures looks { looks.new ≤ looks.old + 1 }
+    ensures counted { looks.old + 1 ≤ u64.MAX → looks.new ≡ looks.old + 1 }
 {
     if granted {
         log.was_back(seq, 1, looks)
@@ -94,6 +99,10 @@ pub(crate) fn told(
         Happens net past (Told place seq granted) result.0 (facts_in result.1)
         × (actor.new ≡ actor_of conn.now.vc (facts_in result.1 ++ facts)) }
     ensures looks { looks.new ≤ looks.old + 2 }
+    ensures counted { (net : Topology) (past : List ConnectionFact) (facts : List FactSpec) → IsLogOf facts log.now →
+        IsConnAt net past place conn.now facts →
+        actor.old ≡ actor_of conn.now.vc facts → looks.old + 2 ≤ u64.MAX →
+        looks.new ≡ looks.old + looks_to_take (length conn.now.path) (Told place seq granted) result.0 }
 {
     if !is_home(log, seq, granted, looks) {
         return not_enabled(Cause::NotSent);

@@ -1,5 +1,6 @@
 //! Ports before the first event.
-ghost use Rattle.std.specs.Prelude.{◌≡◌, ◌≢◌, ◌<◌, ◌≤◌, ◌^◌, [], All, AllPairs, IfOk, OnOk, None, length, slice_index};
+ghost use Rattle.std.specs.Prelude.{◌≡◌, ◌≢◌, ◌<◌, ◌≤◌, [], All, AllPairs, IfOk, OnOk, None, length, slice_index};
+ghost use Rattle.abt_rate.specs.Limits.{capacity_max, net_connections_max, port_connections_max, tau_max};
 ghost use Rattle.std.specs.FinMap as map;
 ghost use Rattle.abt_node.specs.Table.{connection_at};
 ghost use Rattle.abt_model.specs.PortTable.{port_table};
@@ -30,9 +31,9 @@ fn hop_of(path: &[u16], port: u16) -> usize
 // Adds a connection to a port that its path goes through. The port doesn't know it and has room for it, so that it is
 // refused for want of memory alone.
 fn join(port: &mut Port, conn: &Conn) -> Result<(), AllocError>
-    requires tau { conn.now.tau ≤ 10 ^ 12 }
+    requires tau { conn.now.tau ≤ tau_max }
     requires unknown { connection_at port.old conn.now.vc ≡ None }
-    requires room { map.len port.old.connections < 1024 }
+    requires room { map.len port.old.connections < port_connections_max }
     ensures { OnOk result (port.new ≡ opening.joined port.old conn.now) }
 {
     let hop = hop_of(conn.path.as_slice(), port.id());
@@ -49,10 +50,10 @@ fn join(port: &mut Port, conn: &Conn) -> Result<(), AllocError>
 
 // A port with those of these connections that go through it.
 fn port_with(alloc: Global, id: u16, capacity: u64, conns: &[Conn]) -> Result<Port, AllocError>
-    requires capacity { capacity ≤ 2 ^ 60 }
-    requires taus { All (λ conn. conn.tau ≤ 10 ^ 12) conns.now }
+    requires capacity { capacity ≤ capacity_max }
+    requires taus { All (λ conn. conn.tau ≤ tau_max) conns.now }
     requires channels { AllPairs (λ b c. b.vc ≢ c.vc) conns.now }
-    requires count { length conns.now ≤ 1024 }
+    requires count { length conns.now ≤ net_connections_max }
     ensures { IfOk result (λ port. port ≡ opening.opening_table id capacity conns.now) }
 {
     let Some((first, others)) = conns.split_first() else {
@@ -67,7 +68,7 @@ fn port_with(alloc: Global, id: u16, capacity: u64, conns: &[Conn]) -> Result<Po
 fn capacity_of(net: &Net, id: u16) -> u64
     requires { id < length net.now.capacities }
     ensures value { result ≡ slice_index net.now.capacities id }
-    ensures bound { result ≤ 2 ^ 60 }
+    ensures bound { result ≤ capacity_max }
 {
     net.capacities()[usize::from(id)]
 }

@@ -1,5 +1,6 @@
 //! Whether what is reserved covers what is sent.
-ghost use Rattle.std.specs.Prelude.{◌≡◌, ◌+◌, ◌≤◌, length};
+ghost use Rattle.std.specs.Prelude.{◌≡◌, ◌+◌, ◌≤◌, is_some, length};
+ghost use Rattle.abt_safety.specs.Holding.{looked_at};
 ghost use Rattle.abt_safety.specs.Tallies.{one_if, over_at};
 ghost use Rattle.abt_world.specs.Seen.{seen};
 ghost use Rattle.abt_world.specs.Tallied.{shapes_above, is_broken};
@@ -23,6 +24,8 @@ pub(crate) fn marks(
     ensures over { result.over ≡ over_at port capacities.now ports.now }
     ensures broken { result.broken ≡ is_broken (seen course.now) }
     ensures looks { looks.new ≤ looks.old + length conn.now.path + 1 }
+    ensures counted { let looked = looked_at course.now.actor.source.rate conn.now.vc ports.now conn.now.path in
+        looks.old + looked + 1 ≤ u64.MAX → looks.new ≡ looks.old + looked + one_if (is_some port) }
 {
     let path = conn.path.as_slice();
     let above = !is_held(course.actor.rate(), conn.vc, path, ports, looks);
@@ -51,6 +54,7 @@ pub(crate) fn counted_marks(
         result.over ≡ over_at port capacities.now ports.now }
     ensures broken { one_if (is_broken (seen course.now)) ≤ tally.now.broken → result.broken ≡ is_broken (seen course.now) }
     ensures looks { looks.new ≤ looks.old + length conn.now.path + 1 }
+    ensures counted { tally.now.above ≡ 0 → tally.now.over ≡ 0 → tally.now.broken ≡ 0 → looks.new ≡ looks.old }
 {
     if tally.is_safe() {
         return Marks::none();

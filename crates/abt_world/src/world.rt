@@ -7,7 +7,9 @@ ghost use Rattle.abt_model.specs.Safe.{IsSafe};
 ghost use Rattle.abt_trace.specs.Traces.{IsTrace};
 ghost use Rattle.abt_model.specs.declared.event.Event.{Event};
 ghost use Rattle.abt_world.specs.Headline.{HeadlineHolds};
+ghost use Rattle.abt_world.specs.Looked.{looks_of};
 ghost use Rattle.abt_world.specs.Readings.{rate_in, held_in, total_in};
+ghost use Rattle.abt_world.specs.Sound.{IsSound};
 ghost use Rattle.abt_world.specs.Standing.{StandsFor};
 
 use crate::course::Course;
@@ -94,6 +96,8 @@ impl<'net> World<'net> {
         ensures headline { (net : Topology) (events : List Event) → StandsFor net events self.old →
             OnOk result (HeadlineHolds net (facts_after net (events ++ event.now ∷ []))) }
         ensures looks { OnOk result (self.new.looks ≤ 128) }
+        ensures counted { (net : Topology) (events : List Event) → StandsFor net events self.old →
+            OnOk result (self.new.looks ≡ looks_of net (facts_after net events) event.now) }
         ensures same { OnErr result (self.new ≡ self.old) }
     {
         asks_rate(event);
@@ -186,8 +190,11 @@ impl<'net> World<'net> {
     /// and each cell that arrived was found conforming (docs/GUARANTEES.md, "The headline"). It is counted anew at
     /// each event.
     pub fn safe(&self) -> bool
-        ensures { (net : Topology) (events : List Event) → StandsFor net events self.now →
+        ensures state { (result ≡ true) ↔ IsSound self.now }
+        ensures value { (net : Topology) (events : List Event) → StandsFor net events self.now →
             (result ≡ true) ↔ IsSafe net (facts_after net events) }
+        ensures headline { (net : Topology) (events : List Event) → StandsFor net events self.now →
+            HeadlineHolds net (facts_after net events) }
     {
         self.tally.is_safe()
     }

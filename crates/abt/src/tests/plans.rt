@@ -102,10 +102,7 @@ fn link_workers_are_one_to_64_in_digits_alone(rt: HostRuntime) {
 }
 
 fn is_refused(words: &[&str], alloc: std::alloc::Global) -> bool {
-    match plan_words(alloc, words) {
-        Err(WordsFault::Memory) => matches!(plan_words(alloc, words), Err(WordsFault::Words(_))),
-        answer => matches!(answer, Err(WordsFault::Words(_))),
-    }
+    matches!(plan_words(alloc, words), Err(WordsFault::Words(_)))
 }
 
 #[test]

@@ -9,13 +9,13 @@ use std::process::Abort;
 use std::test::Fail;
 
 /// The example of docs/FORMATS.md, "Report".
-const EXAMPLE: &str =
+pub(super) const EXAMPLE: &str =
     "ports = [512000]\nevents = [\n  \"start 0 0\", \"ask 0 5120\", \"request 0 1 1\", \"turn 0 1\",\n  \
     \"yes 0 1 1\", \"ask 0 5258\", \"told-yes 0 1\",\n]\n\
     [[connection]]\nvpi = 1\nvci = 100\npath = [0]\ndelay = 1000\ntau = 200\n";
 
 /// Its report.
-const EXAMPLE_REPORT: &str =
+pub(super) const EXAMPLE_REPORT: &str =
     "events 7\n1 started\n2 asked 1 0000 5120\n3 passed\n4 turned\n5 passed\n6 asked 2 0000 5258\n\
     7 told Ignored\nconnection 0 rate 0000 held 5120\nport 0 total 204800 capacity 512000\nsafe\n";
 
@@ -54,7 +54,7 @@ impl Read for Endless {
     }
 }
 
-/// Runs what a reader has, and demands the status, what goes out and what is told. Answers false where memory was refused.
+/// Runs what a reader has, and demands the status, what goes out and what is told.
 fn is_run<R: Read>(
     rt: &impl Abort,
     alloc: Global,
@@ -62,24 +62,18 @@ fn is_run<R: Read>(
     reader: &mut R,
     text: &str,
     fault: &str,
-) -> bool
+)
     requires { IsWithinLimits plan.now }
 {
     let mut out = Narrow::new(512);
     let mut errors = Narrow::new(512);
     let status = done_alone(alloc, plan, reader, &mut out, &mut errors);
-    if errors.taken() == "fault: memory\n".as_bytes() {
-        assert_eq!(rt; status, 1);
-        assert_eq!(rt; out.taken(), "".as_bytes());
-        return false;
-    }
     assert_eq!(rt; errors.taken(), fault.as_bytes());
     assert_eq!(rt; out.taken(), text.as_bytes());
     assert_eq!(rt; status, if fault.is_empty() { 0 } else { 1 });
-    true
 }
 
-/// The same of a scenario's text. Where memory is refused, it is run again.
+/// The same of a scenario's text.
 fn expect_run(
     rt: &impl Abort,
     alloc: Global,
@@ -88,14 +82,9 @@ fn expect_run(
     fault: &str,
 ) -> Result<(), Fail> {
     let plan = planned(alloc, &["run"])?;
-    let mut first = scenario;
-    let mut second = scenario;
-    if is_run(rt, alloc, &plan, &mut first, text, fault)
-        || is_run(rt, alloc, &plan, &mut second, text, fault)
-    {
-        return Ok(());
-    }
-    Err(Fail::from("memory was refused twice"))
+    let mut reader = scenario;
+    is_run(rt, alloc, &plan, &mut reader, text, fault);
+    Ok(())
 }
 
 #[test]
@@ -176,8 +165,8 @@ fn a_reader_that_fails_or_never_ends_is_told(rt: HostRuntime) -> Result<(), Fail
     let mut failing = Failing {
         left: b"ports = []",
     };
-    let _ = is_run(&rt, alloc, &plan, &mut failing, "", "fault: read\n");
-    let _ = is_run(&rt, alloc, &plan, &mut Endless, "", "fault: TooLong\n");
+    is_run(&rt, alloc, &plan, &mut failing, "", "fault: read\n");
+    is_run(&rt, alloc, &plan, &mut Endless, "", "fault: TooLong\n");
     Ok(())
 }
 
@@ -198,10 +187,6 @@ fn breaks_off(rt: &impl Abort, alloc: Global, plan: &Plan, room: usize)
     let mut errors = Narrow::new(512);
     let status = done_alone(alloc, plan, &mut EXAMPLE.as_bytes(), &mut out, &mut errors);
     assert_eq!(rt; status, 1);
-    if errors.taken() == "fault: memory\n".as_bytes() {
-        assert_eq!(rt; out.taken().len(), 0);
-        return;
-    }
     assert_eq!(rt; errors.taken(), "fault: write\n".as_bytes());
     assert_eq!(rt; out.taken().len(), room);
     assert!(rt; EXAMPLE_REPORT.as_bytes().starts_with(out.taken()));

@@ -1,10 +1,10 @@
-use super::{ONE_PORT, expect};
-use crate::faults::{fault_of_run, fault_of_weave};
-use abt_perform::Fault;
+use super::{CROSSING, Narrow, ONE_PORT, expect};
+use crate::faults::{fault_of_run, fault_of_show};
+use crate::showing::ShowFault;
+use abt_perform::{Fault, tell_fault};
 use abt_ports::GatherFault;
 use abt_threads::RunFault;
 use abt_weave::{Actor, Sequence, WeaveFault};
-use std::alloc::Global;
 use std::process::Abort;
 use std::test::Fail;
 
@@ -12,7 +12,34 @@ use std::test::Fail;
 fn a_jitter_above_the_tau_is_told(rt: HostRuntime) -> Result<(), Fail> {
     let alloc = rt.alloc();
     let scenario = format!(in alloc; "{ONE_PORT}script = [\"emit 0 201\"]\n")?;
-    expect(&rt, alloc, 4, scenario.as_bytes(), "", "fault: Scripts\n")
+    expect(&rt, alloc, 4, scenario.as_bytes(), "", "fault: Scripts\n");
+    Ok(())
+}
+
+#[test]
+fn link_workers_are_counted_before_scripts_are_looked_at(rt: HostRuntime) -> Result<(), Fail> {
+    let alloc = rt.alloc();
+    let scenario = format!(in alloc; "{ONE_PORT}script = [\"emit 0 201\"]\n")?;
+    for workers in [0, 65, u16::MAX] {
+        expect(
+            &rt,
+            alloc,
+            workers,
+            scenario.as_bytes(),
+            "",
+            "fault: Workers\n",
+        );
+        expect(
+            &rt,
+            alloc,
+            workers,
+            CROSSING.as_bytes(),
+            "",
+            "fault: Workers\n",
+        );
+        expect(&rt, alloc, workers, b"", "", "fault: MissingKey ports\n");
+    }
+    Ok(())
 }
 
 #[test]
@@ -24,12 +51,12 @@ fn each_fault_of_a_scenario_is_told_as_of_a_run(rt: HostRuntime) -> Result<(), F
         ("ports = 5", "fault: WrongType ports\n"),
         ("ports = []\nevents = [\"crash\"]", "fault: EventText 1\n"),
     ] {
-        expect(&rt, alloc, 1, text.as_bytes(), "", fault)?;
+        expect(&rt, alloc, 1, text.as_bytes(), "", fault);
     }
     let net = format!(in alloc;
         "{ONE_PORT}[[connection]]\nvpi = 1\nvci = 101\npath = [7]\ndelay = 0\ntau = 0\n"
     )?;
-    expect(&rt, alloc, 1, net.as_bytes(), "", "fault: Net NoPort 1\n")?;
+    expect(&rt, alloc, 1, net.as_bytes(), "", "fault: Net NoPort 1\n");
     let script = format!(in alloc; "{ONE_PORT}script = [\"start 0\", \"emit 5\"]\n")?;
     expect(
         &rt,
@@ -38,22 +65,20 @@ fn each_fault_of_a_scenario_is_told_as_of_a_run(rt: HostRuntime) -> Result<(), F
         script.as_bytes(),
         "",
         "fault: ScriptText 0 2\n",
-    )?;
-    expect(&rt, alloc, 1, b"ports = []\xff", "", "fault: NotUtf8\n")
-}
-
-// The line of a fault. Where memory is refused, it is made once more.
-fn tells(rt: &impl Abort, alloc: Global, fault: Fault, line: &str) -> Result<(), Fail> {
-    let told = match fault.line(alloc) {
-        Ok(told) => told,
-        Err(_) => fault.line(alloc)?,
-    };
-    assert_eq!(rt; told.as_str(), line);
+    );
+    expect(&rt, alloc, 1, b"ports = []\xff", "", "fault: NotUtf8\n");
     Ok(())
 }
 
+// The line that is told of a fault.
+fn tells(rt: &impl Abort, fault: Fault, line: &str) {
+    let mut errors = Narrow::new(64);
+    tell_fault(fault, &mut errors);
+    assert_eq!(rt; errors.taken(), line.as_bytes());
+}
+
 #[test]
-fn faults_of_threads_are_told_by_the_name_alone(rt: HostRuntime) -> Result<(), Fail> {
+fn faults_of_threads_are_told_by_the_name_alone(rt: HostRuntime) {
     let alloc = rt.alloc();
     for (fault, line) in [
         (RunFault::Workers, "fault: Workers\n"),
@@ -63,15 +88,17 @@ fn faults_of_threads_are_told_by_the_name_alone(rt: HostRuntime) -> Result<(), F
         (RunFault::Gather(GatherFault::Count), "fault: Gather\n"),
         (RunFault::Memory, "fault: memory\n"),
     ] {
-        tells(&rt, alloc, fault_of_run(fault), line)?;
+        tells(&rt, fault_of_run(fault), line);
     }
-    let mismatch = WeaveFault::Mismatch {
+    let mismatch = ShowFault::Weave(WeaveFault::Mismatch {
         actor: Actor::Port(3),
         place: 7,
-    };
-    tells(&rt, alloc, fault_of_weave(&mismatch), "fault: Mismatch\n")?;
-    let stuck = WeaveFault::NoOrder(Sequence::new(alloc));
-    tells(&rt, alloc, fault_of_weave(&stuck), "fault: NoOrder\n")?;
-    let memory = fault_of_weave(&WeaveFault::Memory);
-    tells(&rt, alloc, memory, "fault: memory\n")
+    });
+    tells(&rt, fault_of_show(&mismatch), "fault: Mismatch\n");
+    let stuck = ShowFault::Weave(WeaveFault::NoOrder(Sequence::new(alloc)));
+    tells(&rt, fault_of_show(&stuck), "fault: NoOrder\n");
+    let memory = ShowFault::Weave(WeaveFault::Memory);
+    tells(&rt, fault_of_show(&memory), "fault: memory\n");
+    tells(&rt, fault_of_show(&ShowFault::Trace), "fault: memory\n");
+    tells(&rt, fault_of_show(&ShowFault::Write), "fault: write\n");
 }

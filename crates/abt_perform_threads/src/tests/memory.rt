@@ -1,24 +1,39 @@
-//! Each allocation fails in turn where the tests are run by `rt try --test --fail-alloc N`: then a fault is told, the lines before
-//! it stay, and the same call is done when it is made again.
-use super::{ALL, CROSSING, expect, run_over};
+//! Each allocation fails in turn where these tests are run by `rt try --test --fail-alloc N` (docs/TESTING.md): then that is told, the
+//! lines before it stay, and the same call is done when it is made again.
+use super::{ALL, CROSSING, Ended, run_over};
 use std::test::Fail;
 
-#[test]
-fn a_run_is_shown_after_memory_was_refused(rt: HostRuntime) -> Result<(), Fail> {
-    expect(&rt, rt.alloc(), 2, CROSSING.as_bytes(), ALL, "")
+/// Whether memory was refused. A thread that isn't started for want of it is told as that.
+fn lacked_memory(end: &Ended) -> bool {
+    let lines = ["", "gathered\n", "gathered\nwoven\n"];
+    lines.iter().any(|text| end.is(1, text, "fault: memory\n")) || end.is(1, "", "fault: Thread\n")
 }
 
 #[test]
-fn what_went_out_before_memory_was_refused_is_whole_lines(rt: HostRuntime) {
-    let mut reader = CROSSING.as_bytes();
-    let end = run_over(&rt, rt.alloc(), 1, &mut reader, 64);
-    if !end.is(0, ALL, "") {
-        assert!(rt; end.lacked_memory());
-        let out = end.out.taken();
-        assert!(rt;
-            ["", "gathered\n", "gathered\nwoven\n"]
-                .iter()
-                .any(|lines| lines.as_bytes() == out)
-        );
+fn a_run_is_shown_after_memory_was_refused(rt: HostRuntime) {
+    let mut refused = false;
+    for _run in 0..3 {
+        let end = run_over(&rt, rt.alloc(), 2, &mut CROSSING.as_bytes(), 64);
+        if !end.is(0, ALL, "") {
+            assert!(rt; lacked_memory(&end) && !refused);
+            refused = true;
+        }
     }
+}
+
+#[test]
+fn a_text_that_is_no_scenario_is_told_as_that_or_memory_was_refused(
+    rt: HostRuntime,
+) -> Result<(), Fail> {
+    for (text, fault) in [
+        ("ports = [", "fault: Toml\n"),
+        ("ports = 5", "fault: WrongType ports\n"),
+        ("ports = []\nevents = [\"crash\"]", "fault: EventText 1\n"),
+    ] {
+        let first = run_over(&rt, rt.alloc(), 1, &mut text.as_bytes(), 64);
+        assert!(rt; first.is(1, "", fault) || first.is(1, "", "fault: memory\n"));
+        let second = run_over(&rt, rt.alloc(), 1, &mut text.as_bytes(), 64);
+        assert!(rt; first.is(1, "", fault) || second.is(1, "", fault));
+    }
+    Ok(())
 }

@@ -1,5 +1,3 @@
-ghost use Rattle.std.specs.Prelude.{◌≤◌};
-
 use super::{ALL, CROSSING, Narrow, ONE_PORT, run_over};
 use crate::perform_threads;
 use abt_perform::Plan;
@@ -43,16 +41,14 @@ fn where_the_output_breaks_off_the_lines_before_stay(rt: HostRuntime) {
     for room in 0..20usize {
         let mut reader = CROSSING.as_bytes();
         let end = run_over(&rt, rt.alloc(), 3, &mut reader, room);
-        if !end.lacked_memory() {
-            assert_eq!(rt; end.status, 1);
-            assert_eq!(rt; end.errors.taken(), "fault: write\n".as_bytes());
-            assert_eq!(rt; end.out.taken().len(), room);
-        }
+        assert_eq!(rt; end.status, 1);
+        assert_eq!(rt; end.errors.taken(), "fault: write\n".as_bytes());
+        assert_eq!(rt; end.out.taken().len(), room);
         assert!(rt; ALL.as_bytes().starts_with(end.out.taken()));
     }
     let mut reader = CROSSING.as_bytes();
     let end = run_over(&rt, rt.alloc(), 3, &mut reader, 20);
-    assert!(rt; end.is(0, ALL, "") || end.lacked_memory());
+    assert!(rt; end.is(0, ALL, ""));
 }
 
 #[test]
@@ -63,14 +59,14 @@ fn a_reader_that_fails_at_any_read_is_told(rt: HostRuntime) {
             left: &scenario[..given],
         };
         let end = run_over(&rt, rt.alloc(), 1, &mut reader, 64);
-        assert!(rt; end.is(1, "", "fault: read\n") || end.lacked_memory());
+        assert!(rt; end.is(1, "", "fault: read\n"));
     }
 }
 
 #[test]
 fn a_reader_that_never_ends_is_too_long(rt: HostRuntime) {
     let end = run_over(&rt, rt.alloc(), 1, &mut Endless, 64);
-    assert!(rt; end.is(1, "", "fault: TooLong\n") || end.lacked_memory());
+    assert!(rt; end.is(1, "", "fault: TooLong\n"));
 }
 
 #[test]
@@ -88,11 +84,8 @@ fn a_fault_that_cannot_be_told_changes_no_status(rt: HostRuntime) -> Result<(), 
         let status = perform_threads(&rt, alloc, &plan, &mut reader, &mut out, &mut errors);
         assert_eq!(rt; status, 1);
         assert_eq!(rt; out.taken().len(), 0);
-        let told = errors.taken();
-        assert!(rt;
-            "fault: Scripts\n".as_bytes().starts_with(told)
-                || "fault: memory\n".as_bytes().starts_with(told)
-        );
+        let line = "fault: Scripts\n".as_bytes();
+        assert_eq!(rt; errors.taken(), &line[..room.min(line.len())]);
     }
     Ok(())
 }

@@ -2,8 +2,8 @@ use Rattle.std.proofs.Common.{rules, subst}
 use Rattle.abt_ports.specs.Gathered.{journals_of, CountsFit}
 use Rattle.abt_ports.specs.Missing.{AllInOrder}
 use Rattle.abt_ports.specs.Foreign.{AreOfNet}
-use Rattle.abt_ports.proofs.Histories.{are_histories}
 use Rattle.abt_ports.proofs.Walk.{none_found}
+use Rattle.abt_ports.proofs.Histories.{are_histories}
 use Rattle.abt_ports.proofs.Pigeon.{gathered, are_receipts}
 use Rattle.abt_ports.proofs.gathering.gather.Goals as goal
 
@@ -16,16 +16,16 @@ pub returns-clause-gathered : goal.returns-clause-gathered
 returns-clause-gathered c =
     let fit : CountsFit (journals_of c.args.states.items) c.args.seats.items = search rules in
     let order : AllInOrder (journals_of c.args.states.items) c.args.seats.items =
-    subst (AllInOrder (journals_of c.args.states.items)) c.deref-5.ensures.value
-    (subst (λ states. AllInOrder (journals_of states) c.deref-5.result.now) c.deref-4.ensures.value
-    (none_found c.first_missing.result c.in_default-first_missing.is c.first_missing.ensures.none)) in
+    subst (AllInOrder (journals_of c.args.states.items)) c.deref-2.ensures.value
+    (subst (λ states. AllInOrder (journals_of states) c.deref-2.result.now) c.deref.ensures.value
+    (none_found c.first_fault.result c.in_default.is c.first_fault.ensures.order)) in
     rw c.entries_of.ensures.value (gathered (journals_of c.args.states.items) c.args.seats.items fit order)
 
 pub returns-clause-receipts : goal.returns-clause-receipts
 returns-clause-receipts c =
     let fit : CountsFit (journals_of c.args.states.items) c.args.seats.items = search rules in
     let order : AllInOrder (journals_of c.args.states.items) c.args.seats.items =
-    subst (AllInOrder (journals_of c.args.states.items)) c.deref-5.ensures.value
-    (subst (λ states. AllInOrder (journals_of states) c.deref-5.result.now) c.deref-4.ensures.value
-    (none_found c.first_missing.result c.in_default-first_missing.is c.first_missing.ensures.none)) in
+    subst (AllInOrder (journals_of c.args.states.items)) c.deref-2.ensures.value
+    (subst (λ states. AllInOrder (journals_of states) c.deref-2.result.now) c.deref.ensures.value
+    (none_found c.first_fault.result c.in_default.is c.first_fault.ensures.order)) in
     rw c.entries_of.ensures.value (are_receipts (journals_of c.args.states.items) c.args.seats.items fit order)

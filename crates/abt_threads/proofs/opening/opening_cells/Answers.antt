@@ -1,7 +1,5 @@
-use Rattle.std.proofs.Common.{rules, ◌≡◌, ◌+◌, ◌∙◌, sym, ap, subst, length, arith}
-use Rattle.abt_node.specs.Table.{Table}
+use Rattle.std.proofs.Common.{rules, ◌≡◌, sym, subst, length}
 use Rattle.abt_journal.specs.Opening.{IsOpening}
-use Rattle.abt_ports.specs.declared.cell.PortCell.{PortCell}
 use Rattle.abt_threads.proofs.Opened.{places-push}
 use Rattle.abt_threads.proofs.Tables.{IsOpening-port}
 use Rattle.abt_threads.proofs.opening.opening_cells.Goals as goal

@@ -6,6 +6,6 @@ use Rattle.abt_threads.proofs.start.start_links.Goals as goal
 pub loop-to-preserved : goal.loop-to-preserved
 loop-to-preserved g c =
     let inv = c.loop-to.invariant in
-    let grown : c.push_reserved.new.self.items ≡ c.loop-to.handles.items ++ c.in-Ok.handle ∷ [] = c.push_reserved.ensures.items in
-    let here : c.in-Ok.handle.promise.caller ≡ length c.args.bench.now.net.now.conns + length c.loop-to.handles.items = ap (λ (p : LinkOf). p.caller) c.in-Ok.ensures.ok ∙ search rules in
-    (search rules, search rules, search rules, links-push (λ h. h.promise) (length c.args.bench.now.net.now.conns) c.loop-to.handles.items c.push_reserved.new.self.items c.in-Ok.handle grown inv.3 here)
+    let grown : c.add_link.new.self.links.items ≡ c.loop-to.crew.links.items ++ c.in-Ok.handle ∷ [] = c.add_link.ensures.links in
+    let here : c.in-Ok.handle.promise.caller ≡ length c.args.bench.now.net.now.conns + length c.loop-to.crew.links.items = ap (λ (p : LinkOf). p.caller) c.in-Ok.ensures.ok ∙ search rules in
+    (search rules, search rules, search rules, links-push (λ h. h.promise) (length c.args.bench.now.net.now.conns) c.loop-to.crew.links.items c.add_link.new.self.links.items c.in-Ok.handle grown inv.3 here, search rules)

@@ -5,7 +5,8 @@ use Rattle.abt_threads.proofs.start.start_links.Given as goal
 
 abbrev pub invariant-loop-to : goal.invariant-loop-to
 invariant-loop-to g l =
-    (l.caller ≡ length l.net.conns + vec_len l.handles)
-    × (vec_len l.handles + into_iter_len l.to-iterator ≡ into_iter_len l.initial.to-iterator)
-    × (into_iter_len l.initial.to-iterator ≤ vec_capacity l.handles)
-    × AreLinksFrom (length l.net.conns) (map (λ h. h.promise) (vec_items l.handles))
+    (l.caller ≡ length l.net.conns + vec_len l.crew.links)
+    × (vec_len l.crew.links + into_iter_len l.to-iterator ≡ into_iter_len l.initial.to-iterator)
+    × (into_iter_len l.initial.to-iterator ≤ vec_capacity l.crew.links)
+    × AreLinksFrom (length l.net.conns) (map (λ h. h.promise) (vec_items l.crew.links))
+    × (l.crew.sources ≡ l.initial.crew.sources)

@@ -5,7 +5,9 @@ use Rattle.abt_threads.proofs.start.start_sources.Given as goal
 
 abbrev pub invariant-loop-to : goal.invariant-loop-to
 invariant-loop-to g l =
-    (l.conn ≡ vec_len l.handles)
-    × (vec_len l.handles + into_iter_len l.to-iterator ≡ into_iter_len l.initial.to-iterator)
-    × (into_iter_len l.initial.to-iterator ≤ vec_capacity l.handles)
-    × AreAccessesFrom l.net 0 l.scripts (map (λ h. h.promise) (vec_items l.handles))
+    (l.conn ≡ vec_len l.crew.sources)
+    × (vec_len l.crew.sources + into_iter_len l.to-iterator ≡ into_iter_len l.initial.to-iterator)
+    × (into_iter_len l.initial.to-iterator ≤ vec_capacity l.crew.sources)
+    × AreAccessesFrom l.net 0 l.scripts (map (λ h. h.promise) (vec_items l.crew.sources))
+    × (l.crew.links ≡ l.initial.crew.links)
+    × (l.crew.complete ≡ l.initial.crew.complete)

@@ -1,15 +1,14 @@
-use Rattle.std.proofs.Common.{◌≡◌, ◌≢◌, ◌∙◌, ◌<◌, ◌+◌, ◌++◌, ◌∷◌, [], ℕ, refl, ap, sym, subst, length, reverse, rules, arith, Some, None, Bool, true, false}
-use Rattle.std.specs.Prelude.{slice_index}
+use Rattle.std.proofs.Common.{◌≡◌, ◌≢◌, ◌∙◌, ◌++◌, ◌∷◌, [], refl, ap, subst, Some}
 use Rattle.abt_model.specs.Outcomes.{outcome_of}
 use Rattle.abt_model.specs.Run.{facts_after}
 use Rattle.abt_world.specs.Standing.{StandsFor}
-use Rattle.abt_woven.specs.Projections.{step_of, is_enabled, reply_of}
-use Rattle.abt_weave.specs.declared.trying.Tried.TheVariants.{Agrees, Differs, Absent}
+use Rattle.abt_woven.specs.Projections.{reply_of}
+use Rattle.abt_weave.specs.declared.trying.Tried.TheVariants.{Agrees}
 use Rattle.abt_weave.specs.Tried.{IsVisitTried, IsTurnTried}
-use Rattle.abt_weave.specs.Board.{journaled, IsPlacing, IsPortSettled}
-use Rattle.abt_weave.specs.Comes.{IsExpected}
+use Rattle.abt_weave.specs.Board.{journaled}
 use Rattle.abt_weave.proofs.SourceLooks.{board_kept, place_is}
 use Rattle.abt_weave.proofs.PortLooks.{expected_absent, expected_turn_differs, expected_after, turn_off}
+use Rattle.abt_weave.proofs.Needed.{turn_needed}
 use Rattle.abt_weave.proofs.PortPlaces.{expected_placed, turn_placed}
 use Rattle.abt_weave.proofs.Tries.{not_agreed}
 use Rattle.abt_weave.proofs.port.look_after_turn.Goals as goal
@@ -59,11 +58,12 @@ returns-in_ok-push-in-Agrees-2 c =
     let pp = c.args.board.now.port_places.items in
     let its = c.in-Some.ensures.some in
     let went = subst (λ b. IsTurnTried net events c.in-Some.turn c.try_turn.new.world b) c.if-not-branch.false (c.in_ok-try_turn.ensures net events c.requires.board.stands) in
-    let later = turn_placed net js events c.args.board.now.world c.try_turn.new.world sp pp c.args.it.event c.in-Some.turn c.requires.board its went.1 in
     let same = c.in_ok-reserve.ensures.items in
     let is : c.in_ok-try_visit.field-0 ≡ Agrees = c.in-Agrees.is in
-    let tried = subst (λ t. IsVisitTried net (events ++ c.in-Some.turn ∷ []) c.args.it.event c.args.entry.now.reply c.try_visit.new.world t) is (c.in_ok-try_visit.ensures net (events ++ c.in-Some.turn ∷ []) later.stands) in
+    let tried = subst (λ t. IsVisitTried net (events ++ c.in-Some.turn ∷ []) c.args.it.event c.args.entry.now.reply c.try_visit.new.world t) is (c.in_ok-try_visit.ensures net (events ++ c.in-Some.turn ∷ []) went.1) in
     let it = expected_after net js events sp c.args.port c.args.entry.now.place c.args.entry.now.input c.args.entry.now.reply c.args.it.conn c.args.it.reached c.args.it.event c.in-Some.turn c.requires.expected its went.0 in
+    let needed = turn_needed net js events sp c.args.port c.args.entry.now.place c.args.entry.now.input c.args.entry.now.reply c.args.it.conn c.args.it.reached c.args.it.event c.in-Some.turn its went.0 c.requires.absent it tried.0 in
+    let later = turn_placed net js events c.args.board.now.world c.try_turn.new.world sp pp c.args.it.event c.in-Some.turn c.requires.board its went.1 needed in
     let pushed = c.in_ok-push-in-Agrees-2.ensures.items ∙ ap (λ l. l ++ c.args.it.event ∷ []) (c.in_ok-push-in-Agrees.ensures.items ∙ ap (λ l. l ++ c.in-Some.turn ∷ []) same) in
     let at = place_is pp c.from-in-Agrees.result c.args.port c.index_mut-in-Agrees.result.now c.from-in-Agrees.ensures c.requires.port c.index_mut-in-Agrees.ensures.value in
     expected_placed net js (events ++ c.in-Some.turn ∷ []) c.push-in-Agrees.new.self.items c.try_turn.new.world c.try_visit.new.world sp pp c.args.port c.from-in-Agrees.result c.index_mut-in-Agrees.result.now c.args.entry.now.place c.args.it.conn c.from.result
@@ -80,10 +80,9 @@ returns-in_ok-board-in_default-2 c =
     let pp = c.args.board.now.port_places.items in
     let its = c.in-Some.ensures.some in
     let went = subst (λ b. IsTurnTried net events c.in-Some.turn c.try_turn.new.world b) c.if-not-branch.false (c.in_ok-try_turn.ensures net events c.requires.board.stands) in
-    let later = turn_placed net js events c.args.board.now.world c.try_turn.new.world sp pp c.args.it.event c.in-Some.turn c.requires.board its went.1 in
     let same = c.in_ok-reserve.ensures.items in
     let differ : reply_of (outcome_of net (facts_after net (events ++ c.in-Some.turn ∷ [])) c.args.it.event) ≢ Some c.args.entry.now.reply =
-    not_agreed net (events ++ c.in-Some.turn ∷ []) c.args.it.event c.args.entry.now.reply c.try_visit.new.world c.in_ok-try_visit.field-0 c.in_default-2.not-Agrees (c.in_ok-try_visit.ensures net (events ++ c.in-Some.turn ∷ []) later.stands) in
+    not_agreed net (events ++ c.in-Some.turn ∷ []) c.args.it.event c.args.entry.now.reply c.try_visit.new.world c.in_ok-try_visit.field-0 c.in_default-2.not-Agrees (c.in_ok-try_visit.ensures net (events ++ c.in-Some.turn ∷ []) went.1) in
     let after : StandsFor net events c.in_ok-board-in_default-2.field-0 = subst (λ l. StandsFor net l c.in_ok-board-in_default-2.field-0) (c.deref.ensures.value ∙ same) c.in_ok-board-in_default-2.ensures in (
       board_kept net js events c.reserve.new.self.items c.args.board.now.world c.in_ok-board-in_default-2.field-0 sp pp c.requires.board after same,
       same,

@@ -4,6 +4,7 @@ use Rattle.abt_weave.specs.Actors.{actor_at}
 use Rattle.abt_weave.specs.Board.{journaled}
 use Rattle.abt_weave.specs.Faults.{all_left}
 use Rattle.abt_weave.specs.Marks.{AreUnmarked, IsFirstMark}
+use Rattle.abt_weave.specs.Shown.{AreShown}
 use Rattle.abt_weave.proofs.Numbers.{are_journals}
 use Rattle.abt_weave.proofs.Wovens.{first_is, none_mismatch, all_woven, empty_is, some_left}
 use Rattle.abt_model.specs.Run.{facts_after}
@@ -31,7 +32,7 @@ returns-in-Some-clause-err c =
     let settled = c.in_ok-marks.ensures.marks in
     let are = are_journals net ports sources c.requires.conns c.requires.ports in
     let first = subst (λ m. IsFirstMark net m sp pp c.in-Some.field-0) c.deref.ensures.value c.in-Some.ensures.first in
-    (events, (all_still net js are c.in-Some.ensures.rules (reverse events) ms board.placed settled, first_is net js are events world sp pp ms c.in-Some.field-0 board settled first))
+    (events, board.stands.rates, all_still net js are c.in-Some.ensures.rules (reverse events) ms board.placed settled, first_is net js are events world sp pp ms c.in-Some.field-0 board settled first)
 
 pub returns-then-not-is_empty-clause-err : goal.returns-then-not-is_empty-clause-err
 returns-then-not-is_empty-clause-err c =
@@ -46,12 +47,11 @@ returns-then-not-is_empty-clause-err c =
     let are = are_journals net ports sources c.requires.conns c.requires.ports in
     let none : AreUnmarked ms (length ms) = subst (λ m. AreUnmarked m (length m)) c.deref.ensures.value c.in_default.ensures.first in (
       events,
-      (
-        all_still net js are c.in_default.ensures.rules (reverse events) ms board.placed settled,
-        none_mismatch net js are (reverse events) ms settled none,
-        c.in_ok-left.ensures,
-        some_left c.in_ok-left.left (sym c.is_empty.ensures ∙ c.if-not-is_empty.true),
-      ),
+      board.stands.rates,
+      all_still net js are c.in_default.ensures.rules (reverse events) ms board.placed settled,
+      none_mismatch net js are (reverse events) ms settled none,
+      c.in_ok-left.ensures,
+      some_left c.in_ok-left.left (sym c.is_empty.ensures ∙ c.if-not-is_empty.true),
     )
 
 pub returns-clause-ok : goal.returns-clause-ok
@@ -66,6 +66,10 @@ returns-clause-ok c =
     let pp = c.settle.new.board.port_places.items in
     let none : all_left net js (reverse events) ≡ [] = sym c.in_ok-left.ensures ∙ empty_is c.in_ok-left.left (sym c.is_empty.ensures ∙ c.if-not-is_empty.false) in
     subst (λ l. IsWoven net js.ports js.sources l) (sym c.from.ensures) (all_woven net js events c.settle.new.board.world sp pp board none)
+
+pub returns-clause-shown : goal.returns-clause-shown
+returns-clause-shown c =
+    subst (λ l. AreShown c.args.given.now.net.now (journaled c.args.given.now.ports.now c.args.given.now.sources.now) (reverse l)) (sym c.from.ensures) c.in_ok-marks.ensures.board.shown
 
 pub returns-clause-leaves : goal.returns-clause-leaves
 returns-clause-leaves c =

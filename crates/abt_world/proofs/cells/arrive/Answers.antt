@@ -96,3 +96,25 @@ returns-clause-touches c =
     let there = slice_get-get_or ports port c.index-ports-counting-2.result low in
     touched (port_at c.args.conn.now.path 1) port c.args.conn.now.vc ports _ c.arrive.new.self (sym c.in-Some-port_at.ensures ∙ ap Some (sym (counted ∙ c.from-port.ensures))) there
     (λ other apart. ap (λ (t : Table). connection_at t other) c.in-Ok.ensures.table ∙ arrival_leaves_others _ c.args.conn.now.vc c.args.at other apart)
+
+pub returns-in_default-held-clause-counted : goal.returns-in_default-held-clause-counted
+returns-in_default-held-clause-counted c net past facts log is are count room =
+    let counted = c.counting.ensures.value in
+    let within = c.if-port-ports.false in
+    let port = c.counting.result in
+    let low : port < length c.args.ports.now = omega arith in
+    let has = sym c.in-Some-port_at.ensures ∙ ap Some (sym (counted ∙ c.from-port.ensures)) in
+    let there = rate_there net past c.args.place c.args.conn.now facts 1 port c.args.ports.now _ is are has low
+    (slice_get-get_or c.args.ports.now port c.index-ports-counting.result low) in
+    absurd (let e = c.in_default-held.ensures ∙ there in cc)
+
+pub returns-in_default-arrive-clause-counted : goal.returns-in_default-arrive-clause-counted
+returns-in_default-arrive-clause-counted c net past facts log is are count room =
+    let counted = c.counting-2.ensures.value in
+    let within = c.if-port-ports.false in
+    let port = c.counting-2.result in
+    let low : port < length c.args.ports.now = omega arith in
+    let has = sym c.in-Some-port_at.ensures ∙ ap Some (sym (counted ∙ c.from-port.ensures)) in
+    let j = judged net past c.args.place c.args.conn.now facts c.args.cell c.args.at port c.args.ports.now _ is are has low
+    (slice_get-get_or c.args.ports.now port c.index-ports-counting-2.result low) (sym (c.in_default.ensures.value facts log count)) in
+    absurd (let e = c.in_default-arrive.ensures.value ∙ j.verdict in cc)

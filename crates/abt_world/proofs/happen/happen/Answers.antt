@@ -1,10 +1,18 @@
-use Rattle.std.proofs.Common.{◌∙◌, refl, sym, subst, ap}
+use Rattle.std.proofs.Common.{◌≡◌, ℕ, ◌+◌, ◌∙◌, List, refl, sym, subst, ap, arith, length}
+use Rattle.abt_net.specs.Topology.{Topology}
+use Rattle.abt_net.specs.declared.conn.Conn.{Conn}
+use Rattle.abt_facts.specs.declared.fact.Fact.{Fact}
+use Rattle.abt_model.specs.declared.connection_fact.ConnectionFact.{ConnectionFact}
+use Rattle.abt_model.specs.declared.outcome.Outcome.{Outcome}
+use Rattle.abt_model.specs.Outcomes.{conn_of}
+use Rattle.abt_world.specs.Steps.{IsConnAt}
 use Rattle.abt_actor.specs.Facts.{facts_in}
 use Rattle.abt_model.specs.declared.command.SourceCommand.TheVariants as command
 use Rattle.abt_model.specs.declared.event.Event.{Event}
 use Rattle.abt_model.specs.declared.event.Event.TheVariants.{Arrive, Request, Turn, Answer, Told}
 use Rattle.abt_model.specs.Past.{facts_of}
 use Rattle.abt_world.proofs.Happening.{Takes, command_takes, tables_kept, actor_left, request_kind, answer_kind, turn_kind, arrive_kind}
+use Rattle.abt_world.specs.Looked.{looks_to_take}
 use Rattle.abt_world.specs.Touches.{visited, Touches}
 use Rattle.abt_world.proofs.Touching.{untouched}
 use Rattle.abt_world.proofs.happen.happen.Goals as goal
@@ -108,3 +116,27 @@ returns-in-Request-clause-touches c =
 pub returns-in-Answer-clause-touches : goal.returns-in-Answer-clause-touches
 returns-in-Answer-clause-touches c =
     subst (λ (e : Event). Touches (visited c.args.conn.now e) c.args.conn.now.vc c.args.ports.now c.answer.new.ports) (sym c.in-Answer.is) c.answer.ensures.touches
+
+-- what an event looks up that is taken so
+abbrev Counts : Topology → List ConnectionFact → Conn → List Fact → (old new : ℕ) → Outcome → Event → Type 0
+Counts net past conn facts old new outcome e = IsConnAt net past (conn_of e) conn facts → new ≡ old + looks_to_take (length conn.path) e outcome
+
+pub returns-in-Arrive-clause-counted : goal.returns-in-Arrive-clause-counted
+returns-in-Arrive-clause-counted c net past facts log at are is room =
+    subst (Counts net past c.args.conn.now facts c.args.looks.now c.arrive.new.looks c.arrive.result.0) (sym c.in-Arrive.is)
+    (λ here. c.arrive.ensures.counted net past facts log here are (c.cells.ensures ∙ ap (λ a. a.cells) is) (omega (arith, room))) at
+
+pub returns-in-Request-clause-counted : goal.returns-in-Request-clause-counted
+returns-in-Request-clause-counted c net past facts log at are is room =
+    subst (Counts net past c.args.conn.now facts c.args.looks.now c.request.new.looks c.request.result.0) (sym c.in-Request.is)
+    (λ here. c.request.ensures.counted net past facts log here are (omega (arith, room))) at
+
+pub returns-in-Answer-clause-counted : goal.returns-in-Answer-clause-counted
+returns-in-Answer-clause-counted c net past facts log at are is room =
+    subst (Counts net past c.args.conn.now facts c.args.looks.now c.answer.new.looks c.answer.result.0) (sym c.in-Answer.is)
+    (λ here. c.answer.ensures.counted net past facts log here are (omega (arith, room))) at
+
+pub returns-in-Told-clause-counted : goal.returns-in-Told-clause-counted
+returns-in-Told-clause-counted c net past facts log at are is room =
+    subst (Counts net past c.args.conn.now facts c.args.looks.now c.told.new.looks c.told.result.0) (sym c.in-Told.is)
+    (λ here. c.told.ensures.counted net past facts log here is (omega (arith, room))) at

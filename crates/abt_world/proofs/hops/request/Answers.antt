@@ -60,3 +60,18 @@ returns-clause-touches c =
     touched (port_at c.args.conn.now.path c.args.hop) port c.args.conn.now.vc ports _ c.request-onward.new.self (sym c.in-Some.ensures ∙ ap Some (sym (counted ∙ c.from-port.ensures))) there
     (λ other apart. ap (λ (t : Table). connection_at t other) c.request-onward.ensures.table
     ∙ request_leaves_others _ c.in-Some-request_of.request other (λ same. apart (same ∙ c.in-Some-request_of.ensures.vc)))
+
+pub returns-in_default-request_of-clause-counted : goal.returns-in_default-request_of-clause-counted
+returns-in_default-request_of-clause-counted c net past facts is at are room =
+    let l = route_of c.args.conn.now in
+    let lawful = conn_lawful net past c.args.place c.args.conn.now facts at in
+    let hop = is_hop_tells _ c.args.hop (port_tells c.args.conn.now.path c.args.hop c.in-Some.port (sym c.in-Some.ensures)).0 in
+    let r = is_request l facts lawful c.args.seq (request_asked l facts lawful c.args.seq c.args.hop (sym (c.if-not-is_request_at.ensures.value facts is hop.0))) in
+    absurd (false≢true (c.in_default-request_of.ensures.some facts is r.asked r.positive r.order))
+
+pub returns-then-port-ports-clause-counted : goal.returns-then-port-ports-clause-counted
+returns-then-port-ports-clause-counted c net past facts is at are room =
+    let low = port_within net past c.args.place c.args.conn.now facts c.args.hop c.in-Some.port c.args.ports.now at are (sym c.in-Some.ensures) in
+    let place = c.from-port.ensures in
+    let past_end = c.if-port-ports.true in
+    absurd (omega arith)

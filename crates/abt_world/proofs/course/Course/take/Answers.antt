@@ -1,4 +1,4 @@
-use Rattle.std.proofs.Common.{◌≡◌, List, ◌++◌, ◌∙◌, sym, subst, ap}
+use Rattle.std.proofs.Common.{◌≡◌, ◌+◌, List, ◌++◌, ◌∙◌, sym, subst, ap, arith, length}
 use Rattle.abt_actor.specs.Actor.{actor_of}
 use Rattle.abt_actor.specs.Facts.{facts_in}
 use Rattle.abt_facts.specs.declared.fact.Fact.{Fact}
@@ -8,6 +8,7 @@ use Rattle.abt_model.specs.Outcomes.{conn_of, outcome_of, facts_added, after_eve
 use Rattle.abt_model.specs.Past.{facts_of}
 use Rattle.abt_model.proofs.Lawful.{route_of, IsLawful}
 use Rattle.abt_model.proofs.Worlds.{facts_of-own, after_event_lawful, lawful_at}
+use Rattle.abt_world.specs.Looked.{looks_to_take, looks_to_note}
 use Rattle.abt_world.specs.Notes.{all_noted, CanAllFollow}
 use Rattle.abt_world.proofs.Noting.{noted_on, can_all_follow}
 use Rattle.abt_world.proofs.Sendings.{all_lawful, few_hops}
@@ -35,3 +36,17 @@ returns-clause-outcome c net past facts log asks at are is =
       actor_is = h.2 ∙ ap (actor_of conn.vc) all;
       tables = h.1;
     }
+
+pub returns-clause-counted : goal.returns-clause-counted
+returns-clause-counted c net past facts log asks at are is room =
+    let e = c.args.event.now in
+    let conn = c.args.conn.now in
+    let added = facts_in c.happen-outcome.result.1 in
+    let kept = c.reserve.ensures.same ∙ log in
+    let h = c.happen-outcome.ensures.outcome net past facts kept asks at are is in
+    let first = c.happen-outcome.ensures.counted net past facts kept at are is (omega arith)
+    ∙ ap (λ (o : Outcome). c.args.looks.now + looks_to_take (length conn.path) e o) h.0.answer in
+    let noted = ap looks_to_note (h.0.adds ∙ ap (facts_added (facts_of (conn_of e) past) e) h.0.answer) in
+    let bound = c.happen-outcome.ensures.looks in
+    let second = c.note.ensures.counted (omega (arith, bound)) in
+    omega (arith, first, noted, second)

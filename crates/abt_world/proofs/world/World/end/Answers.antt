@@ -26,7 +26,7 @@ returns-clause-trace c net events stands said =
       rates = c.in_ok-rates_of.ensures ∙ ap (map (λ (course : Course). course.actor.source.rate)) c.deref.ensures.value ∙ rates_read net events courses ports are;
       held = c.in_ok-held_of.ensures ∙ ap (read c.conns.result.now) c.deref-2.ensures.value ∙ ap (λ ks. read ks ports) conns ∙ held_read net events courses ports are;
       totals = c.in_ok-totals_of.ensures ∙ ap (map sum_of) c.deref-3.ensures.value ∙ totals_read net events courses ports are;
-      safe = c.safe.ensures net events stands;
+      safe = c.safe.ensures.value net events stands;
     }
 
 pub returns-clause-headline : goal.returns-clause-headline

@@ -1,6 +1,6 @@
-use Rattle.std.proofs.Common.{◌≡◌, ◌<◌, ◌≤◌, ℕ, List, [], ◌∷◌, ◌++◌, map, sym, subst, ap, ◌∙◌, length, arith, ◌^◌}
-use Rattle.std.specs.Prelude.{Option, Some, option_map, slice_get, slice_set}
-use Rattle.std.proofs.lemmas.Option.{slice_get-get_or, slice_get-map}
+use Rattle.std.proofs.Common.{◌≡◌, ◌<◌, ◌≤◌, ℕ, List, [], ◌∷◌, ◌++◌, map, refl, sym, subst, ap, ◌∙◌, length, arith, ◌^◌}
+use Rattle.std.specs.Prelude.{Option, None, Some, is_some, option_map, slice_get, slice_set}
+use Rattle.std.proofs.lemmas.Option.{slice_get_past, slice_get-get_or, slice_get-map}
 use Rattle.std.proofs.lemmas.List.{length-map, length-set}
 use Rattle.abt_node.specs.Table.{Table}
 use Rattle.abt_net.specs.Topology.{Topology, IsWithinRules}
@@ -12,10 +12,16 @@ use Rattle.abt_model.specs.Outcomes.{conn_of, after_event}
 use Rattle.abt_model.specs.Past.{facts_of}
 use Rattle.abt_model.specs.Run.{facts_after}
 use Rattle.abt_world.specs.Courses.{CourseView}
+use Rattle.abt_world.specs.Looked.{looks_at}
 use Rattle.abt_world.specs.Seen.{seen}
 use Rattle.abt_world.specs.Standing.{WorldView, StandsFor}
 use Rattle.abt_world.specs.Steps.{ArePorts}
 use Rattle.abt_world.proofs.Standings.{step_unknown, step_taken, port_count, written_over, map_set, set_same, headline_after}
+use Rattle.abt_world.proofs.Final.{AreOfPast}
+use Rattle.abt_world.proofs.Looking.{path_looked}
+use Rattle.abt_world.proofs.Sendings.{few_hops}
+use Rattle.abt_world.proofs.Serving.{set_here}
+use Rattle.abt_world.proofs.Sounding.{past_counts_nothing}
 use Rattle.abt_world.proofs.Stepping.{ready}
 use Rattle.abt_safety.specs.Tallies.{one_if, over_at}
 use Rattle.abt_world.specs.Tallied.{shapes_above, IsTallied}
@@ -191,3 +197,73 @@ invariant_of-self-in-Err c =
       subst (λ (ps : List Table). IsTallied net ps (map seen (slice_set courses c.counting.result new)) c.self.inside.tally) (sym written)
           (subst (λ (cs : List CourseView). IsTallied net held cs c.self.inside.tally) (sym left) c.self.invariant.2),
     )
+
+pub returns-then-place-conns-clause-counted : goal.returns-then-place-conns-clause-counted
+returns-then-place-conns-clause-counted c net events stands =
+    let e = c.args.event.now in
+    let past_end = c.if-place-conns.true in
+    let place = c.from-place.ensures ∙ c.conn_number.ensures in
+    let net_is = ap (λ (w : WorldView). w.net) c.self.view_is ∙ stands.stands.net_is in
+    let count = ap length c.conns.ensures.value ∙ ap (λ (n : Topology). length n.conns) net_is in
+    let unknown : conn_at net (conn_of e) ≡ None = slice_get_past net.conns (conn_of e) (omega arith) in
+    sym (ap (looks_at net (facts_after net events) e) unknown)
+
+pub returns-in-Ok-clause-counted : goal.returns-in-Ok-clause-counted
+returns-in-Ok-clause-counted c net events stands =
+    let e = c.args.event.now in
+    let past = facts_after net events in
+    let conn = c.index-conns-place.result in
+    let courses = c.self.inside.courses.items in
+    let held = c.self.inside.ports.items in
+    let ports = c.deref-in-Ok.result.now in
+    let old = c.index_mut-course.result.now in
+    let new = c.take.new.self in
+    let low = c.if-place-conns.false in
+    let before : StandsFor net events (record { net = c.self.inside.net.now; ports = held; courses = map seen courses; looks = c.self.inside.looks }) = subst (StandsFor net events) (sym c.self.view_is) stands in
+    let net_is : c.self.inside.net.now ≡ net = before.stands.net_is in
+    let here : StandsFor net events (record { net = net; ports = held; courses = map seen courses; looks = c.self.inside.looks }) =
+    subst (λ (n : Topology). StandsFor net events (record { net = n; ports = held; courses = map seen courses; looks = c.self.inside.looks })) net_is before in
+    let rules : IsWithinRules net = subst IsWithinRules net_is c.conns.ensures.rules in
+    let from : c.from-place.result ≡ conn_of e = c.from-place.ensures ∙ c.conn_number.ensures in
+    let place : c.counting.result ≡ conn_of e = c.counting.ensures.value ∙ from in
+    let conns : c.conns.result.now ≡ net.conns = c.conns.ensures.value ∙ ap (λ (n : Topology). n.conns) net_is in
+    let conns2 : c.conns-2.result.now ≡ net.conns = c.conns-2.ensures.value ∙ ap (λ (n : Topology). n.conns) net_is in
+    let count = ap length conns in
+    let count2 = ap length conns2 in
+    let low2 : c.from-place.result < length c.conns-2.result.now = omega arith in
+    let known : conn_at net (conn_of e) ≡ Some conn =
+    sym (ap (λ (l : List Conn). slice_get l (conn_of e)) conns2) ∙ sym (ap (slice_get c.conns-2.result.now) from)
+    ∙ slice_get-get_or c.conns-2.result.now c.from-place.result conn low2 ∙ ap Some (sym c.index-conns-place.is) in
+    let many : length courses ≡ length net.conns = c.self.invariant.0 ∙ ap (λ (n : Topology). length n.conns) net_is in
+    let low3 : c.counting.result < length courses = omega arith in
+    let low4 : conn_of e < length courses = omega arith in
+    let there : slice_get courses c.counting.result ≡ Some old = slice_get-get_or courses c.counting.result old low3 ∙ ap Some (sym c.index_mut-course.ensures.value) in
+    let r = ready net events e held courses c.self.inside.looks conn old rules here known (sym (ap (slice_get courses) place) ∙ there) in
+    let are : ArePorts net past c.deref_mut.result.now = subst (ArePorts net past) (sym c.deref_mut.ensures.value) here.stands.ports in
+    let kept : IsTallied net held (map seen courses) c.self.inside.tally = subst (λ (n : Topology). IsTallied n held (map seen courses) c.self.inside.tally) net_is c.self.invariant.2 in
+    let none = past_counts_nothing net events courses held c.self.inside.tally (record { rules = rules; looks = c.self.inside.looks; stands = here }) kept in
+    let after = (returns-in-Ok-clause-outcome c net events stands).1 in
+    let left : AreOfPast net (events ++ e ∷ []) (slice_set courses c.counting.result new) ports = record {
+      rules = rules;
+      looks = c.count-self-inside.result;
+      stands = record {
+        rates = after.rates;
+        stands = record {
+          net_is = refl;
+          ports = subst (ArePorts net (facts_after net (events ++ e ∷ []))) (sym c.deref-in-Ok.ensures.value) after.stands.ports;
+          courses = after.stands.courses;
+        };
+      };
+    } in
+    let set : slice_get (slice_set courses c.counting.result new) (conn_of e) ≡ Some new = ap (λ (p : ℕ). slice_get (slice_set courses p new) (conn_of e)) place ∙ set_here courses (conn_of e) new low4 in
+    let looked = path_looked net (events ++ e ∷ []) (slice_set courses c.counting.result new) ports (conn_of e) conn new left known set in
+    let few : length conn.path ≤ 16 = few_hops net past (conn_of e) conn (facts_of (conn_of e) past) r.at in
+    let first = c.counting.ensures.count in
+    let start = c.new-looks.ensures in
+    let second = c.counted_marks-before.ensures.counted none.above none.over none.broken in
+    let third = c.in-Ok.ensures.counted net past (facts_of (conn_of e) past) r.log c.asks_rate.ensures r.at are r.actor (omega (arith, first, start, second)) in
+    let bound = c.in-Ok.ensures.looks in
+    let fourth = c.marks-after.ensures.counted (omega (arith, first, start, second, bound, looked, few)) in
+    let visits = ap (λ (o : Option ℕ). one_if (is_some o)) c.visited-port.ensures in
+    let read = c.count-self-inside.ensures in
+    omega (arith, first, start, second, third, fourth, looked, visits, read) ∙ sym (ap (looks_at net past e) known)

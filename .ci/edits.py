@@ -1,0 +1,352 @@
+"""Tries every edit of must-fail/: the prover has to refuse the edited function itself, by a goal in that function's lines.
+
+Many edits go into one check, each in the body of another function. That loses nothing: the proof of a function cites of each other one
+only its theorem, so the edit of one body can't touch the proof of another. An edit of anything but one body, or of a function in a cycle of
+calls, has a check of its own. So has each edit that its batch didn't refuse, and each edit of a batch that didn't reach the prover.
+
+Refused is an edit only where the check prints a goal that it didn't prove in the lines of the edited function: `note: src/F:LINE:..` with
+the goal's name. That a function calls another one that isn't proved doesn't count, nor that a hand-written proof names what is gone.
+
+It works over the libraries that `rt ci` left in crates/*/out of the repository ROOT, and goes by the rules of the kit's own `rt` for edits,
+whose functions it calls. Each crate's checks hand on what they proved as a copy.
+
+usage: edits.py [--root ROOT] [--jobs N] [--alone] [--json FILE] [NAME..]     (NAME: a crate, or crate/edit)
+"""
+import argparse
+import difflib
+import importlib.machinery
+import importlib.util
+import json
+import os
+import re
+import shutil
+import subprocess
+import sys
+import tempfile
+import time
+from collections import defaultdict
+from concurrent.futures import ThreadPoolExecutor
+from dataclasses import dataclass, field
+from pathlib import Path
+
+sys.path.insert(0, str(Path(__file__).resolve().parent))
+from functions import functions_of  # noqa: E402
+
+# A goal that wasn't proved: where it stands, what was to hold, and its name.
+GOAL = re.compile(r"note: (?:\./)?(src/\S+?):(\d+):\d+: (.*?\(`([^`]+)`\).*)")
+ALLOWED_FALSE = "the facts known there allow values at which this goal is false"
+# A law of an impl that isn't proved, with its name.
+LAW = re.compile(r"(?:\./)?(src/\S+?):(\d+):\d+: error: ()`([^`]+)`: ")
+# A hand-written proof that fails, and words that say that it only names what the edit took away.
+OF_A_PROOF = re.compile(r"(?:\./)?(proofs/\S+?):\d+:\d+: error: (?:`([^`]+)`: )?(.*)")
+NAMES_ALONE = re.compile(r"has no field|has no `|is not in scope|was not admitted|that can be named")
+
+
+def kit():
+    """The kit's rt, as a module."""
+    place = shutil.which("rt")
+    if not place:
+        sys.exit("edits: the command rt of the Rattle kit isn't on PATH")
+    loader = importlib.machinery.SourceFileLoader("rt", os.path.realpath(place))
+    spec = importlib.util.spec_from_loader("rt", loader)
+    module = importlib.util.module_from_spec(spec)
+    loader.exec_module(module)
+    return module
+
+
+rt = kit()
+
+
+@dataclass
+class Edit:
+    crate: object
+    path: Path
+    file: str = ""
+    hunks: list = field(default_factory=list)  # (first line, line behind the last, new lines), of the file as it is, from 0
+    places: list = field(default_factory=list)  # the functions whose bodies it changes, among those of the file
+    is_of_bodies: bool = False  # whether it changes nothing but bodies
+    fault: str = ""  # why it can't be applied
+    alone: str = ""  # why it goes into no batch
+    answers: list = field(default_factory=list)  # the hand-written answers of its functions that fail with it, by file and goal
+    verdict: str = ""  # how it was refused, or why not
+    is_refused: bool = False
+    by_kit: bool = False  # whether the kit's own rule calls it refused, where it was tried alone
+    how: str = ""  # "batch" or "alone"
+
+    @property
+    def name(self):
+        return f"{self.crate.name}/{self.path.stem}"
+
+
+@dataclass(frozen=True)
+class Check:
+    """What a check printed."""
+
+    status: int
+    text: str
+
+    @property
+    def lines(self):
+        return self.text.rstrip("\n").split("\n")
+
+    def reached_the_prover(self, changed):
+        """Whether the text was read and judged, as `rt must-fail` wants it."""
+        if rt.rtlib.STALE.search(self.text) or any(rt.unread(line, changed) for line in self.lines):
+            return False
+        return self.status == 0 or self.status == 1 and self.lines[-1].startswith("logic=not-proved")
+
+    def complaint(self, changed):
+        bad = next((line for line in self.lines if rt.unread(line, changed)), "")
+        return (bad or next((line for line in self.lines if "error" in line), self.lines[-1]))[:200]
+
+    def goals(self, file, function):
+        """The goals in a function's lines that weren't proved, those first of which it is known that they can be false."""
+        found = []
+        for line in self.lines:
+            at = GOAL.match(line)
+            if at and at[1] == file and function.first <= int(at[2]) <= function.last:
+                found.append((ALLOWED_FALSE not in at[3], at[4], int(at[2])))
+        return sorted(set(found))
+
+
+def read(crate, path):
+    """An edit, with the lines that it changes and the function that they lie in."""
+    edit = Edit(crate, Path(path))
+    texts, why = rt.read_edit(path, crate.folder)
+    if why:
+        edit.fault = why
+        return edit
+    if len(texts) > 1:
+        edit.alone = "it changes several files"
+        return edit
+    ((edit.file, new),) = texts.items()
+    old = Path(crate.folder, edit.file).read_text()
+    old_lines, new_lines = old.split("\n"), new.split("\n")
+    codes = difflib.SequenceMatcher(None, old_lines, new_lines, autojunk=False).get_opcodes()
+    edit.hunks = [(i1, i2, new_lines[j1:j2]) for tag, i1, i2, j1, j2 in codes if tag != "equal"]
+    functions = functions_of(old)
+    held = [next((k for k, it in enumerate(functions) if it.has_in_body(*lines_of(hunk))), None) for hunk in edit.hunks]
+    edit.places = sorted({place for place in held if place is not None})
+    edit.is_of_bodies = bool(held) and None not in held and len(functions_of(new)) == len(functions)
+    if not edit.hunks:
+        edit.fault = "it changes nothing"
+    elif any(is_of_a_contract(hunk, functions, old_lines) for hunk in edit.hunks):
+        edit.fault = "it changes a contract, which shows nothing of the code"
+    elif not edit.is_of_bodies:
+        edit.alone = "it changes more than bodies"
+    elif len(edit.places) > 1:
+        edit.alone = "it changes several functions"
+    elif functions[edit.places[0]].is_alone:
+        edit.alone = "its function is in a cycle of calls"
+    return edit
+
+
+def lines_of(hunk):
+    """The first and the last line that a hunk changes, from 1; of lines that are only added, the line that they stand before."""
+    first, last, _ = hunk
+    return first + 1, max(last, first + 1)
+
+
+def is_of_a_contract(hunk, functions, lines):
+    """Whether a hunk changes a clause of a function, or another ghost item."""
+    first, last = lines_of(hunk)
+    in_clauses = any(it.clauses and it.clauses <= last and first < it.opens for it in functions)
+    return in_clauses or any(re.match(r"\s*(pub )?ghost\b", line) for line in [*lines[first - 1 : last], *hunk[2]])
+
+
+def with_edits(crate, edits):
+    """The texts of the files that some edits change, all of them applied."""
+    by_file = defaultdict(list)
+    for edit in edits:
+        by_file[edit.file] += edit.hunks
+    texts = {}
+    for file, hunks in by_file.items():
+        lines = Path(crate.folder, file).read_text().split("\n")
+        for first, last, new in sorted(hunks, reverse=True, key=lambda hunk: hunk[:2]):
+            lines[first:last] = new
+        texts[file] = "\n".join(lines)
+    return texts
+
+
+def check(crate, texts, kept=None):
+    ran = rt.checked(crate, texts, ["--jobs", "1"], kept)
+    return Check(ran.returncode, ran.stdout)
+
+
+def judge(edit, ran, texts):
+    """Takes down whether a check refused an edit by a goal of a function whose body it changes."""
+    functions = functions_of(texts[edit.file])
+    changed = [functions[place] for place in edit.places]
+    goals = sorted({(*goal, it.name) for it in changed for goal in ran.goals(edit.file, it)})
+    if goals:
+        is_open, goal, line, name = goals[0]
+        edit.is_refused = True
+        edit.verdict = f"`{goal}` of {name}, {edit.file}:{line}" + ("" if is_open else ", which can be false")
+        return
+    names = "|".join(it.name for it in changed)
+    own = [line for line in ran.lines if re.match(rf"fn \S*\b({names})\b\S*: (not proved|no proof)", line)]
+    proofs = [at for at in map(OF_A_PROOF.match, ran.lines) if at and re.search(rf"/({names})/", at[1])]
+    edit.answers = sorted({(at[1], at[2]) for at in proofs if at[2]})
+    if proofs:
+        telling = [at for at in proofs if not NAMES_ALONE.search(at[3])]
+        why = "only a hand-written proof fails" if telling else "only names in a hand-written proof are gone"
+        edit.verdict = f"{why}: {(telling or proofs)[0][0][:160]}"
+    elif own:
+        edit.verdict = f"no goal in the lines of {names}: {own[0][:160]}"
+    elif ran.status:
+        edit.verdict = f"{names} is proved with it, and something else isn't"
+    else:
+        edit.verdict = "the crate is still proved with this edit"
+
+
+def rounds_of(edits):
+    """The edits that can share a check, of each function one a round."""
+    by_function = defaultdict(list)
+    for edit in edits:
+        by_function[edit.file, edit.places[0]].append(edit)
+    most = max(map(len, by_function.values()), default=0)
+    return [[own[k] for own in by_function.values() if k < len(own)] for k in range(most)]
+
+
+def copied(kept, room):
+    """A copy of what earlier checks proved, for one more check."""
+    over = tempfile.mkdtemp(dir=room)
+    if kept:
+        shutil.copytree(kept, over, dirs_exist_ok=True)
+    return over
+
+
+def try_together(crate, edits, room):
+    """Tries edits round by round, each check over a copy of what those before it proved. Gives what they hand on, and how many checks
+    there were."""
+    kept, rounds = None, rounds_of(edits)
+    for number, batch in enumerate(rounds, 1):
+        before, kept = kept, copied(kept, room)
+        if before:
+            shutil.rmtree(before)
+        texts = with_edits(crate, batch)
+        ran = check(crate, texts, kept)
+        for edit in batch:
+            edit.how = "batch"
+            if ran.reached_the_prover(texts):
+                judge(edit, ran, texts)
+        refused = sum(edit.is_refused for edit in batch)
+        print(f"edits: {crate.name}: batch {number} of {len(rounds)}: {refused} of {len(batch)} refused", flush=True)
+    return kept, len(rounds)
+
+
+def without_answers(crate, answers, texts):
+    """The texts of an edit, and those of the files of answers without the ones that fail with it."""
+    texts = dict(texts)
+    for file, goal in answers:
+        text = texts.get(file) or Path(crate.folder, file).read_text()
+        texts[file] = re.sub(rf"^(?:pub )?{re.escape(goal)} : goal\.\S+\n(?:(?!(?:pub )?[^\s:]+ : goal\.).*\n)*", "", text, flags=re.M)
+    return texts
+
+
+def try_alone(edit, kept, room):
+    """Tries an edit in a check of its own, over a copy of what earlier checks proved, or from nothing. Where it changes more than bodies,
+    any goal of the code counts, and any law of an impl. Where a hand-written answer fails, its goal is tried without it: then it counts only
+    if the prover knows values at which it is false."""
+    edit.how = "alone"
+    texts, _ = rt.read_edit(str(edit.path), edit.crate.folder)
+
+    def checked(changed):
+        over = copied(kept, room) if kept else None
+        ran = check(edit.crate, changed, over)
+        if over:
+            shutil.rmtree(over)
+        return ran
+
+    ran = checked(texts)
+    edit.by_kit = ran.reached_the_prover(texts) and ran.status == 1
+    if not ran.reached_the_prover(texts):
+        edit.is_refused, edit.verdict = False, f"BAD EDIT: the prover can't read it, or wasn't reached: {ran.complaint(texts)}"
+    elif edit.is_of_bodies:
+        judge(edit, ran, texts)
+        if edit.answers and not edit.is_refused:
+            why, edit.answers, left = edit.verdict, [], edit.answers
+            judge(edit, checked(without_answers(edit.crate, left, texts)), texts)
+            if edit.is_refused and "can be false" not in edit.verdict:
+                edit.is_refused = False
+            if not edit.is_refused:
+                edit.verdict = why
+    else:
+        goals = [at for line in ran.lines if (at := GOAL.match(line) or LAW.match(line))]
+        edit.is_refused = bool(goals)
+        edit.verdict = f"`{goals[0][4]}`, {goals[0][1]}:{goals[0][2]}" if goals else f"no goal in src/ fails: {ran.complaint(texts)}"
+
+
+def try_crate(crate, names, is_all_alone):
+    """Tries a crate's edits. Gives them, how many checks were shared, how many there were alone, and the seconds."""
+    began, shared = time.time(), 0
+    good, bad = rt.edits_of(crate)
+    wanted = lambda path: not names or crate.name in names or f"{crate.name}/{Path(path).stem}" in names
+    edits = [read(crate, path) for path in good if wanted(path)]
+    edits += [Edit(crate, Path(path), fault="its name isn't one of an edit") for path in bad if wanted(path)]
+    together = [edit for edit in edits if not (edit.fault or edit.alone or is_all_alone)]
+    with tempfile.TemporaryDirectory(prefix="edits-") as room:
+        kept, shared = try_together(crate, together, room)
+        kept = kept or copied(None, room)
+        # What is handed on has to carry the crate itself, or no verdict over it counts.
+        if check(crate, {}, kept).status:
+            kept = None
+            for edit in together:
+                edit.is_refused, edit.verdict = False, ""
+        alone = 0
+        for edit in edits:
+            # What a batch didn't refuse is tried from nothing at once.
+            for over in [kept, None] if kept and not edit.how else [None]:
+                if not (edit.fault or edit.is_refused):
+                    alone += 1
+                    try_alone(edit, over, room)
+    for edit in edits:
+        if edit.fault:
+            edit.verdict = f"BAD EDIT: {edit.fault}"
+    return edits, shared, alone, time.time() - began
+
+
+def tell(edit):
+    why = "NOT REFUSED but by the kit's rule" if edit.by_kit else "NOT REFUSED"
+    return f"must-fail {edit.name}: " + (f"refused by {edit.verdict}" if edit.is_refused else f"{why}: {edit.verdict}")
+
+
+def main():
+    reader = argparse.ArgumentParser(description=__doc__, formatter_class=argparse.RawDescriptionHelpFormatter)
+    reader.add_argument("--root", default=str(Path(__file__).resolve().parent.parent))
+    reader.add_argument("--jobs", type=int, default=rt.processors())
+    reader.add_argument("--alone", action="store_true", help="each edit in a check of its own")
+    reader.add_argument("--json", help="writes what became of each edit to this file")
+    reader.add_argument("names", nargs="*")
+    words = reader.parse_args()
+    root = os.path.realpath(words.root)
+    os.chdir(root)
+    rt.rtlib.guarded()
+    crates = [crate for crate in rt.rtlib.crates_below(root) if rt.edits_of(crate) != ([], [])]
+    named = {name.split("/")[0] for name in words.names}
+    crates = [crate for crate in crates if not named or crate.name in named]
+    # The longest first, so that no processor waits for one crate in the end.
+    crates.sort(key=lambda crate: -len(rt.edits_of(crate)[0]) * crate.count(rb"\n"))
+    with ThreadPoolExecutor(words.jobs) as pool:
+        given = list(pool.map(lambda crate: report(crate, set(words.names), words.alone), crates))
+    edits = [edit for tried, _, _, _ in given for edit in tried]
+    refused = sum(edit.is_refused for edit in edits)
+    shared, alone = sum(each[1] for each in given), sum(each[2] for each in given)
+    if words.json:
+        rows = [{"edit": it.name, "refused": it.is_refused, "how": it.how, "verdict": it.verdict} for it in edits]
+        Path(words.json).write_text(json.dumps(rows, indent=1))
+    print(f"edits: {len(edits)} tried, in {shared} batches and {alone} alone")
+    print(f"{refused} passed, {len(edits) - refused} failed")
+    sys.exit(0 if refused == len(edits) else 1)
+
+
+def report(crate, names, is_all_alone):
+    tried = try_crate(crate, names, is_all_alone)
+    lines = [tell(edit) for edit in tried[0]]
+    lines.append(f"edits: {crate.name}: {len(tried[0])} tried in {tried[1]} batches and {tried[2]} alone, {tried[3]:.0f} s")
+    print("\n".join(lines), flush=True)
+    return tried
+
+
+if __name__ == "__main__":
+    main()

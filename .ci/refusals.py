@@ -1,0 +1,118 @@
+"""Runs the program with each of its allocations refused in turn, and wants want of memory told as just that.
+
+A run with an allocation refused has to end as one without (the C library can do without some of its own), or with status 1,
+`fault: memory` on standard error and nothing on standard output. Of `abt threads` the lines before may stay, and a thread that isn't
+started for want of memory is `fault: Thread`; its allocations come in no fixed order, so of these only some are tried.
+
+usage: refusals.py [PROGRAM]    of this program, else `./abt`
+"""
+import os
+import shutil
+import subprocess
+import sys
+import tempfile
+from concurrent.futures import ThreadPoolExecutor
+from pathlib import Path
+
+ROOT = Path(__file__).resolve().parent.parent
+FOLDER = ROOT / "scenarios"
+CELL = "0010064c02045258000000000000000000000001" + "6a" * 30 + "038c"
+MEMORY = "fault: memory\n"
+LINES = ("", "gathered\n", "gathered\nwoven\n")
+# The words of a command, and what it is given on standard input.
+COMMANDS = [
+    (["rate", "53e8"], b""),
+    (["rate", "none"], b""),
+    (["cell", CELL], b""),
+    (["cell", "00"], b""),
+    (["port", "512000", CELL, "zz", CELL], b""),
+    (["port", "+5", CELL], b""),
+    (["port", "--help"], b""),
+    (["none"], b""),
+    (["rate", b"\xff"], b""),
+    (["run"], b"ports = []\nevents = [\"crash\"]\n"),
+    (["run"], b"ports = [\n"),
+    (["run"], b"\xff"),
+    (["run", "none.toml"], b""),
+    (["run", "."], b""),
+    *((["run", sample.name], b"") for sample in sorted(FOLDER.glob("*.toml")) if not sample.name.startswith("threads_")),
+]
+THREADS = (["threads", "threads_one_source.toml", "--workers", "1"], b"")
+THREADS_TRIED = 400
+MOST_TRIED = 5_000
+AT_ONCE = 2
+BATCH = 32
+
+
+def library(folder):
+    compiler = os.environ.get("CC") or shutil.which("cc") or shutil.which("clang")
+    if not compiler:
+        return None
+    made = Path(folder) / "refuse.so"
+    subprocess.run([compiler, "-shared", "-fPIC", "-O1", "-o", made, Path(__file__).with_name("refuse.c")], check=True)
+    return made
+
+
+def run(program, preload, command, **more):
+    words, text = command
+    environment = {"LD_PRELOAD": str(preload), **more}
+    done = subprocess.run([program, *words], cwd=FOLDER, input=text, capture_output=True, timeout=60, env=environment)
+    return done.stdout.decode(), done.stderr.decode(), done.returncode
+
+
+def refused(program, preload, folder, command, number):
+    """How a command ends with this allocation refused, if it has so many."""
+    mark = Path(folder) / "refused" / str(number)
+    end = run(program, preload, command, REFUSED=str(number), REFUSED_AT=str(mark))
+    return end if mark.exists() else None
+
+
+def ends_of(program, preload, folder, command, most):
+    """How a command ends with each of its allocations refused in turn."""
+    ends = []
+    (Path(folder) / "refused").mkdir()
+    with ThreadPoolExecutor(AT_ONCE) as pool:
+        while len(ends) < most:
+            numbers = range(len(ends) + 1, len(ends) + 1 + BATCH)
+            batch = list(pool.map(lambda number: refused(program, preload, folder, command, number), numbers))
+            ends += [end for end in batch if end is not None]
+            if None in batch:
+                break
+    shutil.rmtree(Path(folder) / "refused")
+    return ends
+
+
+def faults(program, preload, folder, command):
+    """The refusals of a command that end otherwise, how many there are, and how many are told."""
+    without = run(program, preload, command)
+    with_threads = command is THREADS
+    allowed = {(text, MEMORY, 1) for text in (LINES if with_threads else ("",))}
+    if with_threads:
+        allowed.add(("", "fault: Thread\n", 1))
+    ends = ends_of(program, preload, folder, command, THREADS_TRIED if with_threads else MOST_TRIED)
+    others = [(number, end) for number, end in enumerate(ends, 1) if end != without and end not in allowed]
+    return others, len(ends), sum(end in allowed for end in ends)
+
+
+def main(program):
+    wrong = tried = told = 0
+    with tempfile.TemporaryDirectory(prefix="refusals.") as folder:
+        preload = library(folder)
+        if preload is None:
+            print("refusals: not run, as there is no C compiler")
+            return
+        for command in [*COMMANDS, THREADS]:
+            others, count, memory = faults(program, preload, folder, command)
+            tried += count
+            told += memory
+            for number, end in others[:5]:
+                print(f"refusals: {command[0]}, allocation {number} of {count}: {end!r}")
+            wrong += len(others)
+            if not memory:
+                wrong += 1
+                print(f"refusals: {command[0]}: no refusal of {count} is told")
+    print(f"refusals: {tried} allocations refused, {told} told as want of memory, {wrong} otherwise")
+    sys.exit(1 if wrong else 0)
+
+
+main(Path(sys.argv[1]).resolve() if sys.argv[1:] else ROOT / "abt")

@@ -1,0 +1,118 @@
+"""Tests edits.py on a small crate of its own: an edit that shows something counts, and each kind that shows nothing is reported."""
+import subprocess
+import sys
+import tempfile
+from pathlib import Path
+
+HERE = Path(__file__).resolve().parent
+
+SOURCE = """//! A crate with functions to edit.
+#![tactic(auto)]
+ghost use Rattle.std.specs.Prelude.{◌≡◌, ◌≤◌, ◌+◌};
+
+/// The most of a share.
+pub const MOST: u32 = 10;
+
+/// The lesser of a number and the most.
+pub fn share(count: u32) -> u32
+    ensures most { result ≤ 10 }
+    ensures count { result ≤ count }
+{
+    if count < MOST { count } else { MOST }
+}
+
+/// One more than a share.
+pub fn one_more(count: u32) -> u32
+    ensures { result ≤ 11 }
+{
+    // A comment.
+    let part = share(count);
+    part + 1
+}
+
+/// Two more than a share.
+pub fn two_more(count: u32) -> u32
+    requires { count ≤ 20 }
+    ensures { result ≡ count + 2 }
+{
+    count + 2
+}
+
+/// A number with three added in two steps.
+pub fn three_more(count: u32) -> u32
+    requires { count ≤ 20 }
+    ensures { result ≡ count + 3 }
+{
+    let middle = two_more(count);
+    middle + 1
+}
+"""
+
+PROOF = """use Rattle.std.proofs.Common.{rules, ◌≡◌, ◌+◌, ◌≤◌, ℕ}
+use Rattle.tried.proofs.three_more.Goals as goal
+
+pub returns : goal.returns
+returns c = ap (λ n. n + 1) c.two_more.ensures
+"""
+
+# Of each edit its pairs, whether it counts as refused, and what is said of it.
+EDITS = {
+    "takes_the_most_for_less": ("if count < MOST { count }", "if count < 12 { count }", True, "of share"),
+    "shares_one_too_many": ("else { MOST }", "else { MOST + 1 }", True, "of share"),
+    "adds_two_to_a_share": ("part + 1", "part + 2", True, "of one_more"),
+    "adds_one_for_two": ("    count + 2", "    count + 1", True, "of two_more"),
+    "takes_a_greater_most": ("MOST: u32 = 10;", "MOST: u32 = 11;", True, "src/lib.rt"),
+    "says_another_comment": ("// A comment.", "// Another comment.", False, "proved"),
+    "gives_a_part_another_name": ("let part = share(count);", "let part = share(count); let piece = part;", False, "proved"),
+    "gives_the_middle_another_name": ("let middle = two_more(count);", "let middle = two_more(count.min(20));", False, "hand-written"),
+    "looks_for_what_is_gone": ("count + 7", "count + 8", False, "and not once"),
+    "promises_less": ("ensures most { result ≤ 10 }", "ensures most { result ≤ 9 }", False, "a contract"),
+    "does_not_read": ("    middle + 1", "    middle + + 1", False, "BAD EDIT"),
+}
+
+
+def written(root):
+    crate = root / "crates" / "tried"
+    for name, text in {
+        root / "crates.txt": "tried:\n",
+        root / "HANDLES": "Handles allowed: none.\n",
+        crate / "src/lib.rt": SOURCE,
+        crate / "proofs/three_more/Answers.antt": PROOF,
+    }.items():
+        name.parent.mkdir(parents=True, exist_ok=True)
+        name.write_text(text)
+    (crate / "must-fail").mkdir()
+    for name, (old, new, _, _) in EDITS.items():
+        (crate / "must-fail" / f"{name}.edit").write_text(f"file: src/lib.rt\nold: {old}\nnew: {new}\n")
+
+
+def faults(said, status):
+    lines = {line.split(": ")[0].removeprefix("must-fail tried/"): line for line in said.split("\n") if line.startswith("must-fail ")}
+    for name, (_, _, is_refused, words) in EDITS.items():
+        line = lines.get(name, "nothing")
+        if (": refused by " in line) != is_refused or words not in line:
+            yield f"of {name} it says: {line}"
+    refused = sum(edit[2] for edit in EDITS.values())
+    if f"{refused} passed, {len(EDITS) - refused} failed" not in said.split("\n"):
+        yield "it counts them wrongly"
+    if status == 0:
+        yield "it ends with status 0"
+
+
+def main():
+    with tempfile.TemporaryDirectory(prefix="test-edits-") as room:
+        root = Path(room)
+        written(root)
+        run = subprocess.run(
+            [sys.executable, "-B", HERE / "edits.py", "--root", root, "--jobs", "1"], capture_output=True, text=True, check=False
+        )
+    found = list(faults(run.stdout, run.returncode))
+    for fault in found:
+        print(f"test of edits.py: {fault}")
+    if found:
+        print(run.stdout + run.stderr)
+    print(f"test of edits.py: {len(EDITS)} edits, {len(found)} faults")
+    sys.exit(1 if found else 0)
+
+
+main()

@@ -1,0 +1,131 @@
+ghost use Rattle.std.specs.Prelude.{◌<◌};
+
+use super::{A, Spelled, cells_that_read_as_a, request, test_cells};
+use abt_cell::{Cell, Request, Rm, RmFault, read_rm};
+use std::process::Abort;
+use std::test::Fail;
+
+fn reads(rt: &impl Abort, cell: &Cell, expected: Result<Rm, RmFault>) {
+    assert_eq!(rt; read_rm(cell), expected);
+}
+
+#[test]
+fn each_test_cell_says_its_request_or_answer(rt: HostRuntime) -> Result<(), Fail> {
+    for (spelled, rm) in test_cells().ok_or("a request")? {
+        reads(&rt, &spelled.cell(), Ok(rm));
+    }
+    Ok(())
+}
+
+#[test]
+fn a_changed_cell_gives_its_first_fault(rt: HostRuntime) {
+    let elastic = Spelled { flags: 0x00, ..A };
+    let rows = [
+        (
+            Spelled {
+                header: 0x0010_064a,
+                ..A
+            },
+            RmFault::NotRm,
+        ),
+        (elastic, RmFault::Crc),
+        (
+            Spelled {
+                check: 0x023d,
+                ..elastic
+            },
+            RmFault::Elastic,
+        ),
+        (
+            Spelled {
+                protocol: 0x01,
+                check: 0x0085,
+                ..A
+            },
+            RmFault::Protocol,
+        ),
+        (
+            Spelled {
+                flags: 0x14,
+                check: 0x037b,
+                ..A
+            },
+            RmFault::Maintenance,
+        ),
+        (
+            Spelled {
+                flags: 0x84,
+                check: 0x0207,
+                ..A
+            },
+            RmFault::Direction,
+        ),
+        (
+            Spelled {
+                seq: 0,
+                check: 0x0138,
+                ..A
+            },
+            RmFault::SeqZero,
+        ),
+        (
+            Spelled {
+                ask: 0x0000,
+                floor: 0x5258,
+                check: 0x00c7,
+                ..A
+            },
+            RmFault::RateOrder,
+        ),
+    ];
+    for (spelled, fault) in rows {
+        reads(&rt, &spelled.cell(), Err(fault));
+    }
+}
+
+#[test]
+fn what_carries_nothing_is_taken_at_any_value(rt: HostRuntime) -> Result<(), Fail> {
+    let a = request(100, 1, 0x0000, 0x5258).ok_or("a request")?;
+    for cell in cells_that_read_as_a() {
+        reads(&rt, &cell, Ok(Rm::Request(a)));
+    }
+    Ok(())
+}
+
+// Each of the 416 bits of cell A changed: 384 of the payload, which the check covers, and of the header 3 of the payload
+// type, 1 of the loss priority, and 28 of the channel.
+#[test]
+fn a_changed_bit_is_told_by_where_it_lies(rt: HostRuntime) -> Result<(), Fail> {
+    let a = request(100, 1, 0x0000, 0x5258).ok_or("a request")?;
+    for place in 0..52usize {
+        for bit in 0..8u32 {
+            tells_of_a_bit(&rt, &a, place, bit)?;
+        }
+    }
+    Ok(())
+}
+
+fn tells_of_a_bit(rt: &impl Abort, a: &Request, place: usize, bit: u32) -> Result<(), Fail>
+    requires place { place < 52 }
+    requires bit { bit < 8 }
+{
+    let mut octets = A.cell().to_octets();
+    octets[place] ^= 1 << bit;
+    let cell = Cell::from_octets(&octets).ok().ok_or("52 octets")?;
+    let here = Request::new(cell.vc(), a.seq(), a.floor(), a.ask()).ok_or("a request")?;
+    let expected = if place >= 4 {
+        Err(RmFault::Crc)
+    } else if place == 3 && 1 <= bit && bit <= 3 {
+        Err(RmFault::NotRm)
+    } else {
+        Ok(Rm::Request(here))
+    };
+    assert_eq!(rt; read_rm(&cell), expected, "bit {bit} of place {place}");
+    let is_of_the_channel = place < 3 || place == 3 && bit >= 4;
+    assert_eq!(rt;
+        cell.vc() != a.vc(),
+        is_of_the_channel,
+        "bit {bit} of place {place}"
+    );
+    Ok(())
+}

@@ -1,0 +1,35 @@
+use abt_ledger::Ledger;
+use abt_rate::Rate;
+
+/// The capacity of a link of 1,000 cells per second, in units.
+const CAPACITY: u64 = 512000;
+
+#[test]
+fn two_connections_share_a_link(rt: HostRuntime) {
+    // By docs/RULES.md, "Rates": code 5258 is 600 cells per second, 307,200 units, and 5120 is 400, 204,800 units.
+    let (most, rest) = (Rate::from_code(0x5258), Rate::from_code(0x5120));
+    let mut ledger = Ledger::new(CAPACITY);
+    assert_eq!(rt; ledger.capacity(), 512000);
+    let first = ledger.open();
+    let (Ok(first) | Err(first)) = ledger.change(first, most);
+    assert_eq!(rt; ledger.total(), 307200);
+    let second = ledger.open();
+    let second = match ledger.change(second, most) {
+        Err(second) => second,
+        Ok(second) => {
+            ledger.close(second);
+            ledger.close(first);
+            panic!(rt; "twice 600 cells per second fit into 1,000")
+        }
+    };
+    assert_eq!(rt; second.rate(), Rate::ZERO);
+    let (Ok(second) | Err(second)) = ledger.change(second, rest);
+    assert_eq!(rt; second.rate(), rest);
+    assert_eq!(rt; ledger.total(), 512000);
+    let (Ok(first) | Err(first)) = ledger.change(first, Rate::ZERO);
+    assert_eq!(rt; first.rate(), Rate::ZERO);
+    assert_eq!(rt; ledger.total(), 204800);
+    ledger.close(first);
+    ledger.close(second);
+    assert_eq!(rt; ledger.total(), 0);
+}

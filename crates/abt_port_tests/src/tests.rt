@@ -1,0 +1,4 @@
+mod fixture;
+mod follow;
+mod journal;
+mod ports;

@@ -1,0 +1,119 @@
+//! Generated lists of 200 events.
+use super::{agrees, stands};
+use abt_walk::drawn::{Walked, generated};
+use abt_walk::nets::{lone, meshed, shared};
+use abt_walk::walk::Walk;
+use abt_world::{Net, Outcome, World, run};
+use std::alloc::Global;
+use std::process::Abort;
+use std::test::Fail;
+
+/// The events of a list.
+pub const EVENTS: u64 = 200;
+
+/// The lists of a test, as many as it can go through in time where it is tried without proof.
+const LISTS: u64 = 167;
+
+/// Some events, and how many of them were enabled.
+#[derive(Clone, Copy, Debug)]
+struct Count {
+    events: u64,
+    enabled: u64,
+}
+
+fn counted(count: Count, outcome: &Outcome) -> Count {
+    let enabled = match outcome {
+        Outcome::NotEnabled(_) => 0,
+        _ => 1,
+    };
+    Count {
+        events: count.events.saturating_add(1),
+        enabled: count.enabled.saturating_add(enabled),
+    }
+}
+
+// Carries a world through the events of a list, and demands that each answers what the walk did.
+fn steps(rt: &impl Abort, alloc: Global, net: &Net, walked: &Walked) -> Result<(), Fail> {
+    let mut world = World::new(alloc, net)?;
+    for (event, answer) in walked.events.iter().zip(&walked.outcomes) {
+        assert_eq!(rt; world.step(event)?, *answer, "{event:?}");
+    }
+    stands(rt, &world, &walked.end);
+    Ok(())
+}
+
+// Runs lists from this seed on, and demands that most of their events were enabled.
+fn follow(rt: &impl Abort, alloc: Global, net: &Net, first: u64) -> Result<(), Fail> {
+    let mut count = Count {
+        events: 0,
+        enabled: 0,
+    };
+    for number in 0..LISTS {
+        let walked = generated(alloc, net, first.saturating_add(number), EVENTS)?;
+        let trace = run(alloc, net, &walked.events)?;
+        agrees(rt, &trace, &walked);
+        steps(rt, alloc, net, &walked)?;
+        assert!(rt; walked.end.safe);
+        for outcome in &walked.outcomes {
+            count = counted(count, outcome);
+        }
+    }
+    assert_eq!(rt; count.events, LISTS.saturating_mul(EVENTS));
+    assert!(rt; count.enabled.saturating_mul(2) > count.events, "{count:?}");
+    Ok(())
+}
+
+#[test]
+fn runs_over_one_port_answer_what_a_slow_walk_does(rt: HostRuntime) -> Result<(), Fail> {
+    follow(&rt, rt.alloc(), &lone(rt.alloc())?, 1)
+}
+
+#[test]
+fn more_runs_over_one_port_answer_what_a_slow_walk_does(rt: HostRuntime) -> Result<(), Fail> {
+    follow(&rt, rt.alloc(), &lone(rt.alloc())?, 1001)
+}
+
+#[test]
+fn runs_over_a_shared_port_answer_what_a_slow_walk_does(rt: HostRuntime) -> Result<(), Fail> {
+    follow(&rt, rt.alloc(), &shared(rt.alloc())?, 2001)
+}
+
+#[test]
+fn more_runs_over_a_shared_port_answer_what_a_slow_walk_does(rt: HostRuntime) -> Result<(), Fail> {
+    follow(&rt, rt.alloc(), &shared(rt.alloc())?, 3001)
+}
+
+#[test]
+fn runs_of_five_connections_answer_what_a_slow_walk_does(rt: HostRuntime) -> Result<(), Fail> {
+    follow(&rt, rt.alloc(), &meshed(rt.alloc())?, 4001)
+}
+
+#[test]
+fn more_runs_of_five_connections_answer_what_a_slow_walk_does(rt: HostRuntime) -> Result<(), Fail> {
+    follow(&rt, rt.alloc(), &meshed(rt.alloc())?, 5001)
+}
+
+// Carries a world through a list, and looks at it after each event.
+fn looks(rt: &impl Abort, alloc: Global, net: &Net, seed: u64) -> Result<(), Fail> {
+    let walked = generated(alloc, net, seed, EVENTS)?;
+    let mut walk = Walk::new(alloc, net);
+    let mut world = World::new(alloc, net)?;
+    stands(rt, &world, &walk.standing(alloc)?);
+    for event in &walked.events {
+        let answer = walk.step(alloc, event)?;
+        assert_eq!(rt; world.step(event)?, answer, "{event:?}");
+        stands(rt, &world, &walk.standing(alloc)?);
+    }
+    Ok(())
+}
+
+#[test]
+fn a_world_stands_after_each_event_as_a_slow_walk_does(rt: HostRuntime) -> Result<(), Fail> {
+    let nets = [lone(rt.alloc())?, shared(rt.alloc())?, meshed(rt.alloc())?];
+    for net in &nets {
+        for seed in 6001..=6005 {
+            looks(&rt, rt.alloc(), net, seed)?;
+        }
+    }
+    Ok(())
+}

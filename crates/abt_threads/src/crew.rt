@@ -1,0 +1,108 @@
+//! The workers of a run, from the first start to the last join.
+ghost use Rattle.std.specs.Prelude.{◌≡◌, ◌≤◌, ◌<◌, ◌+◌, [], ◌∷◌, ◌++◌, true, false, IfOk, map, vec_len, vec_capacity};
+ghost use Rattle.abt_threads.specs.Promises.{KeepEachAccess, KeepEachLink};
+
+use crate::join::{
+    AccessHandle, AccessResult, Joined, LinkHandle, LinkResult, join_links, join_sources,
+};
+use crate::stop::stop_all;
+use abt_relay::Parcel;
+use crossbeam_channel::Sender;
+use std::alloc::{AllocError, Global};
+use std::sync::Wait;
+use std::thread::Threads;
+
+/// The workers that were started. It has no `Drop`, and only [`Crew::stop_and_join`] takes it apart: a way out that leaves a worker
+/// running doesn't compile.
+pub(crate) struct Crew {
+    to: Sender<Parcel>,
+    workers: usize,
+    links: Vec<LinkHandle>,
+    sources: Vec<AccessHandle>,
+    complete: bool,
+}
+
+impl Crew {
+    /// Nobody yet, with room for so many link workers and so many sources. By `to` the link workers are stopped.
+    pub(crate) fn new(
+        alloc: Global,
+        to: Sender<Parcel>,
+        workers: usize,
+        sources: usize,
+    ) -> Result<Crew, AllocError>
+        ensures complete { IfOk result (λ crew. crew.complete ≡ true) }
+        ensures links { IfOk result (λ crew. (crew.links.items ≡ []) × (workers ≤ vec_capacity crew.links)) }
+        ensures sources { IfOk result (λ crew. (crew.sources.items ≡ []) × (sources ≤ vec_capacity crew.sources)) }
+    {
+        let links = Vec::with_capacity(alloc, workers)?;
+        let sources = Vec::with_capacity(alloc, sources)?;
+        Ok(Crew {
+            to,
+            workers,
+            links,
+            sources,
+            complete: true,
+        })
+    }
+
+    /// Has a link worker in it that was started.
+    pub(crate) fn add_link(&mut self, handle: LinkHandle)
+        requires room { vec_len self.old.links < vec_capacity self.old.links }
+        ensures links { self.new.links.items ≡ self.old.links.items ++ handle ∷ [] }
+        ensures len { vec_len self.new.links ≡ vec_len self.old.links + 1 }
+        ensures room { vec_capacity self.new.links ≡ vec_capacity self.old.links }
+        ensures rest { (self.new.sources ≡ self.old.sources) × (self.new.complete ≡ self.old.complete) }
+    {
+        self.links.push_reserved(handle);
+    }
+
+    /// Has an access worker in it that was started.
+    pub(crate) fn add_source(&mut self, handle: AccessHandle)
+        requires room { vec_len self.old.sources < vec_capacity self.old.sources }
+        ensures sources { self.new.sources.items ≡ self.old.sources.items ++ handle ∷ [] }
+        ensures len { vec_len self.new.sources ≡ vec_len self.old.sources + 1 }
+        ensures room { vec_capacity self.new.sources ≡ vec_capacity self.old.sources }
+        ensures rest { (self.new.links ≡ self.old.links) × (self.new.complete ≡ self.old.complete) }
+    {
+        self.sources.push_reserved(handle);
+    }
+
+    /// The same crew, which isn't complete: a worker couldn't be started.
+    pub(crate) fn broken_off(mut self) -> Crew
+        ensures complete { result.complete ≡ false }
+        ensures rest { (result.links ≡ self.links) × (result.sources ≡ self.sources) }
+    {
+        self.complete = false;
+        self
+    }
+
+    /// Joins the access workers, then stops the link workers and joins them too.
+    pub(crate) fn stop_and_join<R: Threads + Wait>(
+        self,
+        rt: &R,
+        sources: Vec<AccessResult>,
+        links: Vec<LinkResult>,
+    ) -> Joined
+        requires empty { (sources.items ≡ []) × (links.items ≡ []) }
+        requires room { (vec_len self.sources ≤ vec_capacity sources) × (vec_len self.links ≤ vec_capacity links) }
+        ensures complete { result.complete ≡ self.complete }
+        ensures sources { KeepEachAccess (map (λ h. h.promise) self.sources.items) result.sources.items }
+        ensures links { KeepEachLink (map (λ h. h.promise) self.links.items) result.links.items }
+    {
+        let Crew {
+            to,
+            workers,
+            links: link_handles,
+            sources: source_handles,
+            complete,
+        } = self;
+        let sources = join_sources(rt, source_handles, sources);
+        stop_all(rt, &to, workers);
+        let links = join_links(rt, link_handles, links);
+        Joined {
+            complete,
+            sources,
+            links,
+        }
+    }
+}

@@ -1,8 +1,0 @@
-//! Runs of nets in threads. What the clauses don't say: that workers run side by side, that messages go on and answers are heard.
-mod answers;
-mod crowds;
-mod fixture;
-mod gates;
-mod links;
-mod relays;
-mod rows;

@@ -1,0 +1,61 @@
+-- How many entries of its own maps and lists a world looks up for an event.
+use Rattle.std.specs.Prelude.{ℕ, ◌+◌, ◌*◌, List, length, Option, None, Some, is_some, nat_lt, Bool, true, false}
+use Rattle.abt_net.specs.declared.conn.Conn.{Conn}
+use Rattle.abt_net.specs.Topology.{Topology}
+use Rattle.abt_facts.specs.declared.fact.Fact.{Fact}
+use Rattle.abt_log.specs.Index.{is_of_message}
+use Rattle.abt_safety.specs.Tallies.{one_if, count_of}
+use Rattle.abt_model.specs.declared.connection_fact.ConnectionFact.{ConnectionFact}
+use Rattle.abt_model.specs.declared.event.Event.{Event}
+use Rattle.abt_model.specs.declared.event.Event.TheVariants.{Arrive, Request, Turn, Answer, Told}
+use Rattle.abt_model.specs.declared.outcome.Cause.{Cause}
+use Rattle.abt_model.specs.declared.outcome.Cause.TheVariants.{NotSent, Fenced}
+use Rattle.abt_model.specs.declared.outcome.Outcome.{Outcome}
+use Rattle.abt_model.specs.declared.outcome.Outcome.TheVariants.{Requested, Answered, Told as HasTold, NotEnabled}
+use Rattle.abt_model.specs.Conns.{conn_at}
+use Rattle.abt_model.specs.Outcomes.{conn_of, outcome_of, facts_added}
+use Rattle.abt_model.specs.Past.{facts_of}
+use Rattle.abt_world.specs.Touches.{visited}
+
+-- a cell that doesn't arrive: when it was emitted, unless its number tells
+abbrev pub looks_at_cell : Cause → ℕ
+looks_at_cell NotSent = 0
+looks_at_cell Fenced = 0
+looks_at_cell cause = 1
+
+-- a message that doesn't lie at a hop: whether it does, unless it is a no at the last of so many
+abbrev pub looks_at_answer : (hops hop : ℕ) → (granted : Bool) → ℕ
+looks_at_answer hops hop true = 1
+looks_at_answer hops hop false = one_if (nat_lt hop hops)
+
+-- What taking an event looks up, on a path of so many hops: of a cell when it was emitted, and the port twice; of a message whether it
+-- lies there, what was asked, and the port that takes it. What a source does by itself looks nothing up.
+abbrev pub looks_to_take : (hops : ℕ) → Event → Outcome → ℕ
+looks_to_take hops (Arrive c cell at) (NotEnabled cause) = looks_at_cell cause
+looks_to_take hops (Arrive c cell at) outcome = 3
+looks_to_take hops (Request c hop seq) (Requested onward) = 3
+looks_to_take hops (Request c hop seq) (NotEnabled NotSent) = 1
+looks_to_take hops (Answer c hop seq granted) (Answered back) = 3
+looks_to_take hops (Answer c hop seq granted) (NotEnabled NotSent) = looks_at_answer hops hop granted
+looks_to_take hops (Turn c seq) outcome = 1
+looks_to_take hops (Told c seq granted) (HasTold heard) = 2
+looks_to_take hops (Told c seq granted) outcome = 1
+looks_to_take hops event outcome = 0
+
+-- what noting facts looks up: each that is one of a message twice
+abbrev pub looks_to_note : List Fact → ℕ
+looks_to_note added = 2 * count_of is_of_message added
+
+-- what an event of a connection with such facts looks up that answers so, to be taken and noted
+abbrev pub looks_to_happen : Conn → List Fact → Event → Outcome → ℕ
+looks_to_happen conn facts event outcome = looks_to_take (length conn.path) event outcome + looks_to_note (facts_added facts event outcome)
+
+-- What an event of a connection looks up after a past: the connection, what it needs to happen, and, to see whether all is still safe,
+-- each hop of the path and the port that it came to. An event of no connection looks nothing up.
+abbrev pub looks_at : Topology → List ConnectionFact → Event → Option Conn → ℕ
+looks_at net past event None = 0
+looks_at net past event (Some conn) =
+    1 + looks_to_happen conn (facts_of (conn_of event) past) event (outcome_of net past event) + length conn.path + one_if (is_some (visited conn event))
+
+abbrev pub looks_of : Topology → List ConnectionFact → Event → ℕ
+looks_of net past event = looks_at net past event (conn_at net (conn_of event))
