@@ -5,7 +5,9 @@ only its theorem, so the edit of one body can't touch the proof of another. An e
 calls, has a check of its own. So has each edit that its batch didn't refuse, and each edit of a batch that didn't reach the prover.
 
 Refused is an edit only where the check prints a goal that it didn't prove in the lines of the edited function: `note: src/F:LINE:..` with
-the goal's name. That a function calls another one that isn't proved doesn't count, nor that a hand-written proof names what is gone.
+the goal's name. That a function calls another one that isn't proved doesn't count, nor that a hand-written proof names what is gone. Where
+a hand-written proof fails with all its names there, the goal is tried without it, and counts if the prover knows values at which it is
+false; else only where the edit has a line `witness: ..`, which says in words at which values it is.
 
 It works over the libraries that `rt ci` left in crates/*/out of the repository ROOT, and goes by the rules of the kit's own `rt` for edits,
 whose functions it calls. Each crate's checks hand on what they proved as a copy.
@@ -41,6 +43,8 @@ LAW = re.compile(r"(?:\./)?(src/\S+?):(\d+):\d+: error: ()`([^`]+)`: ")
 OF_A_PROOF = re.compile(r"(?:\./)?(proofs/\S+?):\d+:\d+: error: (?:`([^`]+)`: )?(.*)")
 NAMES_ALONE = re.compile(r"has no field|has no `|is not in scope|was not admitted|that can be named")
 
+WITNESS = "witness: "
+
 
 def kit():
     """The kit's rt, as a module."""
@@ -67,6 +71,7 @@ class Edit:
     is_of_bodies: bool = False  # whether it changes nothing but bodies
     fault: str = ""  # why it can't be applied
     alone: str = ""  # why it goes into no batch
+    witness: str = ""  # at which values its goal is false, in words, where the prover can't say
     answers: list = field(default_factory=list)  # the hand-written answers of its functions that fail with it, by file and goal
     verdict: str = ""  # how it was refused, or why not
     is_refused: bool = False
@@ -112,6 +117,7 @@ class Check:
 def read(crate, path):
     """An edit, with the lines that it changes and the function that they lie in."""
     edit = Edit(crate, Path(path))
+    edit.witness = next((line[len(WITNESS) :] for line in edit.path.read_text().split("\n") if line.startswith(WITNESS)), "")
     texts, why = rt.read_edit(path, crate.folder)
     if why:
         edit.fault = why
@@ -186,9 +192,9 @@ def judge(edit, ran, texts):
     names = "|".join(it.name for it in changed)
     own = [line for line in ran.lines if re.match(rf"fn \S*\b({names})\b\S*: (not proved|no proof)", line)]
     proofs = [at for at in map(OF_A_PROOF.match, ran.lines) if at and re.search(rf"/({names})/", at[1])]
-    edit.answers = sorted({(at[1], at[2]) for at in proofs if at[2]})
+    telling = [at for at in proofs if at[2] and not NAMES_ALONE.search(at[3])]
+    edit.answers = sorted({(at[1], at[2]) for at in proofs if at[2]}) if telling else []
     if proofs:
-        telling = [at for at in proofs if not NAMES_ALONE.search(at[3])]
         why = "only a hand-written proof fails" if telling else "only names in a hand-written proof are gone"
         edit.verdict = f"{why}: {(telling or proofs)[0][0][:160]}"
     elif own:
@@ -231,7 +237,8 @@ def try_together(crate, edits, room):
             if ran.reached_the_prover(texts):
                 judge(edit, ran, texts)
         refused = sum(edit.is_refused for edit in batch)
-        print(f"edits: {crate.name}: batch {number} of {len(rounds)}: {refused} of {len(batch)} refused", flush=True)
+        left = "".join(f"\n  {edit.name}: {edit.verdict or 'the check did not reach the prover'}" for edit in batch if not edit.is_refused)
+        print(f"edits: {crate.name}: batch {number} of {len(rounds)}: {refused} of {len(batch)} refused{left}", flush=True)
     return kept, len(rounds)
 
 
@@ -246,35 +253,58 @@ def without_answers(crate, answers, texts):
 
 def try_alone(edit, kept, room):
     """Tries an edit in a check of its own, over a copy of what earlier checks proved, or from nothing. Where it changes more than bodies,
-    any goal of the code counts, and any law of an impl. Where a hand-written answer fails, its goal is tried without it: then it counts only
-    if the prover knows values at which it is false."""
+    any goal of the code counts, and any law of an impl."""
     edit.how = "alone"
     texts, _ = rt.read_edit(str(edit.path), edit.crate.folder)
-
-    def checked(changed):
-        over = copied(kept, room) if kept else None
-        ran = check(edit.crate, changed, over)
-        if over:
-            shutil.rmtree(over)
-        return ran
-
-    ran = checked(texts)
+    ran = check_over(edit.crate, texts, kept, room)
     edit.by_kit = ran.reached_the_prover(texts) and ran.status == 1
     if not ran.reached_the_prover(texts):
         edit.is_refused, edit.verdict = False, f"BAD EDIT: the prover can't read it, or wasn't reached: {ran.complaint(texts)}"
     elif edit.is_of_bodies:
         judge(edit, ran, texts)
-        if edit.answers and not edit.is_refused:
-            why, edit.answers, left = edit.verdict, [], edit.answers
-            judge(edit, checked(without_answers(edit.crate, left, texts)), texts)
-            if edit.is_refused and "can be false" not in edit.verdict:
-                edit.is_refused = False
-            if not edit.is_refused:
-                edit.verdict = why
     else:
         goals = [at for line in ran.lines if (at := GOAL.match(line) or LAW.match(line))]
         edit.is_refused = bool(goals)
         edit.verdict = f"`{goals[0][4]}`, {goals[0][1]}:{goals[0][2]}" if goals else f"no goal in src/ fails: {ran.complaint(texts)}"
+
+
+def try_without_answers(edit, kept, room):
+    """Judges an edit where hand-written answers fail with it: by its witness, or without these, when its goals are the prover's own, and count
+    only where it knows values at which they are false. Gives how many checks that took."""
+    why, answers, edit.by_kit = edit.verdict, edit.answers, True
+    if edit.witness:
+        goal, function = edit.answers[0][1], Path(edit.answers[0][0]).parent.name
+        edit.is_refused, edit.verdict = True, f"the proof by hand of `{goal}` of {function}; false where {edit.witness}"
+        return 0
+    texts, _ = rt.read_edit(str(edit.path), edit.crate.folder)
+    judge(edit, check_over(edit.crate, without_answers(edit.crate, answers, texts), kept, room), texts)
+    edit.is_refused = edit.is_refused and "can be false" in edit.verdict
+    if not edit.is_refused:
+        edit.verdict = why
+    return 1
+
+
+def check_over(crate, texts, kept, room):
+    """A check over a copy of what earlier checks proved, or from nothing."""
+    over = copied(kept, room) if kept else None
+    ran = check(crate, texts, over)
+    if over:
+        shutil.rmtree(over)
+    return ran
+
+
+def try_left(edit, kept, room):
+    """Tries by itself an edit that no batch refused. Gives how many checks that took."""
+    checks = 0
+    if edit.how != "batch" or not edit.answers:
+        try_alone(edit, kept, room)
+        checks += 1
+    if edit.answers and not edit.is_refused:
+        checks += try_without_answers(edit, kept, room)
+    elif kept and not edit.is_refused:
+        try_alone(edit, None, room)
+        checks += 1
+    return checks
 
 
 def try_crate(crate, names, is_all_alone):
@@ -292,14 +322,8 @@ def try_crate(crate, names, is_all_alone):
         if check(crate, {}, kept).status:
             kept = None
             for edit in together:
-                edit.is_refused, edit.verdict = False, ""
-        alone = 0
-        for edit in edits:
-            # What a batch didn't refuse is tried from nothing at once.
-            for over in [kept, None] if kept and not edit.how else [None]:
-                if not (edit.fault or edit.is_refused):
-                    alone += 1
-                    try_alone(edit, over, room)
+                edit.is_refused, edit.verdict, edit.answers, edit.how = False, "", [], ""
+        alone = sum(try_left(edit, kept, room) for edit in edits if not (edit.fault or edit.is_refused))
     for edit in edits:
         if edit.fault:
             edit.verdict = f"BAD EDIT: {edit.fault}"
@@ -335,7 +359,8 @@ def main():
     if words.json:
         rows = [{"edit": it.name, "refused": it.is_refused, "how": it.how, "verdict": it.verdict} for it in edits]
         Path(words.json).write_text(json.dumps(rows, indent=1))
-    print(f"edits: {len(edits)} tried, in {shared} batches and {alone} alone")
+    told = sum(edit.is_refused and edit.by_kit and bool(edit.witness) for edit in edits)
+    print(f"edits: {len(edits)} tried, in {shared} batches and {alone} checks of one alone; the goals of {told} are false by their witness")
     print(f"{refused} passed, {len(edits) - refused} failed")
     sys.exit(0 if refused == len(edits) else 1)
 

@@ -38,21 +38,21 @@ pub fn two_more(count: u32) -> u32
     count + 2
 }
 
-/// A number with three added in two steps.
-pub fn three_more(count: u32) -> u32
+/// A number with two added, by hand.
+pub fn added(count: u32) -> u32
     requires { count ≤ 20 }
-    ensures { result ≡ count + 3 }
+    ensures { result ≡ count + 2 }
 {
     let middle = two_more(count);
-    middle + 1
+    middle
 }
 """
 
 PROOF = """use Rattle.std.proofs.Common.{rules, ◌≡◌, ◌+◌, ◌≤◌, ℕ}
-use Rattle.tried.proofs.three_more.Goals as goal
+use Rattle.tried.proofs.added.Goals as goal
 
 pub returns : goal.returns
-returns c = ap (λ n. n + 1) c.two_more.ensures
+returns c = c.two_more-middle.ensures
 """
 
 # Of each edit its pairs, whether it counts as refused, and what is said of it.
@@ -62,13 +62,17 @@ EDITS = {
     "adds_two_to_a_share": ("part + 1", "part + 2", True, "of one_more"),
     "adds_one_for_two": ("    count + 2", "    count + 1", True, "of two_more"),
     "takes_a_greater_most": ("MOST: u32 = 10;", "MOST: u32 = 11;", True, "src/lib.rt"),
-    "says_another_comment": ("// A comment.", "// Another comment.", False, "proved"),
-    "gives_a_part_another_name": ("let part = share(count);", "let part = share(count); let piece = part;", False, "proved"),
+    "says_another_comment": ("// A comment.", "// Another comment.", False, "still proved with"),
+    "gives_a_part_another_name": ("let part = share(count);", "let part = share(count); let piece = part;", False, "still proved with"),
     "gives_the_middle_another_name": ("let middle = two_more(count);", "let middle = two_more(count.min(20));", False, "hand-written"),
+    "adds_two_to_half_of_a_number": ("let middle = two_more(count);", "let middle = two_more(count / 2);", True, "false where"),
     "looks_for_what_is_gone": ("count + 7", "count + 8", False, "and not once"),
     "promises_less": ("ensures most { result ≤ 10 }", "ensures most { result ≤ 9 }", False, "a contract"),
-    "does_not_read": ("    middle + 1", "    middle + + 1", False, "BAD EDIT"),
+    "does_not_read": ("    middle", "    middle + + 1", False, "BAD EDIT"),
 }
+
+# The witness that stands in an edit.
+WITNESSES = {"adds_two_to_half_of_a_number": "the number is 2: 3 comes in place of 4"}
 
 
 def written(root):
@@ -77,13 +81,14 @@ def written(root):
         root / "crates.txt": "tried:\n",
         root / "HANDLES": "Handles allowed: none.\n",
         crate / "src/lib.rt": SOURCE,
-        crate / "proofs/three_more/Answers.antt": PROOF,
+        crate / "proofs/added/Answers.antt": PROOF,
     }.items():
         name.parent.mkdir(parents=True, exist_ok=True)
         name.write_text(text)
     (crate / "must-fail").mkdir()
     for name, (old, new, _, _) in EDITS.items():
-        (crate / "must-fail" / f"{name}.edit").write_text(f"file: src/lib.rt\nold: {old}\nnew: {new}\n")
+        witness = f"witness: {WITNESSES[name]}\n" if name in WITNESSES else ""
+        (crate / "must-fail" / f"{name}.edit").write_text(f"{witness}file: src/lib.rt\nold: {old}\nnew: {new}\n")
 
 
 def faults(said, status):
