@@ -18,27 +18,9 @@ use crate::hops::{answer, port_at, request};
 use crate::messages::{told, turn};
 use abt_actor::{Added, SourceActor};
 use abt_log::{Log, Looks};
-use abt_model::{Event, Outcome, SourceCommand};
+use abt_model::{Event, Outcome, SourceCommand, Target};
 use abt_net::Conn;
 use abt_node::Port;
-
-// The connection of an event.
-pub(crate) fn conn_number(event: &Event) -> u16
-    ensures { result ≡ conn_of event.now }
-{
-    match *event {
-        Event::Start { conn, .. }
-        | Event::Ask { conn, .. }
-        | Event::Again { conn }
-        | Event::Crash { conn }
-        | Event::Emit { conn, .. }
-        | Event::Arrive { conn, .. }
-        | Event::Request { conn, .. }
-        | Event::Turn { conn, .. }
-        | Event::Answer { conn, .. }
-        | Event::Told { conn, .. } => conn,
-    }
-}
 
 // What an event asks for is a rate, as a fact for the proofs: its body only looks at the rate.
 pub(crate) fn asks_rate(event: &Event)
@@ -49,14 +31,13 @@ pub(crate) fn asks_rate(event: &Event)
     }
 }
 
-// The port that an event of a connection comes to, if it comes to one. Cells come to the first hop.
+// The port that an event of a connection comes to, if it comes to one.
 pub(crate) fn visited(conn: &Conn, event: &Event) -> Option<u16>
     ensures { result ≡ touches.visited conn.now event.now }
 {
-    match *event {
-        Event::Request { hop, .. } | Event::Answer { hop, .. } => port_at(conn, hop),
-        Event::Arrive { .. } => port_at(conn, 1),
-        _ => None,
+    match event.target() {
+        Target::Hop { event, .. } => port_at(conn, event.hop()),
+        Target::Source { .. } | Target::End { .. } => None,
     }
 }
 
