@@ -32,10 +32,11 @@ use Rattle.abt_woven.proofs.Turns.{outcome_turns, entries_turns}
 use Rattle.abt_weave.specs.Candidates.{is_at_source, is_own_of, is_told_in, is_told}
 use Rattle.abt_weave.specs.Board.{IsSourceSettled}
 
-no_visit : (past : List ConnectionFact) (event : Event) → ((conn : Conn) (facts : List Fact) → input_of conn.vc facts event ≡ None) → (r : Option PortReply) (o : Option Conn) → visit_by past event r o ≡ None
-no_visit past event none r None = refl
-no_visit past event none None (Some conn) = refl
-no_visit past event none (Some reply) (Some conn) =
+-- an event that brings nothing to a port comes to none
+pub unvisited_by : (past : List ConnectionFact) (event : Event) → ((conn : Conn) (facts : List Fact) → input_of conn.vc facts event ≡ None) → (r : Option PortReply) (o : Option Conn) → visit_by past event r o ≡ None
+unvisited_by past event none r None = refl
+unvisited_by past event none None (Some conn) = refl
+unvisited_by past event none (Some reply) (Some conn) =
     ap (option_map (λ (input : PortInput). let v : Visit = record { port = slice_index conn.path (hop_visited event - 1); input = input; reply = reply } in v)) (none conn (facts_of (conn_of event) past))
 
 own_input : (c : ℕ) (t : Target) → is_at_source c t ≡ true → (vc : Channel) (request : ℕ → Terms) → input_in vc request t ≡ None
@@ -44,7 +45,7 @@ own_input c other h vc request = absurd (false≢true h)
 
 -- it comes to no port
 pub own_visit : (net : Topology) (past : List ConnectionFact) (c : ℕ) (event : Event) → is_own_of c event ≡ true → visit net past event ≡ None
-own_visit net past c event own = no_visit past event (λ conn facts. own_input c (target_of event) own conn.vc (request_of conn.vc facts)) (reply_of (outcome_of net past event)) (conn_at net (conn_of event))
+own_visit net past c event own = unvisited_by past event (λ conn facts. own_input c (target_of event) own conn.vc (request_of conn.vc facts)) (reply_of (outcome_of net past event)) (conn_at net (conn_of event))
 
 own_number : (c : ℕ) (t : Target) → is_at_source c t ≡ true → conn_in t ≡ c
 own_number c (Source d x) h = eqb-true d c h

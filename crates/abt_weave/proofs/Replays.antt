@@ -41,6 +41,7 @@ use Rattle.abt_journal.specs.declared.input.PortReply.{PortReply}
 use Rattle.abt_journal.specs.declared.input.PortReply.TheVariants.{Requested as RequestedOut, Answered as AnsweredOut, Arrived as ArrivedOut}
 use Rattle.abt_journal.specs.Replay.{reply_by, table_after, replay}
 use Rattle.abt_woven.specs.Projections.{Step, step_of, Visit, reply_of, input_of, visit_by, visit, past_of, step_at, steps_on}
+use Rattle.abt_weave.proofs.OwnEvents.{unvisited_by}
 use Rattle.abt_weave.proofs.PortEvents.{IsVisit, visit_is, visit_made, has_reply, reply_enabled, some_same}
 use Rattle.abt_weave.proofs.PortLooks.{first_hop}
 
@@ -59,13 +60,7 @@ past_lawful net (event ∷ earlier) rates = after_event_lawful net (past_of net 
 
 -- an event that brings nothing comes to no port
 pub no_visit : (net : Topology) (past : List ConnectionFact) (event : Event) → ((vc : Channel) (facts : List Fact) → input_of vc facts event ≡ None) → visit net past event ≡ None
-no_visit net past event none = go (reply_of (outcome_of net past event)) (conn_at net (conn_of event))
-  where
-    go : (r : Option PortReply) (o : Option Conn) → visit_by past event r o ≡ None
-    go r None = refl
-    go None (Some conn) = refl
-    go (Some reply) (Some conn) =
-        ap (option_map (λ (input : PortInput). (let made : Visit = record { port = slice_index conn.path (hop_visited event - 1); input = input; reply = reply } in made))) (none conn.vc (facts_of (conn_of event) past))
+no_visit net past event none = unvisited_by past event (λ conn facts. none conn.vc facts) (reply_of (outcome_of net past event)) (conn_at net (conn_of event))
 
 -- the hop of the port that an event comes to
 pub hop_here : (net : Topology) (past : List ConnectionFact) → IsWithinRules net → (event : Event) (v : Visit) → (parts : IsVisit net past event v) → hop_of parts.conn.path v.port ≡ hop_visited event
@@ -169,13 +164,6 @@ arrival_made net past rules lawful c cell at v is =
       sym served.1 ∙ ap (table_after table) input,
     )
 
--- the hop to which something comes is the one that it visits
-pub visited_met : (vc : Channel) (facts : List Fact) (event : Event) (input : PortInput) → input_of vc facts event ≡ Some input → hop_visited event ≡ hop_visited event
-visited_met vc facts (Request c hop seq) input h = refl
-visited_met vc facts (Answer c hop seq granted) input h = refl
-visited_met vc facts (Arrive c cell at) input h = refl
-visited_met vc facts other input h = absurd (cc)
-
 pub event_made : (net : Topology) (past : List ConnectionFact) → IsWithinRules net → AllLawful net past → (event : Event) (v : Visit) → visit net past event ≡ Some v → IsServed net past event v
 event_made net past rules lawful (Request c hop seq) v is = request_made net past rules lawful c hop seq v is
 event_made net past rules lawful (Answer c hop seq granted) v is = answer_made net past rules lawful c hop seq granted v is
@@ -186,9 +174,8 @@ event_made net past rules lawful other v is = (let none = no_visit net past othe
 elsewhere : (net : Topology) (past : List ConnectionFact) (event : Event) (v : Visit) (p : ℕ) → IsVisit net past event v → v.port ≢ p → ¬ Visits net event p
 elsewhere net past event v p parts differ visits =
     let same : visits.0 ≡ parts.conn = some_same (sym visits.1 ∙ parts.known) in
-    let met = visited_met parts.conn.vc (facts_of (conn_of event) past) event v.input parts.input in
-    let hop : hop_of parts.conn.path p ≡ hop_visited event = subst (λ (conn : Conn). hop_of conn.path p ≡ hop_visited event) same visits.3 ∙ met in
-    let low : 1 ≤ hop_visited event = subst (λ n. 1 ≤ n) met visits.2 in
+    let hop : hop_of parts.conn.path p ≡ hop_visited event = subst (λ (conn : Conn). hop_of conn.path p ≡ hop_visited event) same visits.3 in
+    let low : 1 ≤ hop_visited event = visits.2 in
     let port = hop_of-port parts.conn.path p (λ zero. (let e = sym hop ∙ zero in omega (arith, e, low))) in
     differ (sym parts.port ∙ ap (λ n. slice_index parts.conn.path (n - 1)) (sym hop) ∙ port)
 
