@@ -1,3 +1,4 @@
+pub mod Targets
 pub mod Lawful
 pub mod Cases
 pub mod Chain

@@ -7,19 +7,21 @@ use Rattle.std.specs.List.{enumerate_from}
 use Rattle.abt_facts.specs.declared.fact.Fact.{Fact}
 use Rattle.abt_model.specs.declared.connection_fact.ConnectionFact.{ConnectionFact}
 use Rattle.abt_model.specs.declared.event.Event.{Event}
-use Rattle.abt_model.specs.declared.event.Event.TheVariants.{Start, Ask, Again, Crash, Emit, Arrive, Request, Turn, Answer, Told}
+use Rattle.abt_model.specs.declared.target.Target.{Target}
+use Rattle.abt_model.specs.declared.target.Target.TheVariants.{Hop}
 use Rattle.abt_model.specs.declared.outcome.Outcome.{Outcome}
 use Rattle.abt_net.specs.declared.conn.Conn.{Conn}
 use Rattle.abt_facts.specs.Hop.{held_of}
 use Rattle.abt_net.specs.Topology.{Topology}
 use Rattle.abt_model.specs.Conns.{conn_at}
 use Rattle.abt_model.specs.Events.{AsksRate}
+use Rattle.abt_model.specs.Targets.{target_of, hop_in, port_in}
 use Rattle.abt_model.specs.Past.{facts_of}
 use Rattle.abt_model.specs.Reserved.{hop_of, held_on, reserved_on}
 use Rattle.abt_model.specs.Answers.{answer_by}
 use Rattle.abt_model.specs.Outcomes.{conn_of, port_of, facts_added, after_event}
 use Rattle.abt_model.specs.Run.{facts_from, facts_after}
-use Rattle.abt_model.proofs.Within.{hop_to, step_within}
+use Rattle.abt_model.proofs.Within.{step_within}
 use Rattle.abt_model.proofs.Worlds.{cases_option, facts_of-own, facts_of-other, outcome_of-known, after_event-unknown, AllLawful, lawful_at, after_event_lawful, nothing_lawful, first_asks, others_ask}
 
 -- what a numbered list adds up to
@@ -84,17 +86,9 @@ hop_of-port (q ∷ path) p some = elim (cases_eq q p) [
       ])
 ]
 
-port_of-hop : (path : List ℕ) (e : Event) → hop_to e ≢ 0 → port_of path e ≡ slice_index path (hop_to e - 1)
-port_of-hop path (Request c j s) some = refl
-port_of-hop path (Start c now) some = absurd (some refl)
-port_of-hop path (Emit c now) some = absurd (some refl)
-port_of-hop path (Arrive c n a) some = absurd (some refl)
-port_of-hop path (Ask c r plan) some = absurd (some refl)
-port_of-hop path (Again c) some = absurd (some refl)
-port_of-hop path (Crash c) some = absurd (some refl)
-port_of-hop path (Turn c s) some = absurd (some refl)
-port_of-hop path (Answer c j s granted) some = absurd (some refl)
-port_of-hop path (Told c s granted) some = absurd (some refl)
+port_in-hop : (path : List ℕ) (t : Target) → hop_in t ≢ 0 → port_in path t ≡ slice_index path (hop_in t - 1)
+port_in-hop path (Hop c x) some = refl
+port_in-hop path other some = absurd (some refl)
 
 -- no port's sum is above its capacity
 abbrev pub AllWithin : Topology → List ConnectionFact → Type 0
@@ -125,8 +119,8 @@ on_port net past lawful e p conn known =
           elim (step_within conn (reserved_on net past q) (slice_index net.capacities q) old (lawful_at net past lawful (conn_of e) conn known) e (hop_of path p)) [
             | inl less ↦ inl (omega (arith, a, b, less))
             | inr fits ↦ (
-                let here : hop_to e ≢ 0 = λ z. some (sym fits.0 ∙ z) in
-                let port : q ≡ p = port_of-hop path e here ∙ ap (λ h. slice_index path (h - 1)) fits.0 ∙ hop_of-port path p some in
+                let here : hop_in (target_of e) ≢ 0 = λ z. some (sym fits.0 ∙ z) in
+                let port : q ≡ p = port_in-hop path (target_of e) here ∙ ap (λ h. slice_index path (h - 1)) fits.0 ∙ hop_of-port path p some in
                 inr (rw (a, b) (subst (λ r. reserved_on net past r - held_of old (hop_of path p) + held_of new (hop_of path p) ≤ slice_index net.capacities r) port fits.1)))
           ])
     ]

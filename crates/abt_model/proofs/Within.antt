@@ -25,6 +25,7 @@ use Rattle.abt_facts.specs.Hop.{newest_of, held_of}
 use Rattle.abt_facts.specs.Cells.{emitted_of, last_arrival_of, fence_of, is_in_time}
 use Rattle.abt_cell.specs.Channel.{Channel}
 use Rattle.abt_rate.specs.Limits.{emit_max, number_max}
+use Rattle.abt_model.specs.Targets.{target_of, hop_in}
 use Rattle.abt_model.specs.Answers.{start_max, if_up, start_answer, ask_answer, emit_answer, arrive_answer, told_answer, is_hop, answer_by}
 use Rattle.abt_model.specs.Outcomes.{delivery, request_adds, answer_adds, facts_added}
 use Rattle.abt_model.proofs.Chain.{asked_last, newest_asked}
@@ -32,13 +33,9 @@ use Rattle.abt_model.proofs.Holds.{passed_other, shut_other, passed_above, passe
 use Rattle.abt_model.proofs.Lawful.{Route, route_of, IsLawful}
 use Rattle.abt_model.proofs.Steps.{decided, decided_back, decided_pass, decided_refuse, decided_back_pass, down_adds}
 
--- after a step each hop holds no more than before, but for a request that passes, which fits
+-- after a step each hop holds no more than before, but for the one that the event comes to, and what it holds more fits
 abbrev pub IsWithin : (sum capacity hop : ℕ) → (old new : List Fact) → ℕ → Type 0
 IsWithin sum capacity hop old new j = (held_of new j ≤ held_of old j) ⊎ ((hop ≡ j) × (sum - held_of old j + held_of new j ≤ capacity))
-
-abbrev pub hop_to : Event → ℕ
-hop_to (Request c j s) = j
-hop_to other = 0
 
 same_within : (sum capacity hop : ℕ) (fs : List Fact) (j : ℕ) → IsWithin sum capacity hop fs fs j
 same_within sum capacity hop fs j = inl (omega arith)
@@ -73,11 +70,11 @@ request_within k vc reserved capacity fs lawful s j i (Refuse answer) e = elim (
 request_within k vc reserved capacity fs lawful s j i (Drop cause) e = inl (omega (arith, held_delivered fs s j i))
 
 answer_within : (k : Route) (reserved capacity : ℕ) (fs : List Fact) → IsLawful k fs → (s j i : ℕ) (granted : Bool) → (d : Returned) →
-    decided_back fs j s granted ≡ d → IsWithin reserved capacity 0 fs (answer_adds j s granted d ++ fs) i
+    decided_back fs j s granted ≡ d → IsWithin reserved capacity j fs (answer_adds j s granted d ++ fs) i
 answer_within k reserved capacity fs lawful s j i true PassBack e = inl (omega arith)
 answer_within k reserved capacity fs lawful s j i false PassBack e = elim (cases_eq j i) [
   | inr differ ↦ inl (omega (arith, shut_other fs s j i differ))
-  | inl same ↦ subst (λ q. IsWithin reserved capacity 0 fs (Shut s j ∷ fs) q) same (
+  | inl same ↦ subst (λ q. IsWithin reserved capacity j fs (Shut s j ∷ fs) q) same (
       inl (shut_again k fs lawful s j (decided_back_pass fs j s false e)))
 ]
 answer_within k reserved capacity fs lawful s j i true (DropBack cause) e = inl (omega arith)
@@ -131,15 +128,15 @@ emit_within reserved capacity fs c now i =
     (λ e2. cond_both (rate_of fs == 0) _ _ P (λ e3. inl (omega arith))
     (λ e3. cond_both (nat_lt now (next_of fs)) _ _ P (λ e4. inl (omega arith)) (λ e4. inl (omega arith)))))
 
-arrive_within : (conn : Conn) (reserved capacity : ℕ) (fs : List Fact) (c n a i : ℕ) → IsWithin reserved capacity 0 fs (facts_added fs (Arrive c n a) (arrive_answer conn fs n a) ++ fs) i
+arrive_within : (conn : Conn) (reserved capacity : ℕ) (fs : List Fact) (c n a i : ℕ) → IsWithin reserved capacity 1 fs (facts_added fs (Arrive c n a) (arrive_answer conn fs n a) ++ fs) i
 arrive_within conn reserved capacity fs c n a i =
-    let P : Outcome → Type 0 = λ o. IsWithin reserved capacity 0 fs (facts_added fs (Arrive c n a) o ++ fs) i in
+    let P : Outcome → Type 0 = λ o. IsWithin reserved capacity 1 fs (facts_added fs (Arrive c n a) o ++ fs) i in
     cond_both (not (nat_lt n (emitted_of fs))) _ _ P (λ e. inl (omega arith))
     (λ e. cond_both (nat_lt n (fence_of fs)) _ _ P (λ e2. inl (omega arith))
     (λ e2. cond_both (not (is_in_time conn.delay conn.tau fs n a)) _ _ P (λ e3. inl (omega arith))
     (λ e3. cond_both (nat_lt a (last_arrival_of fs)) _ _ P (λ e4. inl (omega arith)) (λ e4. inl (omega arith)))))
 
-pub step_within : (conn : Conn) (reserved capacity : ℕ) (fs : List Fact) → IsLawful (route_of conn) fs → (e : Event) (i : ℕ) → IsWithin reserved capacity (hop_to e) fs (facts_added fs e (answer_by conn reserved capacity fs e) ++ fs) i
+pub step_within : (conn : Conn) (reserved capacity : ℕ) (fs : List Fact) → IsLawful (route_of conn) fs → (e : Event) (i : ℕ) → IsWithin reserved capacity (hop_in (target_of e)) fs (facts_added fs e (answer_by conn reserved capacity fs e) ++ fs) i
 step_within conn reserved capacity fs lawful (Start c now) i = start_within reserved capacity fs c now i (state_of fs)
 step_within conn reserved capacity fs lawful (Emit c now) i = up_within reserved capacity fs (Emit c now) _ (state_of fs) i (emit_within reserved capacity fs c now i)
 step_within conn reserved capacity fs lawful (Arrive c n a) i = arrive_within conn reserved capacity fs c n a i
@@ -153,7 +150,7 @@ step_within conn reserved capacity fs lawful (Request c j s) i =
 step_within conn reserved capacity fs lawful (Turn c s) i =
     cond_both (not (request_is_through (length conn.path) fs s)) _ _ (λ (o : Outcome). IsWithin reserved capacity 0 fs (facts_added fs (Turn c s) o ++ fs) i) (λ e. inl (omega arith)) (λ e. inl (omega arith))
 step_within conn reserved capacity fs lawful (Answer c j s granted) i =
-    let P : Outcome → Type 0 = λ o. IsWithin reserved capacity 0 fs (facts_added fs (Answer c j s granted) o ++ fs) i in
+    let P : Outcome → Type 0 = λ o. IsWithin reserved capacity j fs (facts_added fs (Answer c j s granted) o ++ fs) i in
     cond_both (not (is_hop (length conn.path) j)) _ _ P (λ e. inl (omega arith))
     (λ e. cond_both (not (answer_is_at (length conn.path) fs s j granted)) _ _ P (λ e2. inl (omega arith)) (λ e2. answer_within (route_of conn) reserved capacity fs lawful s j i granted _ refl))
 step_within conn reserved capacity fs lawful (Told c s granted) i =

@@ -1,5 +1,6 @@
 pub mod Conns
 pub mod Events
+pub mod Targets
 pub mod Past
 pub mod Reserved
 pub mod Decision

@@ -1,5 +1,5 @@
 -- What an event answers after the past of a net, and which facts it adds.
-use Rattle.std.specs.Prelude.{ℕ, ◌+◌, ◌-◌, ◌==◌, Bool, true, false, List, [], ◌∷◌, if◌then◌else◌, slice_index, Option, None, Some}
+use Rattle.std.specs.Prelude.{ℕ, ◌+◌, ◌==◌, Bool, true, false, List, [], ◌∷◌, if◌then◌else◌, slice_index, Option, None, Some}
 use Rattle.abt_keep.specs.declared.plan.StorePlan.TheVariants.{FailsAfter}
 use Rattle.abt_node.specs.declared.reply.Onward.{Onward}
 use Rattle.abt_node.specs.declared.reply.Onward.TheVariants.{Pass, Refuse, Drop}
@@ -16,32 +16,22 @@ use Rattle.abt_facts.specs.Hop.{held_of}
 use Rattle.abt_facts.specs.Cells.{emitted_of}
 use Rattle.abt_model.specs.declared.connection_fact.ConnectionFact.{ConnectionFact}
 use Rattle.abt_model.specs.declared.event.Event.{Event}
-use Rattle.abt_model.specs.declared.event.Event.TheVariants.{Start, Ask, Again, Crash, Emit, Arrive, Request, Turn, Answer, Told}
+use Rattle.abt_model.specs.declared.event.Event.TheVariants.{Start, Ask, Crash, Emit, Arrive, Request, Turn, Answer, Told}
 use Rattle.abt_model.specs.declared.outcome.Cause.TheVariants.{Unknown}
 use Rattle.abt_model.specs.declared.outcome.Heard.TheVariants.{Raised, Refused}
 use Rattle.abt_model.specs.declared.outcome.Outcome.{Outcome}
 use Rattle.abt_model.specs.declared.outcome.Outcome.TheVariants.{Started, Asked, AskRefused, Crashed, Emitted, Arrived, Requested, Turned, Answered, Told as HasTold, NotEnabled}
+use Rattle.abt_model.specs.Targets.{target_of, conn_in, port_in}
 use Rattle.abt_model.specs.Past.{facts_of, with_facts}
 use Rattle.abt_model.specs.Reserved.{reserved_on}
 use Rattle.abt_model.specs.Answers.{answer_by}
 
+-- the connection of an event, and the port that it comes to, by the path of its connection
 abbrev pub conn_of : Event → ℕ
-conn_of (Start c now) = c
-conn_of (Ask c rate plan) = c
-conn_of (Again c) = c
-conn_of (Crash c) = c
-conn_of (Emit c now) = c
-conn_of (Arrive c cell at) = c
-conn_of (Request c hop seq) = c
-conn_of (Turn c seq) = c
-conn_of (Answer c hop seq granted) = c
-conn_of (Told c seq granted) = c
+conn_of event = conn_in (target_of event)
 
--- the port that a request or an answer comes to, by the path of its connection
 abbrev pub port_of : List ℕ → Event → ℕ
-port_of path (Request c hop seq) = slice_index path (hop - 1)
-port_of path (Answer c hop seq granted) = slice_index path (hop - 1)
-port_of path event = 0
+port_of path event = port_in path (target_of event)
 
 abbrev pub outcome_at : Topology → List ConnectionFact → Option Conn → Event → Outcome
 outcome_at net past None event = NotEnabled Unknown

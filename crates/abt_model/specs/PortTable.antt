@@ -22,6 +22,7 @@ use Rattle.abt_model.specs.declared.connection_fact.ConnectionFact.{ConnectionFa
 use Rattle.abt_model.specs.declared.event.Event.{Event}
 use Rattle.abt_model.specs.declared.event.Event.TheVariants.{Request, Answer, Arrive}
 use Rattle.abt_model.specs.declared.outcome.Outcome.TheVariants.{Arrived, Requested, Answered}
+use Rattle.abt_model.specs.Targets.{target_of, hop_in}
 use Rattle.abt_model.specs.Events.{AsksRate}
 use Rattle.abt_model.specs.Past.{facts_of}
 use Rattle.abt_model.specs.Reserved.{hop_of, reserved_on}
@@ -71,10 +72,7 @@ port_table net past p = record {
 
 -- the hop that an event comes to, 0 where it comes to none; cells come to the first
 abbrev pub hop_visited : Event → ℕ
-hop_visited (Request c hop seq) = hop
-hop_visited (Answer c hop seq granted) = hop
-hop_visited (Arrive c cell at) = 1
-hop_visited event = 0
+hop_visited event = hop_in (target_of event)
 
 -- an event comes to a port
 abbrev pub Visits : Topology → Event → ℕ → Type 0

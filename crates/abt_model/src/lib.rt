@@ -8,6 +8,8 @@ mod headline;
 mod one_more;
 mod outcome;
 mod port_laws;
+mod target;
+mod target_laws;
 
 pub use command::SourceCommand;
 pub use connection_fact::ConnectionFact;
@@ -16,3 +18,5 @@ pub use headline::{arrivals_conform, every_past_is_safe, messages_agree, rates_w
 pub use one_more::one_more_event;
 pub use outcome::{Cause, Heard, Outcome};
 pub use port_laws::{tables_follow_facts, tables_stand_for_facts};
+pub use target::{HopEvent, SourceEvent, Target};
+pub use target_laws::each_event_has_one_target;

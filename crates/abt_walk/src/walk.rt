@@ -31,22 +31,6 @@ pub fn number(place: usize) -> u16 {
     u16::try_from(place).unwrap_or(u16::MAX)
 }
 
-/// The connection that an event names.
-pub fn conn_of(event: &Event) -> u16 {
-    match *event {
-        Event::Start { conn, .. }
-        | Event::Ask { conn, .. }
-        | Event::Again { conn }
-        | Event::Crash { conn }
-        | Event::Emit { conn, .. }
-        | Event::Arrive { conn, .. }
-        | Event::Request { conn, .. }
-        | Event::Turn { conn, .. }
-        | Event::Answer { conn, .. }
-        | Event::Told { conn, .. } => conn,
-    }
-}
-
 // The port of a hop of its path.
 fn port_of(conn: &Conn, hop: u16) -> Option<u16> {
     let place = usize::from(hop).checked_sub(1)?;
@@ -127,7 +111,7 @@ impl<'net> Walk<'net> {
 
     /// Lets an event happen, and gives what it answers.
     pub fn step(&mut self, alloc: Global, event: &Event) -> Result<Outcome, AllocError> {
-        let conn = conn_of(event);
+        let conn = event.conn();
         let step = self.answer(alloc, event)?;
         for fact in step.added {
             if let Some(fact) = fact {
@@ -138,7 +122,7 @@ impl<'net> Walk<'net> {
     }
 
     fn answer(&self, alloc: Global, event: &Event) -> Result<Step, AllocError> {
-        let number = conn_of(event);
+        let number = event.conn();
         let Some(conn) = self.net.conns().get(usize::from(number)) else {
             return Ok(not_enabled(Cause::Unknown));
         };

@@ -1,38 +1,32 @@
 -- An event that comes where the journals stand as they stood answers the same again.
-use Rattle.std.proofs.Common.{◌≡◌, ◌≢◌, ℕ, ◌+◌, ◌-◌, ◌<◌, ◌≤◌, inl, inr, refl, ap, Bool, true, false, List, [], ◌∷◌, ◌++◌, length, ◌∙◌, sym, subst, Option, None, Some, arith}
-use Rattle.std.specs.Prelude.{◌==◌, ◌&&◌, ◌⊎◌, not, nat_lt, nat_le, if◌then◌else◌, slice_get, slice_index, max, min, All}
-use Rattle.std.proofs.lemmas.Bool.{false≢true, cond-true, cond-false, cases_Bool, cases_eq, eq-eqb, ne_eqb, eqb-true}
-use Rattle.std.proofs.lemmas.Option.{slice_get_within}
+use Rattle.std.proofs.Common.{◌≡◌, ℕ, ◌+◌, refl, ap, Bool, true, false, List, [], ◌∙◌, sym, Some, arith}
+use Rattle.std.specs.Prelude.{◌==◌, ◌&&◌, not, nat_lt, if◌then◌else◌, min}
+use Rattle.std.proofs.lemmas.Bool.{false≢true}
 use Rattle.abt_rate.specs.Rate.{spacing_of}
 use Rattle.abt_cell.specs.Channel.{Channel}
 use Rattle.abt_cell.specs.Message.{Terms}
-use Rattle.abt_gcra.specs.declared.verdict.Verdict.{Verdict}
 use Rattle.abt_keep.specs.declared.plan.StorePlan.{StorePlan}
 use Rattle.abt_shaper.specs.declared.fault.ShapeFault.TheVariants.{TimeRange, Zero, TooSoon}
 use Rattle.abt_source.specs.declared.fault.AskFault.TheVariants.{SeqExhausted}
 use Rattle.abt_net.specs.declared.conn.Conn.{Conn}
 use Rattle.abt_net.specs.Topology.{Topology, IsWithinRules}
 use Rattle.abt_facts.specs.declared.fact.Fact.{Fact}
-use Rattle.abt_facts.specs.Requests.{was_asked, floor_of, ask_of}
+use Rattle.abt_facts.specs.Requests.{floor_of, ask_of}
 use Rattle.abt_facts.specs.Source.{SourceState, Down, Idle, Asking, state_of, rate_of, last_of, clock_of, next_of}
-use Rattle.abt_facts.specs.Sent.{request_is_at, answer_is_at, answer_is_home, was_turned, was_back, was_shut, was_passed}
-use Rattle.abt_facts.specs.Cells.{emitted_of, moment_of, after_last_of, delivered_mark_of, last_arrival_of, fence_of, is_in_time, verdict_at}
-use Rattle.abt_facts.specs.Hop.{held_of}
-use Rattle.abt_node.specs.declared.reply.Onward.{Onward}
-use Rattle.abt_node.specs.declared.reply.Back.{Back}
+use Rattle.abt_facts.specs.Sent.{answer_is_home}
+use Rattle.abt_facts.specs.Cells.{emitted_of}
 use Rattle.abt_model.specs.declared.connection_fact.ConnectionFact.{ConnectionFact}
 use Rattle.abt_model.specs.declared.event.Event.{Event}
-use Rattle.abt_model.specs.declared.event.Event.TheVariants.{Start, Ask, Again, Crash, Emit, Arrive, Request, Turn, Answer, Told}
-use Rattle.abt_model.specs.declared.outcome.Cause.TheVariants.{ClockBack, NotSent, Unknown, Fenced, Delay}
+use Rattle.abt_model.specs.declared.event.Event.TheVariants.{Start, Ask, Again, Crash, Emit, Told}
+use Rattle.abt_model.specs.declared.outcome.Cause.TheVariants.{ClockBack, NotSent}
 use Rattle.abt_model.specs.declared.outcome.Outcome.{Outcome}
-use Rattle.abt_model.specs.declared.outcome.Outcome.TheVariants.{AskRefused, Crashed, Emitted, EmitRefused, Repeated, Requested, Answered, Arrived, Told as HasTold, NotEnabled}
+use Rattle.abt_model.specs.declared.outcome.Outcome.TheVariants.{AskRefused, Crashed, Emitted, EmitRefused, Repeated, Told as HasTold, NotEnabled}
 use Rattle.abt_rate.specs.Limits.{emit_max, number_max}
-use Rattle.abt_model.specs.Answers.{if_up, start_answer, next_request, stored_answer, ask_answer, again_answer, emit_answer, arrive_answer, told_answer, is_hop, answer_by}
+use Rattle.abt_model.specs.Answers.{if_up, start_answer, stored_answer, ask_answer, again_answer, emit_answer, told_answer, answer_by}
 use Rattle.abt_model.specs.Conns.{conn_at}
-use Rattle.abt_model.specs.Decision.{request_of, answer_to, request_decision, answer_decision}
-use Rattle.abt_model.specs.Outcomes.{conn_of, port_of, outcome_at, outcome_of}
+use Rattle.abt_model.specs.Decision.{request_of}
+use Rattle.abt_model.specs.Outcomes.{conn_of, outcome_of}
 use Rattle.abt_model.specs.Past.{facts_of}
-use Rattle.abt_model.specs.Reserved.{reserved_on}
 use Rattle.abt_model.proofs.Worlds.{outcome_of-known}
 use Rattle.abt_model.specs.Answers.{start_max}
 use Rattle.abt_source.specs.declared.fault.StartFault.TheVariants.{TimeRange as StartTimeRange}
@@ -118,10 +112,7 @@ own_answer conn c r u q w facts others same (Emit d now) mine home there =
     ∙ ap (λ s. if_up s (emit_answer (own others) now)) (state_of-own others) ∙ ap (if_up (state_of others)) (emit_own others now)
 own_answer conn c r u q w facts others same (Told d seq granted) mine home there =
     told_own conn r u facts d seq granted home ∙ ap (λ (l : List Fact). HasTold (told_answer (state_of l) seq granted)) same ∙ sym (told_own conn q w others d seq granted there)
-own_answer conn c r u q w facts others same (Arrive d cell at) mine home there = absurd (false≢true mine)
-own_answer conn c r u q w facts others same (Request d hop seq) mine home there = absurd (false≢true mine)
-own_answer conn c r u q w facts others same (Turn d seq) mine home there = absurd (false≢true mine)
-own_answer conn c r u q w facts others same (Answer d hop seq granted) mine home there = absurd (false≢true mine)
+own_answer conn c r u q w facts others same other mine home there = absurd (false≢true mine)
 
 -- an answer that was told lies at the source
 home_told : (facts : List Fact) (c seq : ℕ) (granted : Bool) (b : Bool) → is_enabled (if not b then NotEnabled NotSent else HasTold (told_answer (state_of facts) seq granted)) ≡ true → b ≡ true
@@ -143,28 +134,12 @@ at_source net past conn (Told c seq granted) known on =
     on_is : (b : Bool) → not b ≡ false → b ≡ true
     on_is true h = refl
     on_is false h = sym h
-at_source net past conn (Start c now) known on = tt
-at_source net past conn (Ask c rate plan) known on = tt
-at_source net past conn (Again c) known on = tt
-at_source net past conn (Crash c) known on = tt
-at_source net past conn (Emit c now) known on = tt
-at_source net past conn (Arrive c cell at) known on = tt
-at_source net past conn (Request c hop seq) known on = tt
-at_source net past conn (Turn c seq) known on = tt
-at_source net past conn (Answer c hop seq granted) known on = tt
+at_source net past conn other known on = tt
 
 source_below : (net : Topology) → IsWithinRules net → (conn : Conn) (less more : List Event) → IsBelow net less more → (event : Event) → conn_at net (conn_of event) ≡ Some conn → IsAtSource (facts_of (conn_of event) (past_of net less)) event →
     IsAtSource (facts_of (conn_of event) (past_of net more)) event
 source_below net rules conn less more below (Told c seq granted) known home = home_below net rules c conn known less more below seq granted home
-source_below net rules conn less more below (Start c now) known home = tt
-source_below net rules conn less more below (Ask c rate plan) known home = tt
-source_below net rules conn less more below (Again c) known home = tt
-source_below net rules conn less more below (Crash c) known home = tt
-source_below net rules conn less more below (Emit c now) known home = tt
-source_below net rules conn less more below (Arrive c cell at) known home = tt
-source_below net rules conn less more below (Request c hop seq) known home = tt
-source_below net rules conn less more below (Turn c seq) known home = tt
-source_below net rules conn less more below (Answer c hop seq granted) known home = tt
+source_below net rules conn less more below other known home = tt
 
 -- what a source did where its journal stood so, it does again there
 pub own_again : (net : Topology) → IsWithinRules net → (less more : List Event) → IsBelow net less more → (conn : Conn) (event : Event) → conn_at net (conn_of event) ≡ Some conn → is_own_of (conn_of event) event ≡ true →

@@ -1,17 +1,17 @@
 -- The candidate of a port's next entry is the one event that comes with it.
-use Rattle.std.proofs.Common.{◌≡◌, ◌≢◌, ℕ, ◌-◌, refl, ap, Bool, true, false, List, [], ◌∷◌, ◌++◌, length, reverse, ◌∙◌, sym, subst, Option, None, Some, inl, inr}
+use Rattle.std.proofs.Common.{◌≡◌, ℕ, refl, ap, Bool, true, false, List, ◌∙◌, sym, subst, Option, None, Some}
 use Rattle.std.specs.Prelude.{◌==◌, ◌&&◌, ◌||◌, not, if◌then◌else◌, option_map}
-use Rattle.std.proofs.lemmas.Bool.{false≢true, cond-false, cond-true, cases_Bool, eq-eqb, eqb-true, and_from}
+use Rattle.std.proofs.lemmas.Bool.{false≢true, cond-true, eq-eqb, eqb-true, and_from}
 use Rattle.abt_cell.specs.Channel.{Channel}
 use Rattle.abt_model.specs.declared.event.Event.{Event}
-use Rattle.abt_model.specs.declared.event.Event.TheVariants.{Start, Ask, Again, Crash, Emit, Arrive, Request, Turn, Answer, Told}
+use Rattle.abt_model.specs.declared.event.Event.TheVariants.{Arrive, Request, Answer}
 use Rattle.abt_model.specs.Outcomes.{conn_of}
+use Rattle.abt_model.specs.PortTable.{hop_visited}
 use Rattle.abt_journal.specs.declared.input.PortInput.{PortInput}
 use Rattle.abt_journal.specs.declared.input.PortInput.TheVariants.{Request as RequestIn, Answer as AnswerIn, Arrive as ArriveIn}
 use Rattle.abt_source_journal.specs.declared.entry.SourceEntry.{SourceEntry}
 use Rattle.abt_source_journal.specs.declared.entry.SourceEntry.TheVariants.{Did, Sent, Arrived as ArrivedAt}
 use Rattle.abt_woven.specs.Asked.{floor_in, ask_in}
-use Rattle.abt_woven.specs.Projections.{hop_met}
 use Rattle.abt_weave.specs.Candidates.{is_sent_at, cell_arrived_at, event_by, channel_of}
 use Rattle.abt_weave.specs.Comes.{input_told, entry_beside}
 use Rattle.abt_weave.proofs.PortEvents.{some_same}
@@ -41,7 +41,7 @@ arrived_is place cell (Some (ArrivedAt found named)) h =
 -- an event that is found
 pub record IsFound (c hop place : ℕ) (input : PortInput) (placed : List SourceEntry) (next : Option SourceEntry) (event : Event) : Type 0 where
   pub conn : conn_of event ≡ c
-  pub hop_is : hop_met event ≡ hop
+  pub hop_is : hop_visited event ≡ hop
   pub brings : input_told (channel_of input) placed event ≡ Some input
   pub beside : (x : SourceEntry) → entry_beside place event ≡ Some x → next ≡ Some x
 
@@ -104,7 +104,7 @@ or_sent hop place next beside true first = ap (is_sent_at place) (beside (Sent p
 or_sent hop place next beside false later = refl
 
 pub only : (place : ℕ) (vc : Channel) (input : PortInput) (placed : List SourceEntry) (next : Option SourceEntry) (event : Event) →
-    input_told vc placed event ≡ Some input → ((x : SourceEntry) → entry_beside place event ≡ Some x → next ≡ Some x) → IsOnly (conn_of event) (hop_met event) place vc input placed next event
+    input_told vc placed event ≡ Some input → ((x : SourceEntry) → entry_beside place event ≡ Some x → next ≡ Some x) → IsOnly (conn_of event) (hop_visited event) place vc input placed next event
 only place vc input placed next (Request c hop seq) brings beside =
     subst (λ i. IsOnly c hop place vc i placed next (Request c hop seq)) (some_same brings) (record {
       is = cond-true _ _ _ (and_from _ _ (and_from _ _ (eq-eqb (floor_in placed seq) (floor_in placed seq) refl) (eq-eqb (ask_in placed seq) (ask_in placed seq) refl)) (or_sent hop place next beside (hop == 1) refl));
@@ -120,10 +120,4 @@ only place vc input placed next (Arrive c cell at) brings beside =
       is = ap (λ o. option_map (λ n. Arrive c n at) (cell_arrived_at place o)) (beside (ArrivedAt cell place) refl) ∙ ap (option_map (λ n. Arrive c n at)) (cond-true _ _ _ (eq-eqb place place refl));
       channel = refl;
     })
-only place vc input placed next (Start c now) brings beside = absurd (cc)
-only place vc input placed next (Ask c rate plan) brings beside = absurd (cc)
-only place vc input placed next (Again c) brings beside = absurd (cc)
-only place vc input placed next (Crash c) brings beside = absurd (cc)
-only place vc input placed next (Emit c now) brings beside = absurd (cc)
-only place vc input placed next (Turn c seq) brings beside = absurd (cc)
-only place vc input placed next (Told c seq granted) brings beside = absurd (cc)
+only place vc input placed next other brings beside = absurd (cc)

@@ -1,30 +1,30 @@
 -- What is read for a port's next entry.
-use Rattle.std.proofs.Common.{◌≡◌, ◌≢◌, ℕ, ◌+◌, ◌-◌, ◌<◌, ◌≤◌, refl, ap, Bool, true, false, List, [], ◌∷◌, ◌++◌, length, reverse, take, ◌∙◌, sym, subst, Option, None, Some, Vec, arith}
+use Rattle.std.proofs.Common.{◌≡◌, ℕ, ◌-◌, ◌<◌, ◌≤◌, refl, ap, true, List, length, reverse, take, ◌∙◌, sym, subst, Some, Vec, arith}
 use Rattle.std.specs.Prelude.{slice_get, slice_index, get_or}
 use Rattle.std.specs.Global.{Global}
 use Rattle.std.proofs.Math.Seq.{take-append_seam}
 use Rattle.std.proofs.lemmas.List.{length-append, length-map}
-use Rattle.std.proofs.lemmas.Option.{slice_get_within, slice_get_read}
+use Rattle.std.proofs.lemmas.Option.{slice_get_within}
 use Rattle.abt_cell.specs.Channel.{Channel}
 use Rattle.abt_net.specs.Topology.{Topology}
 use Rattle.abt_model.specs.declared.event.Event.{Event}
 use Rattle.abt_model.specs.Answers.{is_hop}
 use Rattle.abt_model.specs.Conns.{conn_at}
 use Rattle.abt_model.specs.Outcomes.{conn_of}
+use Rattle.abt_model.specs.PortTable.{hop_visited}
 use Rattle.abt_journal.specs.declared.entry.Entry.{Entry}
 use Rattle.abt_journal.specs.declared.input.PortInput.{PortInput}
 use Rattle.abt_source_journal.specs.declared.entry.SourceEntry.{SourceEntry}
 use Rattle.abt_source_journal.specs.declared.journal.SourceJournal.{SourceJournal}
 use Rattle.abt_world.specs.Standing.{WorldView}
-use Rattle.abt_woven.specs.Projections.{hop_met, steps_on, entries_on}
+use Rattle.abt_woven.specs.Projections.{steps_on, entries_on}
 use Rattle.abt_woven.specs.Stuck.{Journaled, source_journal, entries_in, next_entry, IsBeginning}
 use Rattle.abt_weave.specs.Candidates.{event_by, channel_of}
 use Rattle.abt_weave.specs.Stops.{IsStop}
-use Rattle.abt_weave.specs.Comes.{input_told, entry_beside, Comes, IsComing}
+use Rattle.abt_weave.specs.Comes.{input_told, Comes, IsComing}
 use Rattle.abt_weave.specs.Board.{journaled, IsPlacing}
 use Rattle.abt_weave.proofs.SourceLooks.{place_read, source_read, next_read}
-use Rattle.abt_weave.proofs.Candidates.{found, IsOnly, only}
-use Rattle.abt_weave.proofs.PortEvents.{some_same}
+use Rattle.abt_weave.proofs.Candidates.{found, only}
 
 pub stop_low : (net : Topology) (vc : Channel) (p c hop : ℕ) → IsStop net vc p c hop → c < length net.conns
 stop_low net vc p c hop stop = slice_get_within net.conns c stop.conn stop.known
@@ -80,22 +80,22 @@ coming_found net js earlier p c hop k place input vc entries come event stop cha
 
 -- what comes stops at the port
 pub comes_stop : (net : Topology) (js : Journaled) (earlier : List Event) (p place : ℕ) (input : PortInput) (vc : Channel) (event : Event) → vc ≡ channel_of input → Comes net js earlier p place input event →
-    IsStop net vc p (conn_of event) (hop_met event)
+    IsStop net vc p (conn_of event) (hop_visited event)
 comes_stop net js earlier p place input vc event channel comes =
     let its = only place comes.conn.vc input (reverse (entries_on net (conn_of event) earlier)) (next_entry net js earlier (conn_of event)) event comes.brings comes.beside in
     record { conn = comes.conn; known = comes.known; channel = sym its.channel ∙ sym channel; within = comes.within; port = comes.port }
 
 -- and is the candidate
 pub coming_only : (net : Topology) (js : Journaled) (earlier : List Event) (p c hop k place : ℕ) (input : PortInput) (entries : List SourceEntry) (come : ℕ) (event : Event) →
-    c ≡ conn_of event → hop ≡ hop_met event → k ≡ c → IsBeside net js earlier k entries come → Comes net js earlier p place input event →
+    c ≡ conn_of event → hop ≡ hop_visited event → k ≡ c → IsBeside net js earlier k entries come → Comes net js earlier p place input event →
     event_by c hop place input (reverse (take come entries)) (slice_get entries come) ≡ Some event
 coming_only net js earlier p c hop k place input entries come event whose hops same beside comes =
     let its = only place comes.conn.vc input (reverse (entries_on net (conn_of event) earlier)) (next_entry net js earlier (conn_of event)) event comes.brings comes.beside in
     let here : k ≡ conn_of event = same ∙ whose in
     ap (λ n. event_by n hop place input (reverse (take come entries)) (slice_get entries come)) whose
     ∙ ap (λ n. event_by (conn_of event) n place input (reverse (take come entries)) (slice_get entries come)) hops
-    ∙ ap (λ l. event_by (conn_of event) (hop_met event) place input (reverse l) (slice_get entries come)) (beside.placed ∙ ap (λ n. entries_on net n earlier) here)
-    ∙ ap (λ o. event_by (conn_of event) (hop_met event) place input (reverse (entries_on net (conn_of event) earlier)) o) (beside.next ∙ ap (next_entry net js earlier) here)
+    ∙ ap (λ l. event_by (conn_of event) (hop_visited event) place input (reverse l) (slice_get entries come)) (beside.placed ∙ ap (λ n. entries_on net n earlier) here)
+    ∙ ap (λ o. event_by (conn_of event) (hop_visited event) place input (reverse (entries_on net (conn_of event) earlier)) o) (beside.next ∙ ap (next_entry net js earlier) here)
     ∙ its.is
 
 -- the place of a port is how many steps it has had

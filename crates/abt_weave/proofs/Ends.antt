@@ -8,7 +8,7 @@ use Rattle.abt_net.specs.declared.conn.Conn.{Conn}
 use Rattle.abt_net.specs.Topology.{Topology, IsWithinRules}
 use Rattle.abt_model.specs.declared.connection_fact.ConnectionFact.{ConnectionFact}
 use Rattle.abt_model.specs.declared.event.Event.{Event}
-use Rattle.abt_model.specs.declared.event.Event.TheVariants.{Start, Ask, Again, Crash, Emit, Arrive, Request, Turn, Answer, Told}
+use Rattle.abt_model.specs.declared.event.Event.TheVariants.{Arrive, Request, Turn, Answer, Told}
 use Rattle.abt_model.specs.declared.outcome.Outcome.{Outcome}
 use Rattle.abt_model.specs.Conns.{conn_at}
 use Rattle.abt_model.specs.Outcomes.{conn_of, outcome_at, outcome_of}
@@ -47,11 +47,6 @@ seen_visit net rules past event brings on none =
 -- what comes to no port is something that its source did
 pub own_or_visit : (net : Topology) → IsWithinRules net → (earlier : List Event) (event : Event) (x : SourceEntry) → visit net (past_of net earlier) event ≡ None →
     entry_of (place_at_first net earlier event) event (outcome_of net (past_of net earlier) event) ≡ Some x → (y : Outcome) × (x ≡ Did event y)
-own_or_visit net rules earlier (Start c now) x none h = (outcome_of net (past_of net earlier) (Start c now), sym (some_same h))
-own_or_visit net rules earlier (Ask c rate plan) x none h = (outcome_of net (past_of net earlier) (Ask c rate plan), sym (some_same h))
-own_or_visit net rules earlier (Again c) x none h = (outcome_of net (past_of net earlier) (Again c), sym (some_same h))
-own_or_visit net rules earlier (Crash c) x none h = (outcome_of net (past_of net earlier) (Crash c), sym (some_same h))
-own_or_visit net rules earlier (Emit c now) x none h = (outcome_of net (past_of net earlier) (Emit c now), sym (some_same h))
 own_or_visit net rules earlier (Told c seq granted) x none h =
     let o = outcome_of net (past_of net earlier) (Told c seq granted) in
     (o, sym (some_same (cond_some (is_enabled o) (Some (Did (Told c seq granted) o)) x h).1))
@@ -65,6 +60,7 @@ own_or_visit net rules earlier (Arrive c cell at) x none h =
     absurd (seen_visit net rules (past_of net earlier) (Arrive c cell at) (λ conn. (_, refl)) both.0 none)
 own_or_visit net rules earlier (Turn c seq) x none h = absurd (cc)
 own_or_visit net rules earlier (Answer c hop seq granted) x none h = absurd (cc)
+own_or_visit net rules earlier other x none h = (outcome_of net (past_of net earlier) other, sym (some_same h))
 
 mark_at : (marks : List Bool) (i : ℕ) → i < length marks → (b : Bool) × (slice_get marks i ≡ Some b)
 mark_at marks i low = (get_or marks i false, slice_get-get_or marks i false low)

@@ -1,39 +1,35 @@
 -- The facts of an access line are those that its source's projection and the first port's make.
-use Rattle.std.proofs.Common.{◌≡◌, ◌≢◌, ℕ, zero, suc, ◌+◌, ◌<◌, ◌≤◌, inl, inr, refl, ap, Bool, true, false, List, [], ◌∷◌, ◌++◌, length, ◌∙◌, sym, subst, Option, None, Some, arith}
+use Rattle.std.proofs.Common.{◌≡◌, ℕ, zero, suc, ◌+◌, ◌<◌, inl, inr, refl, ap, Bool, true, false, List, [], ◌∷◌, ◌++◌, length, ◌∙◌, sym, subst, Option, None, Some, arith}
 use Rattle.std.specs.Prelude.{◌==◌, ◌&&◌, if◌then◌else◌, slice_get, slice_index}
-use Rattle.std.proofs.lemmas.Bool.{false≢true, cond-true, cases_eq, eq-eqb}
-use Rattle.std.proofs.lemmas.List.{append-nil}
+use Rattle.std.proofs.lemmas.Bool.{false≢true, cond-true, cases_eq}
 use Rattle.abt_cell.specs.Message.{Terms}
 use Rattle.abt_gcra.specs.declared.verdict.Verdict.TheVariants.{Conforming}
-use Rattle.abt_keep.specs.declared.plan.StorePlan.TheVariants.{Works, FailsBefore, FailsAfter}
+use Rattle.abt_keep.specs.declared.plan.StorePlan.TheVariants.{FailsAfter}
 use Rattle.abt_node.specs.declared.reply.Onward.{Onward}
 use Rattle.abt_node.specs.declared.reply.Onward.TheVariants.{Pass, Refuse, Drop}
 use Rattle.abt_node.specs.declared.reply.Back.{Back}
 use Rattle.abt_node.specs.declared.reply.Back.TheVariants.{Pass as PassBack, Drop as DropBack}
-use Rattle.abt_source.specs.declared.fault.AskFault.TheVariants.{SeqExhausted, Keep}
+use Rattle.abt_source.specs.declared.fault.AskFault.TheVariants.{Keep}
 use Rattle.abt_net.specs.declared.conn.Conn.{Conn}
 use Rattle.abt_net.specs.Topology.{Topology, IsWithinRules}
 use Rattle.abt_facts.specs.declared.fact.Fact.{Fact}
 use Rattle.abt_facts.specs.declared.fact.Fact.TheVariants.{Started as FactStarted, Stored, Asked as FactAsked, Emitted as FactEmitted, Delivered, Arrived as FactArrived}
-use Rattle.abt_facts.specs.Source.{stored_of, last_of, rate_of}
+use Rattle.abt_facts.specs.Source.{last_of}
 use Rattle.abt_facts.specs.Cells.{emitted_of}
-use Rattle.abt_model.specs.declared.connection_fact.ConnectionFact.{ConnectionFact}
 use Rattle.abt_model.specs.declared.event.Event.{Event}
-use Rattle.abt_model.specs.declared.event.Event.TheVariants.{Start, Ask, Again, Crash, Emit, Arrive, Request, Turn, Answer, Told}
-use Rattle.abt_model.specs.declared.outcome.Heard.TheVariants.{Raised, Refused, Ignored}
+use Rattle.abt_model.specs.declared.event.Event.TheVariants.{Start, Ask, Crash, Emit, Arrive, Request, Turn, Answer, Told}
+use Rattle.abt_model.specs.declared.outcome.Heard.TheVariants.{Raised}
 use Rattle.abt_model.specs.declared.outcome.Outcome.{Outcome}
 use Rattle.abt_model.specs.declared.outcome.Outcome.TheVariants.{Started, Asked, AskRefused, Crashed, Emitted, Arrived, Requested, Turned, Answered, Told as HasTold, NotEnabled}
 use Rattle.abt_model.specs.Conns.{conn_at}
-use Rattle.abt_model.specs.Decision.{request_of}
 use Rattle.abt_model.specs.Outcomes.{conn_of, outcome_of, facts_added, after_event, request_adds, answer_adds}
 use Rattle.abt_model.specs.Past.{facts_of}
 use Rattle.abt_model.proofs.Worlds.{cases_option, facts_of-own, facts_of-other}
 use Rattle.abt_journal.specs.declared.input.PortInput.{PortInput}
-use Rattle.abt_journal.specs.declared.input.PortInput.TheVariants.{Request as RequestIn, Answer as AnswerIn, Arrive as ArriveIn}
+use Rattle.abt_journal.specs.declared.input.PortInput.TheVariants.{Request as RequestIn, Arrive as ArriveIn}
 use Rattle.abt_source_journal.specs.declared.entry.SourceEntry.{SourceEntry}
 use Rattle.abt_source_journal.specs.declared.entry.SourceEntry.TheVariants.{Did, Sent, Arrived as ArrivedAt}
-use Rattle.abt_woven.specs.Projections.{Step, Visit, is_enabled, reply_of, input_of, entry_of, place_at_first, past_of, visit, step_at, steps_on, entry_made, entry_at, entries_on}
-use Rattle.abt_woven.proofs.Asked.{other_same}
+use Rattle.abt_woven.specs.Projections.{Step, Visit, is_enabled, entry_of, place_at_first, past_of, visit, step_at, steps_on, entry_made, entries_on}
 use Rattle.abt_weave.proofs.Candidates.{cond_some, and_both}
 use Rattle.abt_weave.proofs.Growth.{entries_other, entries_none}
 use Rattle.abt_weave.proofs.LineFacts.{line, line-append, rate_of-line, stored_of-line, last_of-line, emitted_of-line}
@@ -42,7 +38,7 @@ use Rattle.abt_weave.proofs.PortEvents.{visit_is, some_same}
 use Rattle.abt_weave.proofs.OwnEvents.{IsDone, made_own}
 use Rattle.abt_weave.proofs.Replays.{request_said, arrival_said}
 use Rattle.abt_weave.specs.Candidates.{is_own_of}
-use Rattle.abt_weave.proofs.Prefixes.{begins_more, get_whole, get_beginning, get_last}
+use Rattle.abt_weave.proofs.Prefixes.{get_last}
 
 -- what a step at the first port adds to the facts of the line
 abbrev pub delivered_in : PortInput → List Fact
@@ -128,11 +124,6 @@ not_first false x seq none = refl
 
 -- what leaves no entry adds nothing to the line
 line_none : (facts : List Fact) (place : ℕ) (event : Event) (outcome : Outcome) → entry_of place event outcome ≡ None → line (facts_added facts event outcome) ≡ []
-line_none facts place (Start c now) outcome none = absurd (cc)
-line_none facts place (Ask c rate plan) outcome none = absurd (cc)
-line_none facts place (Again c) outcome none = absurd (cc)
-line_none facts place (Crash c) outcome none = absurd (cc)
-line_none facts place (Emit c now) outcome none = absurd (cc)
 line_none facts place (Arrive c cell at) (Arrived verdict) none = absurd (cc)
 line_none facts place (Arrive c cell at) other none = refl
 line_none facts place (Request c hop seq) (Requested onward) none = line_requested hop seq onward ∙ not_first (hop == 1) (Sent place) seq none
@@ -144,6 +135,7 @@ line_none facts place (Answer c hop seq granted) other none = refl
 line_none facts place (Told c seq granted) (NotEnabled cause) none = refl
 line_none facts place (Told c seq granted) (HasTold heard) none = absurd (cc)
 line_none facts place (Told c seq granted) other none = refl
+line_none facts place other outcome none = absurd (cc)
 
 -- what a source did adds the same to the line
 line_did : (facts : List Fact) (place : ℕ) (event : Event) (outcome : Outcome) (done : Event) (told : Outcome) → entry_of place event outcome ≡ Some (Did done told) → line (facts_added facts event outcome) ≡ facts_added (line facts) done told
@@ -151,26 +143,16 @@ line_did facts place event outcome done told made = did_is (made_own place event
   where
     each : (event : Event) (outcome : Outcome) → is_own_of (conn_of event) event ≡ true → line (facts_added facts event outcome) ≡ facts_added (line facts) event outcome
     each (Start c now) Started own = ap (λ (n : ℕ). FactStarted now n ∷ []) (sym (stored_of-line facts))
-    each (Start c now) other own = refl
     each (Ask c rate plan) (Asked request) own = line_seq facts request
     each (Ask c rate FailsAfter) (AskRefused Keep) own = ap (λ (n : ℕ). Stored (n + 1) ∷ []) (sym (last_of-line facts))
-    each (Ask c rate FailsAfter) (AskRefused SeqExhausted) own = refl
-    each (Ask c rate Works) (AskRefused fault) own = refl
-    each (Ask c rate FailsBefore) (AskRefused fault) own = refl
-    each (Ask c rate plan) other own = refl
-    each (Again c) other own = refl
     each (Crash c) Crashed own = refl
-    each (Crash c) other own = refl
     each (Emit c now) (Emitted cell next) own = ap (λ (n : ℕ). FactEmitted cell now n ∷ []) (sym (rate_of-line facts))
-    each (Emit c now) other own = refl
     each (Told c seq granted) (HasTold Raised) own = refl
-    each (Told c seq granted) (HasTold Refused) own = refl
-    each (Told c seq granted) (HasTold Ignored) own = refl
-    each (Told c seq granted) other own = refl
     each (Arrive c cell at) outcome own = absurd (false≢true own)
     each (Request c hop seq) outcome own = absurd (false≢true own)
     each (Turn c seq) outcome own = absurd (false≢true own)
     each (Answer c hop seq granted) outcome own = absurd (false≢true own)
+    each event outcome own = refl
 
     did_is : IsDone event outcome done told → line (facts_added facts event outcome) ≡ facts_added (line facts) done told
     did_is its = each event outcome its.own ∙ ap (λ e. facts_added (line facts) e outcome) (sym its.event_is) ∙ ap (facts_added (line facts) done) (sym its.outcome_is)

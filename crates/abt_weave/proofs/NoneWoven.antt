@@ -1,10 +1,9 @@
 -- Where events stand still with entries left, no list of events is woven from the journals.
-use Rattle.std.proofs.Common.{◌≡◌, ◌≢◌, ℕ, zero, suc, ◌+◌, ◌-◌, ◌<◌, ◌≤◌, inl, inr, refl, ap, Bool, true, false, List, [], ◌∷◌, ◌++◌, length, reverse, ◌∙◌, sym, subst, Option, None, Some, arith}
-use Rattle.std.specs.Prelude.{◌==◌, ◌&&◌, ◌||◌, ◌⊎◌, not, nat_lt, if◌then◌else◌, slice_get, slice_index, All}
-use Rattle.std.proofs.lemmas.Bool.{false≢true, cond-true, cond-false, cases_Bool, cases_eq, eq-eqb, ne_eqb, eqb-true}
-use Rattle.std.proofs.lemmas.List.{append_assoc, append-nil, length-append, length-map}
+use Rattle.std.proofs.Common.{◌≡◌, ◌≢◌, ℕ, ◌+◌, ◌-◌, ◌<◌, inl, inr, refl, ap, Bool, true, false, List, [], ◌∷◌, ◌++◌, length, ◌∙◌, sym, subst, Some, arith}
+use Rattle.std.specs.Prelude.{◌&&◌, ◌||◌, ◌⊎◌, not, nat_lt, if◌then◌else◌, slice_get, All}
+use Rattle.std.proofs.lemmas.Bool.{false≢true, cond-true, cond-false, cases_Bool, cases_eq, eq-eqb, ne_eqb}
+use Rattle.std.proofs.lemmas.List.{append_assoc, append-nil, length-append}
 use Rattle.std.proofs.lemmas.Option.{slice_get_within}
-use Rattle.abt_cell.specs.Message.{Terms}
 use Rattle.abt_net.specs.declared.conn.Conn.{Conn}
 use Rattle.abt_net.specs.Topology.{Topology, IsWithinRules}
 use Rattle.abt_facts.specs.declared.fact.Fact.{Fact}
@@ -12,11 +11,9 @@ use Rattle.abt_facts.specs.declared.fact.Fact.TheVariants.{Turned as FactTurned}
 use Rattle.abt_facts.specs.Sent.{answer_is_at, was_turned, was_passed, was_back, was_shut}
 use Rattle.abt_model.specs.declared.connection_fact.ConnectionFact.{ConnectionFact}
 use Rattle.abt_model.specs.declared.event.Event.{Event}
-use Rattle.abt_model.specs.declared.event.Event.TheVariants.{Start, Ask, Again, Crash, Emit, Arrive, Request, Turn, Answer, Told}
+use Rattle.abt_model.specs.declared.event.Event.TheVariants.{Arrive, Request, Turn, Answer}
 use Rattle.abt_model.specs.declared.outcome.Cause.TheVariants.{NotSent}
-use Rattle.abt_model.specs.declared.outcome.Outcome.{Outcome}
 use Rattle.abt_model.specs.declared.outcome.Outcome.TheVariants.{Turned, NotEnabled}
-use Rattle.abt_model.specs.Answers.{is_hop}
 use Rattle.abt_model.specs.Conns.{conn_at}
 use Rattle.abt_model.specs.Events.{AsksRate}
 use Rattle.abt_model.specs.Outcomes.{conn_of, outcome_of, facts_added}
@@ -25,29 +22,19 @@ use Rattle.abt_model.proofs.Chain.{turned_passed}
 use Rattle.abt_model.proofs.Lawful.{route_of}
 use Rattle.abt_model.proofs.Served.{conn_within}
 use Rattle.abt_model.proofs.Steps.{is_hop_tells}
-use Rattle.abt_model.proofs.Worlds.{cases_option, outcome_of-known, lawful_at, first_asks, others_ask, facts_of-own}
-use Rattle.abt_journal.specs.declared.entry.Entry.{Entry}
-use Rattle.abt_journal.specs.declared.input.PortInput.{PortInput}
-use Rattle.abt_journal.specs.declared.input.PortInput.TheVariants.{Request as RequestIn, Answer as AnswerIn, Arrive as ArriveIn}
+use Rattle.abt_model.proofs.Worlds.{cases_option, outcome_of-known, lawful_at, facts_of-own}
+use Rattle.abt_model.specs.PortTable.{hop_visited}
 use Rattle.abt_source_journal.specs.declared.entry.SourceEntry.{SourceEntry}
-use Rattle.abt_source_journal.specs.declared.entry.SourceEntry.TheVariants.{Did, Sent, Arrived as ArrivedAt}
-use Rattle.abt_source_journal.specs.declared.journal.SourceJournal.{SourceJournal}
-use Rattle.abt_woven.specs.Projections.{Step, step_of, Visit, is_enabled, reply_of, hop_met, input_of, entry_of, place_at_first, past_of, visit, step_at, steps_on, entry_made, entry_at, entries_on}
-use Rattle.abt_woven.specs.Stuck.{Journaled, steps_in, entries_in, port_journal, source_journal, next_step, next_entry, step_next, Fits, IsTurn, AreTurns, IsBeginning, ArePlaced, StandsStill}
-use Rattle.abt_woven.specs.Woven.{IsWoven}
+use Rattle.abt_woven.specs.Projections.{Step, Visit, past_of, visit, step_at, steps_on, entry_made, entry_at, entries_on}
+use Rattle.abt_woven.specs.Stuck.{Journaled, port_journal, source_journal, next_step, step_next, AreTurns, IsBeginning, StandsStill}
 use Rattle.abt_woven.proofs.Turns.{steps_turn, entries_turn, steps_turns, entries_turns}
-use Rattle.abt_weave.specs.Candidates.{is_own_of, is_told}
-use Rattle.abt_weave.specs.Comes.{entry_beside}
-use Rattle.abt_weave.proofs.Again.{own_again}
-use Rattle.abt_weave.proofs.Ends.{own_or_visit, whole_beginning}
 use Rattle.abt_weave.proofs.Growth.{entries_other, entries_none, steps_none, steps_other}
-use Rattle.abt_weave.proofs.OwnEvents.{IsDone, made_own, own_made, own_visit, own_fits}
-use Rattle.abt_weave.proofs.Places.{Names, IsFirstStep, IsBesideStep, IsNamed, less_if, step_made, entries_made, named_now, named_low, step_named}
-use Rattle.abt_weave.proofs.PortEvents.{IsVisit, visit_is, has_reply, reply_enabled, some_same}
+use Rattle.abt_weave.proofs.Places.{less_if, step_made, entries_made}
+use Rattle.abt_weave.proofs.PortEvents.{visit_is, has_reply, reply_enabled, some_same}
 use Rattle.abt_weave.proofs.PortLooks.{first_hop}
 use Rattle.abt_weave.proofs.Candidates.{and_both}
 use Rattle.std.proofs.lemmas.List.Elements.{All-cons}
-use Rattle.abt_weave.proofs.Prefixes.{begins_more, get_whole, get_beginning, begins_next, get_last}
+use Rattle.abt_weave.proofs.Prefixes.{get_whole, begins_next, get_last}
 use Rattle.abt_weave.proofs.Replays.{no_visit, past_lawful}
 use Rattle.abt_weave.proofs.SentBelow.{IsBelow, passed_below, back_below, shut_below}
 use Rattle.abt_weave.proofs.VisitAgain.{AreBoth, ComesAgain, came_back, request_again, answer_again, arrival_again}
@@ -139,8 +126,8 @@ visit_low net rules past event v is =
     let parts = visit_is net past event v is in
     let enabled = reply_enabled (outcome_of net past event) v.reply parts.reply in
     let reply = has_reply net past event parts.conn v.input parts.known (first_hop net rules (conn_of event) parts.conn parts.known) parts.input enabled in
-    let hop = is_hop_tells (length parts.conn.path) (hop_met event) reply.within in
-    subst (λ n. n < length net.capacities) parts.port ((conn_within net rules (conn_of event) parts.conn parts.known).in_net (hop_met event - 1) 0 (omega (arith, hop.0, hop.1)))
+    let hop = is_hop_tells (length parts.conn.path) (hop_visited event) reply.within in
+    subst (λ n. n < length net.capacities) parts.port ((conn_within net rules (conn_of event) parts.conn parts.known).in_net (hop_visited event - 1) 0 (omega (arith, hop.0, hop.1)))
 
 -- An event comes again where all has ended, also after Turns.
 pub record AgainAt (net : Topology) (ended earlier : List Event) (event : Event) (v : Visit) : Type 0 where
@@ -297,10 +284,4 @@ again_at net js ended earlier end rates below (Arrive c cell at) v is same alone
     record { turns = []; all = tt; again = arrival_again net earlier ended (both_are net js ended earlier end rates below) c cell at v is same alone }
 again_at net js ended earlier end rates below (Answer c hop seq true) v is same alone = yes_again net js ended earlier end rates below c hop seq v is same
 again_at net js ended earlier end rates below (Answer c hop seq false) v is same alone = no_again net js ended earlier end rates below c hop seq v is same
-again_at net js ended earlier end rates below (Start c now) v is same alone = (let none = no_visit net (past_of net earlier) (Start c now) (λ vc facts. refl) in absurd (cc))
-again_at net js ended earlier end rates below (Ask c rate plan) v is same alone = (let none = no_visit net (past_of net earlier) (Ask c rate plan) (λ vc facts. refl) in absurd (cc))
-again_at net js ended earlier end rates below (Again c) v is same alone = (let none = no_visit net (past_of net earlier) (Again c) (λ vc facts. refl) in absurd (cc))
-again_at net js ended earlier end rates below (Crash c) v is same alone = (let none = no_visit net (past_of net earlier) (Crash c) (λ vc facts. refl) in absurd (cc))
-again_at net js ended earlier end rates below (Emit c now) v is same alone = (let none = no_visit net (past_of net earlier) (Emit c now) (λ vc facts. refl) in absurd (cc))
-again_at net js ended earlier end rates below (Turn c seq) v is same alone = (let none = no_visit net (past_of net earlier) (Turn c seq) (λ vc facts. refl) in absurd (cc))
-again_at net js ended earlier end rates below (Told c seq granted) v is same alone = (let none = no_visit net (past_of net earlier) (Told c seq granted) (λ vc facts. refl) in absurd (cc))
+again_at net js ended earlier end rates below other v is same alone = (let none = no_visit net (past_of net earlier) other (λ vc facts. refl) in absurd (cc))

@@ -1,68 +1,71 @@
 -- What a source does, and is told.
-use Rattle.std.proofs.Common.{◌≡◌, ◌≢◌, ℕ, ◌<◌, inl, inr, refl, ap, Bool, true, false, List, [], ◌∷◌, ◌++◌, length, ◌∙◌, sym, subst, Option, None, Some, IsTrue}
-use Rattle.std.specs.Prelude.{◌==◌, ◌&&◌, ◌-◌, not, if◌then◌else◌, slice_get, slice_index, option_map}
-use Rattle.std.proofs.lemmas.Bool.{cond-false, cond-true, cases_Bool, cases_eq, eq-eqb, eqb-true, false≢true}
+use Rattle.std.proofs.Common.{◌≡◌, ◌≢◌, ℕ, inl, inr, refl, ap, Bool, true, false, List, [], ◌++◌, length, ◌∙◌, sym, subst, Option, None, Some}
+use Rattle.std.specs.Prelude.{◌==◌, ◌&&◌, ◌||◌, ◌-◌, not, if◌then◌else◌, slice_get, slice_index, option_map}
+use Rattle.std.proofs.lemmas.Bool.{cond-true, eq-eqb, eqb-true, false≢true}
+use Rattle.abt_cell.specs.Channel.{Channel}
+use Rattle.abt_cell.specs.Message.{Terms}
 use Rattle.abt_net.specs.declared.conn.Conn.{Conn}
 use Rattle.abt_net.specs.Topology.{Topology}
 use Rattle.abt_facts.specs.declared.fact.Fact.{Fact}
 use Rattle.abt_model.specs.declared.connection_fact.ConnectionFact.{ConnectionFact}
 use Rattle.abt_model.specs.declared.event.Event.{Event}
-use Rattle.abt_model.specs.declared.event.Event.TheVariants.{Start, Ask, Again, Crash, Emit, Arrive, Request, Turn, Answer, Told}
+use Rattle.abt_model.specs.declared.target.SourceEvent.{SourceEvent}
+use Rattle.abt_model.specs.declared.target.HopEvent.{HopEvent}
+use Rattle.abt_model.specs.declared.target.HopEvent.TheVariants as hop
+use Rattle.abt_model.specs.declared.target.Target.{Target}
+use Rattle.abt_model.specs.declared.target.Target.TheVariants.{Source, Hop, End}
 use Rattle.abt_model.specs.declared.outcome.Outcome.{Outcome}
 use Rattle.abt_model.specs.Outcomes.{conn_of, outcome_of}
 use Rattle.abt_journal.specs.declared.input.PortInput.{PortInput}
 use Rattle.abt_journal.specs.declared.input.PortReply.{PortReply}
 use Rattle.abt_source_journal.specs.declared.entry.SourceEntry.{SourceEntry}
-use Rattle.abt_source_journal.specs.declared.entry.SourceEntry.TheVariants.{Did, Sent, Arrived as ArrivedAt}
+use Rattle.abt_source_journal.specs.declared.entry.SourceEntry.TheVariants.{Did, Sent}
 use Rattle.abt_model.specs.Conns.{conn_at}
+use Rattle.abt_model.specs.Decision.{request_of}
 use Rattle.abt_model.specs.Past.{facts_of}
-use Rattle.abt_woven.specs.Projections.{Visit, reply_of, hop_met, is_enabled, input_of, visit_by, visit, entry_of, place_at_first, past_of, entry_made, entries_on}
-use Rattle.abt_woven.specs.Stuck.{Journaled, source_journal, next_entry, Fits, AreTurns, SourceMismatches}
+use Rattle.abt_model.specs.Targets.{target_of, event_at, event_at_source, conn_in}
+use Rattle.abt_model.proofs.Targets.{event_there}
+use Rattle.abt_model.specs.PortTable.{hop_visited}
+use Rattle.abt_woven.specs.Projections.{Visit, reply_of, is_enabled, is_told_by, input_in, input_of, visit_by, visit, entry_by, entry_in, entry_of, place_at_first, past_of, entry_made}
+use Rattle.abt_woven.specs.Stuck.{Journaled, source_journal, next_entry, Fits, AreTurns}
 use Rattle.abt_woven.proofs.Turns.{outcome_turns, entries_turns}
-use Rattle.abt_weave.specs.Candidates.{is_own_of, is_told}
+use Rattle.abt_weave.specs.Candidates.{is_at_source, is_own_of, is_told_in, is_told}
 use Rattle.abt_weave.specs.Board.{IsSourceSettled}
 
-no_visit : (past : List ConnectionFact) (event : Event) → ((conn : Conn) (facts : List Fact) → input_of conn.vc facts event ≡ None) → (r : Option PortReply) (o : Option Conn) → visit_by past event r o ≡ None
-no_visit past event none r None = refl
-no_visit past event none None (Some conn) = refl
-no_visit past event none (Some reply) (Some conn) =
-    ap (option_map (λ (input : PortInput). let v : Visit = record { port = slice_index conn.path (hop_met event - 1); input = input; reply = reply } in v)) (none conn (facts_of (conn_of event) past))
+-- an event that brings nothing to a port comes to none
+pub unvisited_by : (past : List ConnectionFact) (event : Event) → ((conn : Conn) (facts : List Fact) → input_of conn.vc facts event ≡ None) → (r : Option PortReply) (o : Option Conn) → visit_by past event r o ≡ None
+unvisited_by past event none r None = refl
+unvisited_by past event none None (Some conn) = refl
+unvisited_by past event none (Some reply) (Some conn) =
+    ap (option_map (λ (input : PortInput). let v : Visit = record { port = slice_index conn.path (hop_visited event - 1); input = input; reply = reply } in v)) (none conn (facts_of (conn_of event) past))
 
-own_input : (c : ℕ) (event : Event) → is_own_of c event ≡ true → (conn : Conn) (facts : List Fact) → input_of conn.vc facts event ≡ None
-own_input c (Start d now) h conn facts = refl
-own_input c (Ask d rate plan) h conn facts = refl
-own_input c (Again d) h conn facts = refl
-own_input c (Crash d) h conn facts = refl
-own_input c (Emit d now) h conn facts = refl
-own_input c (Told d seq granted) h conn facts = refl
-own_input c other h conn facts = absurd (false≢true h)
+own_input : (c : ℕ) (t : Target) → is_at_source c t ≡ true → (vc : Channel) (request : ℕ → Terms) → input_in vc request t ≡ None
+own_input c (Source d x) h vc request = refl
+own_input c other h vc request = absurd (false≢true h)
 
 -- it comes to no port
 pub own_visit : (net : Topology) (past : List ConnectionFact) (c : ℕ) (event : Event) → is_own_of c event ≡ true → visit net past event ≡ None
-own_visit net past c event own = no_visit past event (own_input c event own) (reply_of (outcome_of net past event)) (conn_at net (conn_of event))
+own_visit net past c event own = unvisited_by past event (λ conn facts. own_input c (target_of event) own conn.vc (request_of conn.vc facts)) (reply_of (outcome_of net past event)) (conn_at net (conn_of event))
+
+own_number : (c : ℕ) (t : Target) → is_at_source c t ≡ true → conn_in t ≡ c
+own_number c (Source d x) h = eqb-true d c h
+own_number c other h = absurd (false≢true h)
 
 pub own_conn : (c : ℕ) (event : Event) → is_own_of c event ≡ true → conn_of event ≡ c
-own_conn c (Start d now) h = eqb-true d c h
-own_conn c (Ask d rate plan) h = eqb-true d c h
-own_conn c (Again d) h = eqb-true d c h
-own_conn c (Crash d) h = eqb-true d c h
-own_conn c (Emit d now) h = eqb-true d c h
-own_conn c (Told d seq granted) h = eqb-true d c h
-own_conn c other h = absurd (false≢true h)
+own_conn c event h = own_number c (target_of event) h
 
-enabled_told : (b : Bool) → true && not b ≡ false → b ≡ true
-enabled_told true h = refl
-enabled_told false h = sym h
+stands : (told on : Bool) → told && not on ≡ false → not told || on ≡ true
+stands true true h = refl
+stands true false h = sym h
+stands false on h = refl
+
+made_there : (place c : ℕ) (t : Target) (outcome : Outcome) → is_at_source c t ≡ true → is_told_in t && not (is_enabled outcome) ≡ false → entry_in place t outcome ≡ Some (Did (event_at t) outcome)
+made_there place c (Source d x) outcome own h = cond-true _ _ _ (stands (is_told_by x) (is_enabled outcome) h)
+made_there place c other outcome own h = absurd (false≢true own)
 
 -- what it is to its source
 pub own_made : (place c : ℕ) (event : Event) (outcome : Outcome) → is_own_of c event ≡ true → is_told event && not (is_enabled outcome) ≡ false → entry_of place event outcome ≡ Some (Did event outcome)
-own_made place c (Start d now) outcome own h = refl
-own_made place c (Ask d rate plan) outcome own h = refl
-own_made place c (Again d) outcome own h = refl
-own_made place c (Crash d) outcome own h = refl
-own_made place c (Emit d now) outcome own h = refl
-own_made place c (Told d seq granted) outcome own h = cond-true _ _ _ (enabled_told (is_enabled outcome) h)
-own_made place c other outcome own h = absurd (false≢true own)
+own_made place c event outcome own h = made_there place c (target_of event) outcome own h ∙ ap (λ e. Some (Did e outcome)) (event_there event)
 
 -- An entry that says what a source did is of an event of its own.
 pub record IsDone (event : Event) (outcome : Outcome) (done : Event) (told : Outcome) : Type 0 where
@@ -71,30 +74,35 @@ pub record IsDone (event : Event) (outcome : Outcome) (done : Event) (told : Out
   pub own : is_own_of (conn_of event) event ≡ true
   pub enabled : is_told event && not (is_enabled outcome) ≡ false
 
-done_told : (d seq : ℕ) (granted : Bool) (outcome : Outcome) (done : Event) (told : Outcome) → (b : Bool) → is_enabled outcome ≡ b →
-    (if b then Some (Did (Told d seq granted) outcome) else None) ≡ Some (Did done told) → IsDone (Told d seq granted) outcome done told
-done_told d seq granted outcome done told true is h = record { event_is = cc; outcome_is = cc; own = eq-eqb d d refl; enabled = ap not is }
-done_told d seq granted outcome done told false is h = absurd (cc)
+-- the same by where it happens
+abbrev IsDoneAt : Target → Outcome → Event → Outcome → Type 0
+IsDoneAt t outcome done told = (done ≡ event_at t) × (told ≡ outcome) × (is_at_source (conn_in t) t ≡ true) × (is_told_in t && not (is_enabled outcome) ≡ false)
 
-done_sent : (place : ℕ) (event : Event) (outcome : Outcome) (done : Event) (told : Outcome) (b : Bool) → (if b then Some (Sent place) else None) ≡ Some (Did done told) → IsDone event outcome done told
-done_sent place event outcome done told true h = absurd (cc)
-done_sent place event outcome done told false h = absurd (cc)
+done_source : (d : ℕ) (x : SourceEvent) (outcome : Outcome) (done : Event) (told : Outcome) (answer on : Bool) → (if not answer || on then Some (Did (event_at_source d x) outcome) else None) ≡ Some (Did done told) →
+    (done ≡ event_at_source d x) × (told ≡ outcome) × (answer && not on ≡ false)
+done_source d x outcome done told true true h = (cc, cc, refl)
+done_source d x outcome done told true false h = absurd (cc)
+done_source d x outcome done told false on h = (cc, cc, refl)
 
-done_arrived : (cell place : ℕ) (event : Event) (outcome : Outcome) (done : Event) (told : Outcome) (b : Bool) → (if b then Some (ArrivedAt cell place) else None) ≡ Some (Did done told) → IsDone event outcome done told
-done_arrived cell place event outcome done told true h = absurd (cc)
-done_arrived cell place event outcome done told false h = absurd (cc)
+sent_not_done : (place : ℕ) (b : Bool) (done : Event) (told : Outcome) → (if b then Some (Sent place) else None) ≡ Some (Did done told) → ⊥
+sent_not_done place true done told h = cc
+sent_not_done place false done told h = cc
+
+beside_not_done : (place : ℕ) (x : HopEvent) (on : Bool) (done : Event) (told : Outcome) → entry_by place x on ≡ Some (Did done told) → ⊥
+beside_not_done place (hop.Arrive cell at) true done told h = cc
+beside_not_done place (hop.Arrive cell at) false done told h = cc
+beside_not_done place (hop.Request j s) on done told h = sent_not_done place (on && j == 1) done told h
+beside_not_done place (hop.Answer j s granted) on done told h = cc
+
+done_there : (place : ℕ) (t : Target) (outcome : Outcome) (done : Event) (told : Outcome) → entry_in place t outcome ≡ Some (Did done told) → IsDoneAt t outcome done told
+done_there place (Source d x) outcome done told h = (let its = done_source d x outcome done told (is_told_by x) (is_enabled outcome) h in (its.0, its.1, eq-eqb d d refl, its.2))
+done_there place (Hop d x) outcome done told h = absurd (beside_not_done place x (is_enabled outcome) done told h)
+done_there place (End d s) outcome done told h = absurd (cc)
 
 pub made_own : (place : ℕ) (event : Event) (outcome : Outcome) (done : Event) (told : Outcome) → entry_of place event outcome ≡ Some (Did done told) → IsDone event outcome done told
-made_own place (Start d now) outcome done told h = record { event_is = cc; outcome_is = cc; own = eq-eqb d d refl; enabled = refl }
-made_own place (Ask d rate plan) outcome done told h = record { event_is = cc; outcome_is = cc; own = eq-eqb d d refl; enabled = refl }
-made_own place (Again d) outcome done told h = record { event_is = cc; outcome_is = cc; own = eq-eqb d d refl; enabled = refl }
-made_own place (Crash d) outcome done told h = record { event_is = cc; outcome_is = cc; own = eq-eqb d d refl; enabled = refl }
-made_own place (Emit d now) outcome done told h = record { event_is = cc; outcome_is = cc; own = eq-eqb d d refl; enabled = refl }
-made_own place (Told d seq granted) outcome done told h = done_told d seq granted outcome done told (is_enabled outcome) refl h
-made_own place (Request d hop seq) outcome done told h = done_sent place (Request d hop seq) outcome done told (is_enabled outcome && hop == 1) h
-made_own place (Arrive d cell at) outcome done told h = done_arrived cell place (Arrive d cell at) outcome done told (is_enabled outcome) h
-made_own place (Turn d seq) outcome done told h = absurd (cc)
-made_own place (Answer d hop seq granted) outcome done told h = absurd (cc)
+made_own place event outcome done told h =
+    let its = done_there place (target_of event) outcome done told h in
+    record { event_is = its.0 ∙ event_there event; outcome_is = its.1; own = its.2; enabled = its.3 }
 
 -- Turns change nothing of it
 pub own_turns : (net : Topology) (earlier turns : List Event) → AreTurns net earlier turns → (c : ℕ) (event : Event) → is_own_of c event ≡ true →

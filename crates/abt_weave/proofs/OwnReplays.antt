@@ -1,29 +1,25 @@
 -- A source after events is the one that did what its projection says.
-use Rattle.std.proofs.Common.{◌≡◌, ◌≢◌, ℕ, inl, inr, refl, ap, Bool, true, false, List, [], ◌∷◌, ◌++◌, length, ◌∙◌, sym, subst, Option, None, Some}
+use Rattle.std.proofs.Common.{◌≡◌, ℕ, inl, inr, refl, ap, Bool, true, false, List, [], ◌∷◌, ◌++◌, ◌∙◌, sym, subst, Option, None, Some}
 use Rattle.std.specs.Prelude.{◌+◌, ◌==◌, ◌&&◌, if◌then◌else◌}
 use Rattle.std.proofs.lemmas.Bool.{cond-true, cases_eq, eq-eqb}
 use Rattle.abt_cell.specs.Message.{Terms}
 use Rattle.abt_net.specs.Topology.{Topology}
-use Rattle.abt_keep.specs.declared.plan.StorePlan.{StorePlan}
-use Rattle.abt_keep.specs.declared.plan.StorePlan.TheVariants.{Works, FailsBefore, FailsAfter}
+use Rattle.abt_keep.specs.declared.plan.StorePlan.TheVariants.{FailsAfter}
 use Rattle.abt_node.specs.declared.reply.Onward.{Onward}
 use Rattle.abt_node.specs.declared.reply.Onward.TheVariants.{Pass, Refuse, Drop}
 use Rattle.abt_node.specs.declared.reply.Back.{Back}
 use Rattle.abt_node.specs.declared.reply.Back.TheVariants.{Pass as PassBack, Drop as DropBack}
-use Rattle.abt_source.specs.declared.fault.AskFault.{AskFault}
-use Rattle.abt_source.specs.declared.fault.AskFault.TheVariants.{SeqExhausted, Keep}
+use Rattle.abt_source.specs.declared.fault.AskFault.TheVariants.{Keep}
 use Rattle.abt_facts.specs.declared.fact.Fact.{Fact}
 use Rattle.abt_facts.specs.declared.fact.Fact.TheVariants.{Started as FactStarted, Stored, Asked as FactAsked, Emitted as FactEmitted, Delivered}
-use Rattle.abt_facts.specs.Source.{stored_of, last_of, rate_of}
+use Rattle.abt_facts.specs.Source.{last_of}
 use Rattle.abt_facts.specs.Cells.{emitted_of}
-use Rattle.abt_model.specs.declared.connection_fact.ConnectionFact.{ConnectionFact}
 use Rattle.abt_model.specs.declared.event.Event.{Event}
-use Rattle.abt_model.specs.declared.event.Event.TheVariants.{Start, Ask, Again, Crash, Emit, Arrive, Request, Turn, Answer, Told}
-use Rattle.abt_model.specs.declared.outcome.Heard.{Heard}
-use Rattle.abt_model.specs.declared.outcome.Heard.TheVariants.{Raised, Refused, Ignored}
+use Rattle.abt_model.specs.declared.event.Event.TheVariants.{Start, Ask, Crash, Emit, Arrive, Request, Turn, Answer, Told}
+use Rattle.abt_model.specs.declared.outcome.Heard.TheVariants.{Raised}
 use Rattle.abt_model.specs.declared.outcome.Outcome.{Outcome}
-use Rattle.abt_model.specs.declared.outcome.Outcome.TheVariants.{Started, Asked, AskRefused, Crashed, Emitted, Arrived, Requested, Turned, Answered, Told as HasTold, NotEnabled}
-use Rattle.abt_model.specs.Outcomes.{conn_of, outcome_of, facts_added, after_event, delivery, request_adds, answer_adds}
+use Rattle.abt_model.specs.declared.outcome.Outcome.TheVariants.{Started, Asked, AskRefused, Crashed, Emitted, Arrived, Requested, Turned, Answered, Told as HasTold}
+use Rattle.abt_model.specs.Outcomes.{conn_of, outcome_of, facts_added, after_event, request_adds, answer_adds}
 use Rattle.abt_model.specs.Past.{facts_of}
 use Rattle.abt_model.proofs.Worlds.{facts_of-own, facts_of-other}
 use Rattle.abt_source_journal.specs.declared.entry.SourceEntry.{SourceEntry}
@@ -76,31 +72,18 @@ added_seq facts request =
 own_alike : (facts : List Fact) (place : ℕ) (event : Event) (outcome : Outcome) →
     own (facts_added facts event outcome) ++ own facts ≡ facts_done (own facts) (as_list (entry_of place event outcome))
 own_alike facts place (Start c now) Started = ap (λ (n : ℕ). FactStarted now n ∷ own facts) (sym (stored_of-own facts))
-own_alike facts place (Start c now) other = refl
 own_alike facts place (Ask c rate plan) (Asked request) = ap (λ (l : List Fact). l ++ own facts) (added_seq facts request)
 own_alike facts place (Ask c rate FailsAfter) (AskRefused Keep) = ap (λ (n : ℕ). Stored (n + 1) ∷ own facts) (sym (last_of-own facts))
-own_alike facts place (Ask c rate FailsAfter) (AskRefused SeqExhausted) = refl
-own_alike facts place (Ask c rate Works) (AskRefused fault) = refl
-own_alike facts place (Ask c rate FailsBefore) (AskRefused fault) = refl
-own_alike facts place (Ask c rate plan) other = refl
-own_alike facts place (Again c) other = refl
 own_alike facts place (Crash c) Crashed = refl
-own_alike facts place (Crash c) other = refl
 own_alike facts place (Emit c now) (Emitted cell next) = ap (λ (n : ℕ). FactEmitted cell now n ∷ own facts) (sym (rate_of-own facts))
-own_alike facts place (Emit c now) other = refl
 own_alike facts place (Arrive c cell at) (Arrived verdict) = refl
 own_alike facts place (Arrive c cell at) other = sym (arrived_adds (is_enabled other) cell place (own facts))
 own_alike facts place (Request c hop seq) (Requested onward) = ap (λ (l : List Fact). l ++ own facts) (own_requested hop seq onward) ∙ sym (sent_adds (hop == 1) place (own facts))
 own_alike facts place (Request c hop seq) other = sym (sent_adds (is_enabled other && hop == 1) place (own facts))
 own_alike facts place (Turn c seq) Turned = refl
-own_alike facts place (Turn c seq) other = refl
 own_alike facts place (Answer c hop seq granted) (Answered back) = ap (λ (l : List Fact). l ++ own facts) (own_answered hop seq granted back)
-own_alike facts place (Answer c hop seq granted) other = refl
 own_alike facts place (Told c seq granted) (HasTold Raised) = refl
-own_alike facts place (Told c seq granted) (HasTold Refused) = refl
-own_alike facts place (Told c seq granted) (HasTold Ignored) = refl
-own_alike facts place (Told c seq granted) (NotEnabled cause) = refl
-own_alike facts place (Told c seq granted) other = refl
+own_alike facts place event outcome = refl
 
 -- an entry of the source's own stands in its projection
 made_own : (d c : ℕ) (o : Option SourceEntry) → d ≡ c → entry_at d c o ≡ as_list o

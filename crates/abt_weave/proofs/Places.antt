@@ -1,19 +1,16 @@
 -- Entries that stand beside a step name its place, and each such step has one.
-use Rattle.std.proofs.Common.{◌≡◌, ◌≢◌, ℕ, ◌+◌, ◌-◌, ◌<◌, ◌≤◌, inl, inr, refl, ap, Bool, true, false, List, [], ◌∷◌, ◌++◌, length, ◌∙◌, sym, subst, Option, None, Some, arith}
-use Rattle.std.specs.Prelude.{◌==◌, ◌&&◌, ◌⊎◌, nat_lt, if◌then◌else◌, slice_get, slice_index}
-use Rattle.std.proofs.lemmas.Bool.{cond-true, cond-false, cases_Bool, cases_eq, eq-eqb, ne_eqb, eqb-true}
+use Rattle.std.proofs.Common.{◌≡◌, ℕ, ◌-◌, ◌<◌, ◌≤◌, inl, inr, refl, ap, true, false, List, [], ◌∷◌, ◌++◌, length, ◌∙◌, sym, subst, Option, Some, arith}
+use Rattle.std.specs.Prelude.{◌==◌, ◌&&◌, nat_lt, slice_get, slice_index}
+use Rattle.std.proofs.lemmas.Bool.{cond-true, cases_Bool, cases_eq, eq-eqb, eqb-true}
 use Rattle.std.proofs.lemmas.Bool.Decides.{nat_tests}
 use Rattle.std.proofs.lemmas.Option.{slice_get_within, get_or_from_slice_get}
-use Rattle.std.proofs.lemmas.List.{append-nil, length-append}
+use Rattle.std.proofs.lemmas.List.{length-append}
 use Rattle.abt_cell.specs.Channel.{Channel}
 use Rattle.abt_net.specs.declared.conn.Conn.{Conn}
 use Rattle.abt_net.specs.Topology.{Topology, IsWithinRules}
 use Rattle.abt_facts.specs.declared.fact.Fact.{Fact}
-use Rattle.abt_model.specs.declared.connection_fact.ConnectionFact.{ConnectionFact}
 use Rattle.abt_model.specs.declared.event.Event.{Event}
-use Rattle.abt_model.specs.declared.event.Event.TheVariants.{Start, Ask, Again, Crash, Emit, Arrive, Request, Turn, Answer, Told}
-use Rattle.abt_model.specs.declared.outcome.Outcome.{Outcome}
-use Rattle.abt_model.specs.Answers.{is_hop}
+use Rattle.abt_model.specs.declared.event.Event.TheVariants.{Arrive, Request, Turn, Answer, Told}
 use Rattle.abt_model.specs.Conns.{conn_at}
 use Rattle.abt_model.specs.Outcomes.{conn_of, outcome_of}
 use Rattle.abt_model.specs.Decision.{request_of, answer_to}
@@ -21,15 +18,15 @@ use Rattle.abt_model.specs.Past.{facts_of}
 use Rattle.abt_model.specs.Reserved.{hop_of}
 use Rattle.abt_model.proofs.Served.{conn_within}
 use Rattle.abt_model.proofs.Worlds.{cases_option}
+use Rattle.abt_model.specs.PortTable.{hop_visited}
 use Rattle.abt_journal.specs.declared.input.PortInput.{PortInput}
 use Rattle.abt_journal.specs.declared.input.PortInput.TheVariants.{Request as RequestIn, Answer as AnswerIn, Arrive as ArriveIn}
 use Rattle.abt_source_journal.specs.declared.entry.SourceEntry.{SourceEntry}
 use Rattle.abt_source_journal.specs.declared.entry.SourceEntry.TheVariants.{Did, Sent, Arrived as ArrivedAt}
-use Rattle.abt_woven.specs.Projections.{Step, Visit, is_enabled, reply_of, hop_met, input_of, entry_of, first_port, place_at_first, past_of, visit, step_at, steps_on, entry_made, entry_at, entries_on}
-use Rattle.abt_woven.proofs.Asked.{other_same}
+use Rattle.abt_woven.specs.Projections.{Step, Visit, is_enabled, input_of, first_port, place_at_first, past_of, visit, step_at, steps_on, entry_made, entry_at, entries_on}
 use Rattle.abt_weave.proofs.Candidates.{cond_some, and_both}
 use Rattle.abt_weave.proofs.Growth.{entries_other, entries_none, steps_none, steps_other}
-use Rattle.abt_weave.proofs.PortEvents.{IsVisit, visit_is, visit_made, has_reply, reply_enabled, made_beside, some_same}
+use Rattle.abt_weave.proofs.PortEvents.{visit_is, visit_made, has_reply, reply_enabled, made_beside, some_same}
 use Rattle.abt_weave.proofs.PortLooks.{first_hop}
 use Rattle.abt_weave.proofs.Prefixes.{begins_more, get_whole, get_last, get_more}
 use Rattle.abt_world.proofs.Serving.{hop_at}
@@ -63,14 +60,14 @@ pub record IsBesideStep (net : Topology) (earlier : List Event) (c : ℕ) (conn 
 first_at : (net : Topology) (c : ℕ) (conn : Conn) → conn_at net c ≡ Some conn → first_port (conn_at net c) ≡ slice_index conn.path 0
 first_at net c conn known = ap first_port known
 
-visits_first : (net : Topology) → IsWithinRules net → (earlier : List Event) (c : ℕ) (conn : Conn) (event : Event) (input : PortInput) → conn_at net c ≡ Some conn → conn_of event ≡ c → hop_met event ≡ 1 →
+visits_first : (net : Topology) → IsWithinRules net → (earlier : List Event) (c : ℕ) (conn : Conn) (event : Event) (input : PortInput) → conn_at net c ≡ Some conn → conn_of event ≡ c → hop_visited event ≡ 1 →
     input_of conn.vc (facts_of (conn_of event) (past_of net earlier)) event ≡ Some input → is_enabled (outcome_of net (past_of net earlier) event) ≡ true → IsBesideStep net earlier c conn event
 visits_first net rules earlier c conn event input known whose one brings on =
     let past = past_of net earlier in
     let there : conn_at net (conn_of event) ≡ Some conn = ap (conn_at net) whose ∙ known in
     let reply = has_reply net past event conn input there (first_hop net rules (conn_of event) conn there) brings on in
     record {
-      v = record { port = slice_index conn.path (hop_met event - 1); input = input; reply = reply.reply };
+      v = record { port = slice_index conn.path (hop_visited event - 1); input = input; reply = reply.reply };
       visits = visit_made net past event conn input reply.reply there brings reply.is;
       first = ap (λ n. slice_index conn.path (n - 1)) one;
     }
@@ -100,13 +97,9 @@ named_now net rules earlier c conn (Told d seq granted) x n known whose made nam
     let o = outcome_of net (past_of net earlier) event in
     let both = cond_some (is_enabled o) (Some (Did event o)) x made in
     let is : x ≡ Did event o = sym (some_same both.1) in absurd (subst (λ y. Names y n) is names)
-named_now net rules earlier c conn (Start d now) x n known whose made names = absurd (subst (λ y. Names y n) (sym (some_same made)) names)
-named_now net rules earlier c conn (Ask d rate plan) x n known whose made names = absurd (subst (λ y. Names y n) (sym (some_same made)) names)
-named_now net rules earlier c conn (Again d) x n known whose made names = absurd (subst (λ y. Names y n) (sym (some_same made)) names)
-named_now net rules earlier c conn (Crash d) x n known whose made names = absurd (subst (λ y. Names y n) (sym (some_same made)) names)
-named_now net rules earlier c conn (Emit d now) x n known whose made names = absurd (subst (λ y. Names y n) (sym (some_same made)) names)
 named_now net rules earlier c conn (Turn d seq) x n known whose made names = absurd (cc)
 named_now net rules earlier c conn (Answer d hop seq granted) x n known whose made names = absurd (cc)
+named_now net rules earlier c conn other x n known whose made names = absurd (subst (λ y. Names y n) (sym (some_same made)) names)
 
 -- the entries of a source after an event
 pub entries_made : (net : Topology) (earlier : List Event) (event : Event) (c : ℕ) (x : SourceEntry) → entry_made net earlier event ≡ Some x → conn_of event ≡ c →
@@ -179,7 +172,7 @@ named_on net earlier event c n its = record {
 }
 
 -- the event that makes such a step is of the connection, and comes to its first hop
-first_event : (vc : Channel) (facts : List Fact) (event : Event) (input : PortInput) → input_of vc facts event ≡ Some input → (w : Channel) → IsFirstStep w input → (w ≡ vc) × ((place : ℕ) → hop_met event ≡ 1 → (x : SourceEntry) × (entry_beside place event ≡ Some x) × Names x place)
+first_event : (vc : Channel) (facts : List Fact) (event : Event) (input : PortInput) → input_of vc facts event ≡ Some input → (w : Channel) → IsFirstStep w input → (w ≡ vc) × ((place : ℕ) → hop_visited event ≡ 1 → (x : SourceEntry) × (entry_beside place event ≡ Some x) × Names x place)
 first_event vc facts (Request c hop seq) input h w is =
     let same : RequestIn (request_of vc facts seq) ≡ input = some_same h in
     (sym (subst (λ i. IsFirstStep w i) (sym same) is), λ place one. (Sent place, cond-true _ _ _ (eq-eqb hop 1 one), refl))
@@ -189,13 +182,7 @@ first_event vc facts (Answer c hop seq granted) input h w is =
 first_event vc facts (Arrive c cell at) input h w is =
     let same : ArriveIn vc at ≡ input = some_same h in
     (sym (subst (λ i. IsFirstStep w i) (sym same) is), λ place one. (ArrivedAt cell place, refl, refl))
-first_event vc facts (Start c now) input h w is = absurd (cc)
-first_event vc facts (Ask c rate plan) input h w is = absurd (cc)
-first_event vc facts (Again c) input h w is = absurd (cc)
-first_event vc facts (Crash c) input h w is = absurd (cc)
-first_event vc facts (Emit c now) input h w is = absurd (cc)
-first_event vc facts (Turn c seq) input h w is = absurd (cc)
-first_event vc facts (Told c seq granted) input h w is = absurd (cc)
+first_event vc facts other input h w is = absurd (cc)
 
 named_new : (net : Topology) → IsWithinRules net → (earlier : List Event) (c : ℕ) (conn : Conn) (event : Event) (v : Visit) → conn_at net c ≡ Some conn → visit net (past_of net earlier) event ≡ Some v →
     v.port ≡ slice_index conn.path 0 → IsFirstStep conn.vc v.input → IsNamed net (event ∷ earlier) c (length (steps_on net (slice_index conn.path 0) earlier))
@@ -208,7 +195,7 @@ named_new net rules earlier c conn event v known is here first =
     let whose : conn_of event ≡ c = own_number net rules (conn_of event) c parts.conn conn parts.known known (sym its.0) in
     let same : parts.conn ≡ conn = some_same (sym parts.known ∙ ap (conn_at net) whose ∙ known) in
     let within = conn_within net rules c conn known in
-    let one : hop_met event ≡ 1 =
+    let one : hop_visited event ≡ 1 =
     sym (hop_here net past rules event v parts) ∙ ap (λ q. hop_of parts.conn.path q) here ∙ ap (λ (k : Conn). hop_of k.path p) same ∙ hop_at conn.path 0 within.visits_once within.has_hop in
     let enabled = reply_enabled (outcome_of net past event) v.reply parts.reply in
     let made = made_beside net earlier event p n parts.conn (outcome_of net past event) v.input (facts_of (conn_of event) past) parts.known (parts.port ∙ here) refl parts.input enabled in

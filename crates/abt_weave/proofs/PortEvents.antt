@@ -1,17 +1,16 @@
 -- What comes to a port.
-use Rattle.std.proofs.Common.{◌≡◌, ◌≢◌, ℕ, ◌+◌, ◌-◌, ◌<◌, inl, inr, refl, ap, Bool, true, false, List, [], ◌∷◌, ◌++◌, length, reverse, ◌∙◌, sym, subst, Option, None, Some}
-use Rattle.std.specs.Prelude.{◌==◌, ◌&&◌, not, nat_lt, nat_le, if◌then◌else◌, Ok, slice_get, slice_index, option_map}
-use Rattle.std.proofs.lemmas.Bool.{false≢true, cond-false, cond-true, cases_Bool, cases_eq, eq-eqb, ne_eqb, eqb-true}
+use Rattle.std.proofs.Common.{◌≡◌, ℕ, ◌-◌, inl, inr, refl, ap, Bool, true, false, List, length, reverse, ◌∙◌, sym, subst, Option, None, Some}
+use Rattle.std.specs.Prelude.{◌==◌, ◌&&◌, not, nat_lt, if◌then◌else◌, Ok, slice_index, option_map}
+use Rattle.std.proofs.lemmas.Bool.{false≢true, cond-false, cond-true, cases_eq, ne_eqb}
 use Rattle.abt_cell.specs.Channel.{Channel}
-use Rattle.abt_cell.specs.Message.{Terms}
 use Rattle.abt_net.specs.declared.conn.Conn.{Conn}
 use Rattle.abt_net.specs.Topology.{Topology}
 use Rattle.abt_facts.specs.declared.fact.Fact.{Fact}
-use Rattle.abt_facts.specs.Requests.{floor_of, ask_of}
+use Rattle.abt_facts.specs.Requests.{ask_of}
 use Rattle.abt_facts.specs.Sent.{request_is_at, answer_is_at}
 use Rattle.abt_model.specs.declared.connection_fact.ConnectionFact.{ConnectionFact}
 use Rattle.abt_model.specs.declared.event.Event.{Event}
-use Rattle.abt_model.specs.declared.event.Event.TheVariants.{Start, Ask, Again, Crash, Emit, Arrive, Request, Turn, Answer, Told}
+use Rattle.abt_model.specs.declared.event.Event.TheVariants.{Arrive, Request, Answer}
 use Rattle.abt_gcra.specs.declared.verdict.Verdict.{Verdict}
 use Rattle.abt_facts.specs.Cells.{emitted_of, fence_of, is_in_time, last_arrival_of, verdict_at}
 use Rattle.abt_facts.specs.Hop.{held_of}
@@ -21,18 +20,19 @@ use Rattle.abt_model.specs.declared.outcome.Outcome.TheVariants.{Requested, Answ
 use Rattle.abt_model.specs.Answers.{is_hop, answer_by, arrive_answer}
 use Rattle.abt_model.specs.Conns.{conn_at}
 use Rattle.abt_model.specs.Decision.{request_of, answer_to, request_decision, answer_decision}
-use Rattle.abt_model.specs.Outcomes.{conn_of, port_of, outcome_at, outcome_of}
+use Rattle.abt_model.specs.Outcomes.{conn_of, port_of, outcome_of}
 use Rattle.abt_model.specs.Past.{facts_of}
 use Rattle.abt_model.specs.Reserved.{reserved_on}
 use Rattle.abt_model.proofs.Worlds.{outcome_of-known}
+use Rattle.abt_model.specs.PortTable.{hop_visited}
 use Rattle.abt_journal.specs.declared.input.PortInput.{PortInput}
-use Rattle.abt_journal.specs.declared.input.PortInput.TheVariants.{Request as RequestIn, Answer as AnswerIn, Arrive as ArriveIn}
+use Rattle.abt_journal.specs.declared.input.PortInput.TheVariants.{Request as RequestIn, Answer as AnswerIn}
 use Rattle.abt_journal.specs.declared.input.PortReply.{PortReply}
 use Rattle.abt_journal.specs.declared.input.PortReply.TheVariants.{Arrived as ArrivedOut}
 use Rattle.abt_source_journal.specs.declared.entry.SourceEntry.{SourceEntry}
 use Rattle.abt_source_journal.specs.declared.entry.SourceEntry.TheVariants.{Sent, Arrived as ArrivedAt}
-use Rattle.abt_woven.specs.Asked.{floor_in, ask_in}
-use Rattle.abt_woven.specs.Projections.{Step, Visit, reply_of, hop_met, is_enabled, input_of, visit_by, visit, entry_of, first_port, place_at_first, past_of, entry_made, steps_on, entries_on}
+use Rattle.abt_woven.specs.Asked.{floor_in}
+use Rattle.abt_woven.specs.Projections.{Visit, reply_of, is_enabled, input_of, visit_by, visit, entry_of, first_port, place_at_first, past_of, entry_made, steps_on, entries_on}
 use Rattle.abt_woven.specs.Stuck.{Journaled, next_step, step_next, next_entry, Fits}
 use Rattle.abt_woven.proofs.Asked.{floor_told, ask_told}
 use Rattle.abt_weave.specs.Comes.{input_told, entry_beside, Comes}
@@ -46,20 +46,13 @@ told_same net earlier vc (Request c hop seq) =
 told_same net earlier vc (Answer c hop seq granted) =
     ap (λ (n : ℕ). Some (AnswerIn (record { terms = record { vc = vc; seq = seq; floor = n; ask = ask_of (facts_of c (past_of net earlier)) seq }; granted = granted }))) (floor_told net c seq earlier)
     ∙ ap (λ (n : ℕ). Some (AnswerIn (record { terms = record { vc = vc; seq = seq; floor = floor_in (reverse (entries_on net c earlier)) seq; ask = n }; granted = granted }))) (ask_told net c seq earlier)
-told_same net earlier vc (Arrive c cell at) = refl
-told_same net earlier vc (Start c now) = refl
-told_same net earlier vc (Ask c rate plan) = refl
-told_same net earlier vc (Again c) = refl
-told_same net earlier vc (Crash c) = refl
-told_same net earlier vc (Emit c now) = refl
-told_same net earlier vc (Turn c seq) = refl
-told_same net earlier vc (Told c seq granted) = refl
+told_same net earlier vc other = refl
 
 -- A visit is of an event that comes to the port of its hop.
 pub record IsVisit (net : Topology) (past : List ConnectionFact) (event : Event) (v : Visit) : Type 0 where
   pub conn : Conn
   pub known : conn_at net (conn_of event) ≡ Some conn
-  pub port : slice_index conn.path (hop_met event - 1) ≡ v.port
+  pub port : slice_index conn.path (hop_visited event - 1) ≡ v.port
   pub input : input_of conn.vc (facts_of (conn_of event) past) event ≡ Some v.input
   pub reply : reply_of (outcome_of net past event) ≡ Some v.reply
 
@@ -72,7 +65,7 @@ visit_parts : (net : Topology) (past : List ConnectionFact) (event : Event) (v :
 visit_parts net past event v r None re known h = absurd (cc)
 visit_parts net past event v None (Some conn) re known h = absurd (cc)
 visit_parts net past event v (Some reply) (Some conn) re known h =
-    let f = λ (input : PortInput). (let made : Visit = record { port = slice_index conn.path (hop_met event - 1); input = input; reply = reply } in made) in
+    let f = λ (input : PortInput). (let made : Visit = record { port = slice_index conn.path (hop_visited event - 1); input = input; reply = reply } in made) in
     let parts = mapped f (input_of conn.vc (facts_of (conn_of event) past) event) v h in
     record {
       conn = conn;
@@ -91,11 +84,11 @@ some_same h = cc
 -- and the other way round
 pub visit_made : (net : Topology) (past : List ConnectionFact) (event : Event) (conn : Conn) (input : PortInput) (reply : PortReply) → conn_at net (conn_of event) ≡ Some conn →
     input_of conn.vc (facts_of (conn_of event) past) event ≡ Some input → reply_of (outcome_of net past event) ≡ Some reply →
-    visit net past event ≡ Some (record { port = slice_index conn.path (hop_met event - 1); input = input; reply = reply })
+    visit net past event ≡ Some (record { port = slice_index conn.path (hop_visited event - 1); input = input; reply = reply })
 visit_made net past event conn input reply known brings re =
     ap (λ (r : Option PortReply). visit_by past event r (conn_at net (conn_of event))) re
     ∙ ap (λ (o : Option Conn). visit_by past event (Some reply) o) known
-    ∙ ap (option_map (λ (input : PortInput). (let made : Visit = record { port = slice_index conn.path (hop_met event - 1); input = input; reply = reply } in made))) brings
+    ∙ ap (option_map (λ (input : PortInput). (let made : Visit = record { port = slice_index conn.path (hop_visited event - 1); input = input; reply = reply } in made))) brings
 
 pub reply_enabled : (outcome : Outcome) (reply : PortReply) → reply_of outcome ≡ Some reply → is_enabled outcome ≡ true
 reply_enabled (NotEnabled cause) reply h = absurd (cc)
@@ -103,7 +96,7 @@ reply_enabled other reply h = refl
 
 -- an event that happens and comes to a port has a hop of the path, and a reply
 pub record HasReply (conn : Conn) (outcome : Outcome) (event : Event) : Type 0 where
-  pub within : is_hop (length conn.path) (hop_met event) ≡ true
+  pub within : is_hop (length conn.path) (hop_visited event) ≡ true
   pub reply : PortReply
   pub is : reply_of outcome ≡ Some reply
 
@@ -138,13 +131,7 @@ by_reply : (conn : Conn) (r u : ℕ) (facts : List Fact) (event : Event) (input 
 by_reply conn r u facts (Request c hop seq) input one brings h = request_reply conn r u facts c hop seq (is_hop (length conn.path) hop) (request_is_at facts seq hop) refl refl h
 by_reply conn r u facts (Answer c hop seq granted) input one brings h = answer_reply conn facts c hop seq granted (is_hop (length conn.path) hop) (answer_is_at (length conn.path) facts seq hop granted) refl refl h
 by_reply conn r u facts (Arrive c cell at) input one brings h = arrived_reply conn facts c cell at one h
-by_reply conn r u facts (Start c now) input one brings h = absurd (cc)
-by_reply conn r u facts (Ask c rate plan) input one brings h = absurd (cc)
-by_reply conn r u facts (Again c) input one brings h = absurd (cc)
-by_reply conn r u facts (Crash c) input one brings h = absurd (cc)
-by_reply conn r u facts (Emit c now) input one brings h = absurd (cc)
-by_reply conn r u facts (Turn c seq) input one brings h = absurd (cc)
-by_reply conn r u facts (Told c seq granted) input one brings h = absurd (cc)
+by_reply conn r u facts other input one brings h = absurd (cc)
 
 pub has_reply : (net : Topology) (past : List ConnectionFact) (event : Event) (conn : Conn) (input : PortInput) → conn_at net (conn_of event) ≡ Some conn → is_hop (length conn.path) 1 ≡ true →
     input_of conn.vc (facts_of (conn_of event) past) event ≡ Some input → is_enabled (outcome_of net past event) ≡ true → HasReply conn (outcome_of net past event) event
@@ -177,18 +164,12 @@ beside_arrival net earlier c cell a p place conn outcome known port at h =
     ap (λ (o : Option Conn). length (steps_on net (first_port o) earlier)) known ∙ ap (λ (q : ℕ). length (steps_on net q earlier)) port ∙ sym at in
     cond-true _ _ _ h ∙ ap (λ (n : ℕ). Some (ArrivedAt cell n)) here
 
-pub made_beside : (net : Topology) (earlier : List Event) (event : Event) (p place : ℕ) (conn : Conn) (outcome : Outcome) (input : PortInput) (facts : List Fact) → conn_at net (conn_of event) ≡ Some conn → slice_index conn.path (hop_met event - 1) ≡ p →
+pub made_beside : (net : Topology) (earlier : List Event) (event : Event) (p place : ℕ) (conn : Conn) (outcome : Outcome) (input : PortInput) (facts : List Fact) → conn_at net (conn_of event) ≡ Some conn → slice_index conn.path (hop_visited event - 1) ≡ p →
     place ≡ length (steps_on net p earlier) → input_of conn.vc facts event ≡ Some input → is_enabled outcome ≡ true → entry_of (place_at_first net earlier event) event outcome ≡ entry_beside place event
 made_beside net earlier (Request c hop seq) p place conn outcome input facts known port at brings h = beside_request net earlier c hop seq p place conn outcome known port at h
 made_beside net earlier (Arrive c cell a) p place conn outcome input facts known port at brings h = beside_arrival net earlier c cell a p place conn outcome known port at h
 made_beside net earlier (Answer c hop seq granted) p place conn outcome input facts known port at brings h = refl
-made_beside net earlier (Start c now) p place conn outcome input facts known port at brings h = absurd (cc)
-made_beside net earlier (Ask c rate plan) p place conn outcome input facts known port at brings h = absurd (cc)
-made_beside net earlier (Again c) p place conn outcome input facts known port at brings h = absurd (cc)
-made_beside net earlier (Crash c) p place conn outcome input facts known port at brings h = absurd (cc)
-made_beside net earlier (Emit c now) p place conn outcome input facts known port at brings h = absurd (cc)
-made_beside net earlier (Turn c seq) p place conn outcome input facts known port at brings h = absurd (cc)
-made_beside net earlier (Told c seq granted) p place conn outcome input facts known port at brings h = absurd (cc)
+made_beside net earlier other p place conn outcome input facts known port at brings h = absurd (cc)
 
 -- a visit is of an event that comes
 pub visit_comes : (net : Topology) (journals : Journaled) (earlier : List Event) (event : Event) (v : Visit) (p place : ℕ) (input : PortInput) →
@@ -221,8 +202,8 @@ comes_fits net journals earlier event p place input reply comes replies next =
     record {
       falls = inl (λ none. (let clash = sym none ∙ is in cc));
       step = λ v same.
-          (let made : Some (let w : Visit = record { port = slice_index comes.conn.path (hop_met event - 1); input = input; reply = reply } in w) ≡ Some v = sym is ∙ same in
-          let here : (record { port = slice_index comes.conn.path (hop_met event - 1); input = input; reply = reply }) ≡ v = some_same made in
+          (let made : Some (let w : Visit = record { port = slice_index comes.conn.path (hop_visited event - 1); input = input; reply = reply } in w) ≡ Some v = sym is ∙ same in
+          let here : (record { port = slice_index comes.conn.path (hop_visited event - 1); input = input; reply = reply }) ≡ v = some_same made in
           subst (λ (w : Visit). next_step net journals earlier w.port ≡ Some (step_next net earlier w)) here
           (subst (λ q. next_step net journals earlier q ≡ Some (record { place = length (steps_on net q earlier); input = input; reply = reply })) (sym comes.port)
           (next ∙ ap (λ n. Some (record { place = n; input = input; reply = reply })) comes.at)));

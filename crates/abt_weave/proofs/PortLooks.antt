@@ -1,17 +1,16 @@
 -- What a look at a port's next entry shows.
-use Rattle.std.proofs.Common.{◌≡◌, ◌≢◌, ℕ, ◌+◌, ◌-◌, ◌<◌, ◌≤◌, inl, inr, refl, ap, Bool, true, false, List, [], ◌∷◌, ◌++◌, length, reverse, ◌∙◌, sym, subst, Option, None, Some, Vec, arith}
+use Rattle.std.proofs.Common.{◌≡◌, ◌≢◌, ℕ, ◌-◌, ◌<◌, ◌≤◌, inl, inr, refl, ap, Bool, true, false, List, [], ◌∷◌, ◌++◌, length, reverse, ◌∙◌, sym, subst, Option, None, Some, Vec, arith}
 use Rattle.std.specs.Prelude.{slice_get, slice_index, get_or, map, option_map}
 use Rattle.std.specs.Global.{Global}
 use Rattle.std.proofs.lemmas.List.{length-map}
 use Rattle.std.specs.Prelude.{not, if◌then◌else◌}
 use Rattle.std.proofs.lemmas.Bool.{false≢true}
 use Rattle.std.proofs.lemmas.Bool.Decides.{nat_tests}
-use Rattle.std.proofs.lemmas.Option.{slice_get_within, slice_get_read, slice_get_past, get_or_from_slice_get, slice_get-get_or, slice_get-map}
+use Rattle.std.proofs.lemmas.Option.{slice_get_within, slice_get_read, slice_get_past, get_or_from_slice_get, slice_get-map}
 use Rattle.abt_net.specs.declared.conn.Conn.{Conn}
 use Rattle.abt_net.specs.Topology.{Topology, IsConnWithin, IsWithinRules}
 use Rattle.abt_model.specs.declared.event.Event.{Event}
 use Rattle.abt_model.specs.declared.event.Event.TheVariants.{Turn, Answer}
-use Rattle.abt_model.specs.declared.outcome.Outcome.{Outcome}
 use Rattle.abt_model.specs.declared.connection_fact.ConnectionFact.{ConnectionFact}
 use Rattle.abt_facts.specs.Sent.{request_is_through}
 use Rattle.abt_model.specs.declared.outcome.Cause.TheVariants.{NotSent}
@@ -22,13 +21,14 @@ use Rattle.abt_model.specs.Conns.{conn_at}
 use Rattle.abt_model.specs.Outcomes.{conn_of, outcome_at, outcome_of}
 use Rattle.abt_model.specs.Run.{facts_after}
 use Rattle.abt_model.proofs.Worlds.{all_at}
+use Rattle.abt_model.specs.PortTable.{hop_visited}
 use Rattle.abt_journal.specs.declared.entry.Entry.{Entry}
 use Rattle.abt_journal.specs.declared.input.PortInput.{PortInput}
 use Rattle.abt_journal.specs.declared.input.PortReply.{PortReply}
 use Rattle.abt_source_journal.specs.declared.entry.SourceEntry.{SourceEntry}
 use Rattle.abt_source_journal.specs.declared.journal.SourceJournal.{SourceJournal}
-use Rattle.abt_world.specs.Standing.{WorldView, StandsFor}
-use Rattle.abt_woven.specs.Projections.{Step, step_of, Visit, reply_of, hop_met, is_enabled, past_of, visit, steps_on, entry_made, entries_on}
+use Rattle.abt_world.specs.Standing.{WorldView}
+use Rattle.abt_woven.specs.Projections.{Step, step_of, Visit, reply_of, is_enabled, past_of, visit, steps_on}
 use Rattle.abt_woven.specs.Stuck.{Journaled, steps_in, port_journal, next_step, step_next, next_entry, Fits, IsTurn, AreTurns, PortMismatches}
 use Rattle.abt_woven.proofs.Turns.{HasOwnTurn, outcome_turns, own_same, own_enabled, steps_turns, entries_turns}
 use Rattle.abt_weave.specs.Comes.{input_told, Comes, IsYes, IsTurnOf, IsComing, IsExpected}
@@ -42,7 +42,7 @@ use Rattle.abt_weave.specs.Board.{count, IsAfterLook, journaled, IsPlacing, IsPo
 use Rattle.abt_weave.proofs.Pasts.{past-is, pushed}
 use Rattle.abt_weave.proofs.OwnEvents.{next_turns}
 use Rattle.abt_weave.proofs.SourceLooks.{place_read}
-use Rattle.abt_weave.proofs.PortEvents.{some_same, told_same, visit_is, visit_made, reply_enabled, has_reply, made_beside, visit_comes, comes_fits}
+use Rattle.abt_weave.proofs.PortEvents.{some_same, told_same, visit_is, visit_made, reply_enabled, has_reply, made_beside, visit_comes}
 
 -- each path has a hop
 pub first_hop : (net : Topology) → IsWithinRules net → (c : ℕ) (conn : Conn) → conn_at net c ≡ Some conn → is_hop (length conn.path) 1 ≡ true
@@ -159,7 +159,7 @@ mismatch_at net js rules earlier turns p step event next all before on =
       turns = turns;
       turned = all;
       event = event;
-      visits = record { port = slice_index comes.conn.path (hop_met event - 1); input = step.input; reply = found.reply };
+      visits = record { port = slice_index comes.conn.path (hop_visited event - 1); input = step.input; reply = found.reply };
       comes = visit_made net past event comes.conn step.input found.reply comes.known brings found.is;
       here = comes.port;
       step = step;

@@ -10,12 +10,13 @@ use Rattle.abt_model.specs.declared.event.Event.TheVariants.{Arrive, Request}
 use Rattle.abt_model.specs.Outcomes.{conn_of, outcome_of}
 use Rattle.abt_model.specs.Past.{facts_of}
 use Rattle.abt_model.specs.Run.{facts_after}
+use Rattle.abt_model.specs.PortTable.{hop_visited}
 use Rattle.abt_journal.specs.declared.input.PortInput.{PortInput}
 use Rattle.abt_journal.specs.declared.input.PortReply.{PortReply}
 use Rattle.abt_source_journal.specs.declared.entry.SourceEntry.{SourceEntry}
 use Rattle.abt_source_journal.specs.declared.entry.SourceEntry.TheVariants.{Sent, Arrived as ArrivedAt}
 use Rattle.abt_world.specs.Standing.{WorldView, StandsFor}
-use Rattle.abt_woven.specs.Projections.{Step, Visit, reply_of, hop_met, past_of, steps_on, entry_made, entries_on}
+use Rattle.abt_woven.specs.Projections.{Step, Visit, reply_of, past_of, steps_on, entry_made, entries_on}
 use Rattle.abt_woven.specs.Stuck.{Journaled, port_journal, source_journal, next_step, ArePlaced, IsBeginning}
 use Rattle.abt_woven.proofs.Placing.{fits_placed}
 use Rattle.abt_woven.proofs.Turns.{steps_turn, entries_turn}
@@ -71,7 +72,7 @@ port_placed net js events world new sp pp p place c come event input reply board
     let made : entry_made net earlier event ≡ entry_beside place event =
     made_beside net earlier event p place comes.conn (outcome_of net past event) input (facts_of (conn_of event) past) comes.known comes.port comes.at brings enabled in
     let now = sym (pushed events event) in
-    let v : Visit = record { port = slice_index comes.conn.path (hop_met event - 1); input = input; reply = reply } in
+    let v : Visit = record { port = slice_index comes.conn.path (hop_visited event - 1); input = input; reply = reply } in
     let fits = comes_fits net js earlier event p place input reply comes answers next in
     let whole : IsPlacing net js (events ++ event ∷ []) new (set sp c (reached_by event (slice_index sp c))) (set pp p (slice_index pp p + 1)) = record {
       stands = stands;

@@ -1,6 +1,6 @@
 -- The table that a port has after events is the one that its projection makes of its first table.
-use Rattle.std.proofs.Common.{◌≡◌, ◌≢◌, ℕ, ◌+◌, ◌-◌, ◌≤◌, inl, inr, refl, ap, Bool, true, false, List, [], ◌∷◌, ◌++◌, length, reverse, ◌∙◌, sym, subst, Option, None, Some, arith, map}
-use Rattle.std.specs.Prelude.{◌==◌, not, nat_lt, if◌then◌else◌, slice_index, slice_get, option_map, fold, All, Ok}
+use Rattle.std.proofs.Common.{◌≡◌, ◌≢◌, ℕ, ◌+◌, ◌-◌, ◌≤◌, inl, inr, refl, ap, Bool, true, false, List, [], ◌∷◌, length, ◌∙◌, sym, subst, Option, None, Some, arith, map}
+use Rattle.std.specs.Prelude.{◌==◌, not, nat_lt, if◌then◌else◌, slice_index, option_map, fold, All}
 use Rattle.std.proofs.lemmas.Bool.{cond-false, cond-true, cases_eq, eq-eqb, ne_eqb}
 use Rattle.std.proofs.lemmas.List.Sums.{fold-append}
 use Rattle.abt_cell.specs.Channel.{Channel}
@@ -16,7 +16,7 @@ use Rattle.abt_facts.specs.Cells.{emitted_of, fence_of, is_in_time, last_arrival
 use Rattle.abt_facts.specs.Hop.{held_of}
 use Rattle.abt_model.specs.declared.connection_fact.ConnectionFact.{ConnectionFact}
 use Rattle.abt_model.specs.declared.event.Event.{Event}
-use Rattle.abt_model.specs.declared.event.Event.TheVariants.{Start, Ask, Again, Crash, Emit, Arrive, Request, Turn, Answer, Told}
+use Rattle.abt_model.specs.declared.event.Event.TheVariants.{Arrive, Request, Answer}
 use Rattle.abt_model.specs.declared.outcome.Cause.TheVariants.{Unknown, NotSent, Fenced, Delay, ClockBack}
 use Rattle.abt_model.specs.declared.outcome.Outcome.{Outcome}
 use Rattle.abt_model.specs.declared.outcome.Outcome.TheVariants.{Requested, Answered, Arrived, NotEnabled}
@@ -37,11 +37,11 @@ use Rattle.abt_model.proofs.Worlds.{AllLawful, nothing_lawful, after_event_lawfu
 use Rattle.abt_world.proofs.Serving.{hop_at}
 use Rattle.abt_journal.specs.declared.entry.Entry.{Entry}
 use Rattle.abt_journal.specs.declared.input.PortInput.{PortInput}
-use Rattle.abt_journal.specs.declared.input.PortInput.TheVariants.{Request as RequestIn, Answer as AnswerIn, Arrive as ArriveIn}
 use Rattle.abt_journal.specs.declared.input.PortReply.{PortReply}
 use Rattle.abt_journal.specs.declared.input.PortReply.TheVariants.{Requested as RequestedOut, Answered as AnsweredOut, Arrived as ArrivedOut}
 use Rattle.abt_journal.specs.Replay.{reply_by, table_after, replay}
-use Rattle.abt_woven.specs.Projections.{Step, step_of, Visit, is_enabled, reply_of, hop_met, input_of, visit_by, visit, past_of, step_at, steps_on}
+use Rattle.abt_woven.specs.Projections.{Step, step_of, Visit, reply_of, input_of, visit_by, visit, past_of, step_at, steps_on}
+use Rattle.abt_weave.proofs.OwnEvents.{unvisited_by}
 use Rattle.abt_weave.proofs.PortEvents.{IsVisit, visit_is, visit_made, has_reply, reply_enabled, some_same}
 use Rattle.abt_weave.proofs.PortLooks.{first_hop}
 
@@ -60,23 +60,17 @@ past_lawful net (event ∷ earlier) rates = after_event_lawful net (past_of net 
 
 -- an event that brings nothing comes to no port
 pub no_visit : (net : Topology) (past : List ConnectionFact) (event : Event) → ((vc : Channel) (facts : List Fact) → input_of vc facts event ≡ None) → visit net past event ≡ None
-no_visit net past event none = go (reply_of (outcome_of net past event)) (conn_at net (conn_of event))
-  where
-    go : (r : Option PortReply) (o : Option Conn) → visit_by past event r o ≡ None
-    go r None = refl
-    go None (Some conn) = refl
-    go (Some reply) (Some conn) =
-        ap (option_map (λ (input : PortInput). (let made : Visit = record { port = slice_index conn.path (hop_met event - 1); input = input; reply = reply } in made))) (none conn.vc (facts_of (conn_of event) past))
+no_visit net past event none = unvisited_by past event (λ conn facts. none conn.vc facts) (reply_of (outcome_of net past event)) (conn_at net (conn_of event))
 
 -- the hop of the port that an event comes to
-pub hop_here : (net : Topology) (past : List ConnectionFact) → IsWithinRules net → (event : Event) (v : Visit) → (parts : IsVisit net past event v) → hop_of parts.conn.path v.port ≡ hop_met event
+pub hop_here : (net : Topology) (past : List ConnectionFact) → IsWithinRules net → (event : Event) (v : Visit) → (parts : IsVisit net past event v) → hop_of parts.conn.path v.port ≡ hop_visited event
 hop_here net past rules event v parts =
     let enabled = reply_enabled (outcome_of net past event) v.reply parts.reply in
     let reply = has_reply net past event parts.conn v.input parts.known (first_hop net rules (conn_of event) parts.conn parts.known) parts.input enabled in
-    let hop = is_hop_tells (length parts.conn.path) (hop_met event) reply.within in
-    let at = hop_at parts.conn.path (hop_met event - 1) (conn_within net rules (conn_of event) parts.conn parts.known).visits_once (omega (arith, hop.0, hop.1)) in
-    let back : (hop_met event - 1) + 1 ≡ hop_met event = omega (arith, hop.0) in
-    subst (λ q. hop_of parts.conn.path q ≡ hop_met event) parts.port (at ∙ back)
+    let hop = is_hop_tells (length parts.conn.path) (hop_visited event) reply.within in
+    let at = hop_at parts.conn.path (hop_visited event - 1) (conn_within net rules (conn_of event) parts.conn parts.known).visits_once (omega (arith, hop.0, hop.1)) in
+    let back : (hop_visited event - 1) + 1 ≡ hop_visited event = omega (arith, hop.0) in
+    subst (λ q. hop_of parts.conn.path q ≡ hop_visited event) parts.port (at ∙ back)
 
 requested_by : (a b : Bool) (onward : Onward) (reply : PortReply) → reply_of (if not a then NotEnabled Unknown else (if not b then NotEnabled NotSent else Requested onward)) ≡ Some reply →
     (if not a then NotEnabled Unknown else (if not b then NotEnabled NotSent else Requested onward)) ≡ Requested onward
@@ -170,38 +164,18 @@ arrival_made net past rules lawful c cell at v is =
       sym served.1 ∙ ap (table_after table) input,
     )
 
--- the hop to which something comes is the one that it visits
-pub visited_met : (vc : Channel) (facts : List Fact) (event : Event) (input : PortInput) → input_of vc facts event ≡ Some input → hop_visited event ≡ hop_met event
-visited_met vc facts (Request c hop seq) input h = refl
-visited_met vc facts (Answer c hop seq granted) input h = refl
-visited_met vc facts (Arrive c cell at) input h = refl
-visited_met vc facts (Start c now) input h = absurd (cc)
-visited_met vc facts (Ask c rate plan) input h = absurd (cc)
-visited_met vc facts (Again c) input h = absurd (cc)
-visited_met vc facts (Crash c) input h = absurd (cc)
-visited_met vc facts (Emit c now) input h = absurd (cc)
-visited_met vc facts (Turn c seq) input h = absurd (cc)
-visited_met vc facts (Told c seq granted) input h = absurd (cc)
-
 pub event_made : (net : Topology) (past : List ConnectionFact) → IsWithinRules net → AllLawful net past → (event : Event) (v : Visit) → visit net past event ≡ Some v → IsServed net past event v
 event_made net past rules lawful (Request c hop seq) v is = request_made net past rules lawful c hop seq v is
 event_made net past rules lawful (Answer c hop seq granted) v is = answer_made net past rules lawful c hop seq granted v is
 event_made net past rules lawful (Arrive c cell at) v is = arrival_made net past rules lawful c cell at v is
-event_made net past rules lawful (Start c now) v is = (let none = no_visit net past (Start c now) (λ vc facts. refl) in absurd (cc))
-event_made net past rules lawful (Ask c rate plan) v is = (let none = no_visit net past (Ask c rate plan) (λ vc facts. refl) in absurd (cc))
-event_made net past rules lawful (Again c) v is = (let none = no_visit net past (Again c) (λ vc facts. refl) in absurd (cc))
-event_made net past rules lawful (Crash c) v is = (let none = no_visit net past (Crash c) (λ vc facts. refl) in absurd (cc))
-event_made net past rules lawful (Emit c now) v is = (let none = no_visit net past (Emit c now) (λ vc facts. refl) in absurd (cc))
-event_made net past rules lawful (Turn c seq) v is = (let none = no_visit net past (Turn c seq) (λ vc facts. refl) in absurd (cc))
-event_made net past rules lawful (Told c seq granted) v is = (let none = no_visit net past (Told c seq granted) (λ vc facts. refl) in absurd (cc))
+event_made net past rules lawful other v is = (let none = no_visit net past other (λ vc facts. refl) in absurd (cc))
 
 -- what comes to another port leaves a table
 elsewhere : (net : Topology) (past : List ConnectionFact) (event : Event) (v : Visit) (p : ℕ) → IsVisit net past event v → v.port ≢ p → ¬ Visits net event p
 elsewhere net past event v p parts differ visits =
     let same : visits.0 ≡ parts.conn = some_same (sym visits.1 ∙ parts.known) in
-    let met = visited_met parts.conn.vc (facts_of (conn_of event) past) event v.input parts.input in
-    let hop : hop_of parts.conn.path p ≡ hop_met event = subst (λ (conn : Conn). hop_of conn.path p ≡ hop_visited event) same visits.3 ∙ met in
-    let low : 1 ≤ hop_met event = subst (λ n. 1 ≤ n) met visits.2 in
+    let hop : hop_of parts.conn.path p ≡ hop_visited event = subst (λ (conn : Conn). hop_of conn.path p ≡ hop_visited event) same visits.3 in
+    let low : 1 ≤ hop_visited event = visits.2 in
     let port = hop_of-port parts.conn.path p (λ zero. (let e = sym hop ∙ zero in omega (arith, e, low))) in
     differ (sym parts.port ∙ ap (λ n. slice_index parts.conn.path (n - 1)) (sym hop) ∙ port)
 
@@ -213,13 +187,7 @@ no_reply facts vc (Answer c hop seq granted) (Answered back) input h none = absu
 no_reply facts vc (Answer c hop seq granted) other input h none = refl
 no_reply facts vc (Arrive c cell at) (Arrived verdict) input h none = absurd (cc)
 no_reply facts vc (Arrive c cell at) other input h none = refl
-no_reply facts vc (Start c now) outcome input h none = absurd (cc)
-no_reply facts vc (Ask c rate plan) outcome input h none = absurd (cc)
-no_reply facts vc (Again c) outcome input h none = absurd (cc)
-no_reply facts vc (Crash c) outcome input h none = absurd (cc)
-no_reply facts vc (Emit c now) outcome input h none = absurd (cc)
-no_reply facts vc (Turn c seq) outcome input h none = absurd (cc)
-no_reply facts vc (Told c seq granted) outcome input h none = absurd (cc)
+no_reply facts vc other outcome input h none = absurd (cc)
 
 nothing_past : (net : Topology) (past : List ConnectionFact) (event : Event) → ((vc : Channel) (facts : List Fact) → (input : PortInput) × (input_of vc facts event ≡ Some input)) → visit net past event ≡ None → after_event net past event ≡ past
 nothing_past net past event brings none = elim (cases_option (conn_at net (conn_of event))) [
@@ -243,13 +211,7 @@ unvisited : (net : Topology) (past : List ConnectionFact) → IsWithinRules net 
 unvisited net past rules lawful (Request c hop seq) rate p none = ap (λ (w : List ConnectionFact). port_table net w p) (nothing_past net past (Request c hop seq) (λ vc facts. (_, refl)) none)
 unvisited net past rules lawful (Answer c hop seq granted) rate p none = ap (λ (w : List ConnectionFact). port_table net w p) (nothing_past net past (Answer c hop seq granted) (λ vc facts. (_, refl)) none)
 unvisited net past rules lawful (Arrive c cell at) rate p none = ap (λ (w : List ConnectionFact). port_table net w p) (nothing_past net past (Arrive c cell at) (λ vc facts. (_, refl)) none)
-unvisited net past rules lawful (Start c now) rate p none = stays net past rules lawful (Start c now) rate refl p
-unvisited net past rules lawful (Ask c r plan) rate p none = stays net past rules lawful (Ask c r plan) rate refl p
-unvisited net past rules lawful (Again c) rate p none = stays net past rules lawful (Again c) rate refl p
-unvisited net past rules lawful (Crash c) rate p none = stays net past rules lawful (Crash c) rate refl p
-unvisited net past rules lawful (Emit c now) rate p none = stays net past rules lawful (Emit c now) rate refl p
-unvisited net past rules lawful (Turn c seq) rate p none = stays net past rules lawful (Turn c seq) rate refl p
-unvisited net past rules lawful (Told c seq granted) rate p none = stays net past rules lawful (Told c seq granted) rate refl p
+unvisited net past rules lawful other rate p none = stays net past rules lawful other rate refl p
 
 -- what one event makes of a table is what its step there does
 pub one_step : (net : Topology) (past : List ConnectionFact) → IsWithinRules net → AllLawful net past → (event : Event) → AsksRate event → (p place : ℕ) →

@@ -1,17 +1,17 @@
 -- What was sent after some events was sent after all events that the same journals go on with.
-use Rattle.std.proofs.Common.{◌≡◌, ◌≢◌, ℕ, zero, suc, ◌+◌, ◌-◌, ◌<◌, ◌≤◌, inl, inr, refl, ap, Bool, true, false, List, [], ◌∷◌, ◌++◌, length, ◌∙◌, sym, subst, Option, None, Some, arith}
+use Rattle.std.proofs.Common.{◌≡◌, ℕ, ◌+◌, ◌-◌, ◌<◌, ◌≤◌, inl, inr, refl, ap, Bool, true, false, List, [], ◌∷◌, ◌++◌, length, ◌∙◌, sym, subst, Some, arith}
 use Rattle.std.specs.Prelude.{◌==◌, ◌&&◌, ◌||◌, ◌⊎◌, if◌then◌else◌, slice_get, slice_index}
 use Rattle.std.specs.List.{list_any}
-use Rattle.std.proofs.lemmas.Bool.{false≢true, cond-true, cases_eq, eq-eqb, eqb-true, or_cases}
+use Rattle.std.proofs.lemmas.Bool.{false≢true, cases_eq, eq-eqb, eqb-true, or_cases}
 use Rattle.std.proofs.lemmas.List.Folds.{list_any-append}
 use Rattle.abt_cell.specs.Channel.{Channel}
 use Rattle.abt_cell.specs.Message.{Terms, Reply}
-use Rattle.abt_keep.specs.declared.plan.StorePlan.TheVariants.{Works, FailsBefore, FailsAfter}
+use Rattle.abt_keep.specs.declared.plan.StorePlan.TheVariants.{FailsAfter}
 use Rattle.abt_node.specs.declared.reply.Onward.{Onward}
 use Rattle.abt_node.specs.declared.reply.Onward.TheVariants.{Pass, Refuse, Drop}
 use Rattle.abt_node.specs.declared.reply.Back.{Back}
-use Rattle.abt_node.specs.declared.reply.Back.TheVariants.{Pass as PassBack, Drop as DropBack}
-use Rattle.abt_source.specs.declared.fault.AskFault.TheVariants.{SeqExhausted, Keep}
+use Rattle.abt_node.specs.declared.reply.Back.TheVariants.{Pass as PassBack}
+use Rattle.abt_source.specs.declared.fault.AskFault.TheVariants.{Keep}
 use Rattle.abt_gcra.specs.declared.verdict.Verdict.{Verdict}
 use Rattle.abt_net.specs.declared.conn.Conn.{Conn}
 use Rattle.abt_net.specs.Topology.{Topology, IsWithinRules}
@@ -20,24 +20,24 @@ use Rattle.abt_facts.specs.declared.fact.Fact.TheVariants.{Started as FactStarte
 use Rattle.abt_facts.specs.Sent.{is_pass_of, is_shut_of, is_back_of, was_passed, was_shut, was_back}
 use Rattle.abt_model.specs.declared.connection_fact.ConnectionFact.{ConnectionFact}
 use Rattle.abt_model.specs.declared.event.Event.{Event}
-use Rattle.abt_model.specs.declared.event.Event.TheVariants.{Start, Ask, Again, Crash, Emit, Arrive, Request, Turn, Answer, Told}
-use Rattle.abt_model.specs.declared.outcome.Heard.TheVariants.{Raised, Refused, Ignored}
+use Rattle.abt_model.specs.declared.event.Event.TheVariants.{Start, Ask, Crash, Emit, Arrive, Request, Turn, Answer, Told}
+use Rattle.abt_model.specs.declared.outcome.Heard.TheVariants.{Raised, Refused}
 use Rattle.abt_model.specs.declared.outcome.Outcome.{Outcome}
-use Rattle.abt_model.specs.declared.outcome.Outcome.TheVariants.{Started, Asked, AskRefused, Crashed, Emitted, Arrived, Requested, Turned, Answered, Told as HasTold, NotEnabled}
+use Rattle.abt_model.specs.declared.outcome.Outcome.TheVariants.{Started, Asked, AskRefused, Crashed, Emitted, Arrived, Requested, Turned, Answered, Told as HasTold}
 use Rattle.abt_model.specs.Conns.{conn_at}
 use Rattle.abt_model.specs.Decision.{request_of, answer_to}
-use Rattle.abt_model.specs.Outcomes.{conn_of, outcome_of, facts_added, after_event, request_adds, answer_adds}
+use Rattle.abt_model.specs.Outcomes.{conn_of, outcome_of, facts_added, after_event}
 use Rattle.abt_model.specs.Past.{facts_of}
 use Rattle.abt_model.specs.Reserved.{hop_of}
 use Rattle.abt_model.proofs.Served.{conn_within}
 use Rattle.abt_model.proofs.Worlds.{cases_option, facts_of-own, facts_of-other}
+use Rattle.abt_model.specs.PortTable.{hop_visited}
 use Rattle.abt_world.proofs.Serving.{hop_at}
 use Rattle.abt_journal.specs.declared.input.PortInput.{PortInput}
-use Rattle.abt_journal.specs.declared.input.PortInput.TheVariants.{Request as RequestIn, Answer as AnswerIn, Arrive as ArriveIn}
+use Rattle.abt_journal.specs.declared.input.PortInput.TheVariants.{Request as RequestIn, Answer as AnswerIn}
 use Rattle.abt_journal.specs.declared.input.PortReply.{PortReply}
-use Rattle.abt_journal.specs.declared.input.PortReply.TheVariants.{Requested as RequestedOut, Answered as AnsweredOut, Arrived as ArrivedOut}
-use Rattle.abt_source_journal.specs.declared.entry.SourceEntry.{SourceEntry}
-use Rattle.abt_woven.specs.Projections.{Step, Visit, reply_of, hop_met, input_of, past_of, visit, step_at, steps_on, entries_on}
+use Rattle.abt_journal.specs.declared.input.PortReply.TheVariants.{Requested as RequestedOut, Answered as AnsweredOut}
+use Rattle.abt_woven.specs.Projections.{Step, Visit, reply_of, input_of, past_of, visit, step_at, steps_on, entries_on}
 use Rattle.abt_woven.specs.Stuck.{IsBeginning}
 use Rattle.abt_weave.proofs.Candidates.{and_both}
 use Rattle.abt_weave.proofs.Growth.{steps_none, steps_other}
@@ -116,33 +116,18 @@ pub done_by : (test : Fact → Bool) → IsHopTest test → (facts : List Fact) 
 done_by test is facts (Request c hop seq) (Requested Pass) h = inl (record { conn = c; hop = hop; seq = seq; event_is = refl; outcome_is = refl; passes = before_delivery test is (Passed seq hop) (hop == 1) seq h })
 done_by test is facts (Request c hop seq) (Requested (Refuse answer)) h = inr (inl (record { conn = c; hop = hop; seq = seq; answer = answer; event_is = refl; outcome_is = refl; passes = before_delivery test is (Shut seq hop) (hop == 1) seq h }))
 done_by test is facts (Request c hop seq) (Requested (Drop cause)) h = delivery_not test is (hop == 1) seq h
-done_by test is facts (Request c hop seq) other h = absurd (false≢true h)
 done_by test is facts (Answer c hop seq true) (Answered PassBack) h = inr (inr (inl (record { conn = c; hop = hop; seq = seq; event_is = refl; outcome_is = refl; passes = one_fact test (FactBack seq hop) h })))
 done_by test is facts (Answer c hop seq false) (Answered PassBack) h = inr (inr (inr (record { conn = c; hop = hop; seq = seq; event_is = refl; outcome_is = refl; passes = one_fact test (Shut seq hop) h })))
-done_by test is facts (Answer c hop seq true) (Answered (DropBack cause)) h = absurd (false≢true h)
-done_by test is facts (Answer c hop seq false) (Answered (DropBack cause)) h = absurd (false≢true h)
-done_by test is facts (Answer c hop seq granted) other h = absurd (false≢true h)
 done_by test is facts (Start c now) Started h = one_not test _ (is.started now _) h
-done_by test is facts (Start c now) other h = absurd (false≢true h)
 done_by test is facts (Ask c rate plan) (Asked request) h = two_not test _ _ (is.asked request.seq request.floor request.ask _) (is.stored _) h
 done_by test is facts (Ask c rate FailsAfter) (AskRefused Keep) h = one_not test _ (is.stored _) h
-done_by test is facts (Ask c rate FailsAfter) (AskRefused SeqExhausted) h = absurd (false≢true h)
-done_by test is facts (Ask c rate Works) (AskRefused fault) h = absurd (false≢true h)
-done_by test is facts (Ask c rate FailsBefore) (AskRefused fault) h = absurd (false≢true h)
-done_by test is facts (Ask c rate plan) other h = absurd (false≢true h)
-done_by test is facts (Again c) other h = absurd (false≢true h)
 done_by test is facts (Crash c) Crashed h = one_not test _ is.crashed h
-done_by test is facts (Crash c) other h = absurd (false≢true h)
 done_by test is facts (Emit c now) (Emitted cell next) h = one_not test _ (is.emitted cell now _) h
-done_by test is facts (Emit c now) other h = absurd (false≢true h)
 done_by test is facts (Arrive c cell at) (Arrived verdict) h = one_not test _ (is.arrived cell at _ verdict) h
-done_by test is facts (Arrive c cell at) other h = absurd (false≢true h)
 done_by test is facts (Turn c seq) Turned h = one_not test _ (is.turned seq) h
-done_by test is facts (Turn c seq) other h = absurd (false≢true h)
 done_by test is facts (Told c seq granted) (HasTold Raised) h = one_not test _ (is.heard seq true) h
 done_by test is facts (Told c seq granted) (HasTold Refused) h = one_not test _ (is.heard seq false) h
-done_by test is facts (Told c seq granted) (HasTold Ignored) h = absurd (false≢true h)
-done_by test is facts (Told c seq granted) other h = absurd (false≢true h)
+done_by test is facts event outcome h = absurd (false≢true h)
 
 -- a step that a fact leaves
 abbrev pub Leaving : Type 1
@@ -283,7 +268,7 @@ own_hop net c conn j its =
 
 -- what comes to the port of that hop, and is about the connection, comes to that hop
 located : (net : Topology) (c : ℕ) (conn : Conn) (j : ℕ) → IsHopOf net c conn j → (past : List ConnectionFact) (event : Event) (v : Visit) → (parts : IsVisit net past event v) → v.port ≡ slice_index conn.path (j - 1) → parts.conn.vc ≡ conn.vc →
-    (conn_of event ≡ c) × (hop_met event ≡ j)
+    (conn_of event ≡ c) × (hop_visited event ≡ j)
 located net c conn j its past event v parts here channel =
     let whose = own_number net its.rules (conn_of event) c parts.conn conn parts.known its.known channel in
     let same : parts.conn ≡ conn = some_same (sym parts.known ∙ ap (conn_at net) whose ∙ its.known) in
@@ -303,7 +288,7 @@ request_visit : (net : Topology) (past : List ConnectionFact) (c : ℕ) (conn : 
 request_visit net past c conn event d hop seq onward known whose is said =
     visit_made net past event conn (RequestIn (request_of conn.vc (facts_of (conn_of event) past) seq)) (RequestedOut onward) (ap (conn_at net) whose ∙ known)
     (ap (input_of conn.vc (facts_of (conn_of event) past)) is) (ap reply_of said)
-    ∙ ap (λ e. Some (let w : Visit = record { port = slice_index conn.path (hop_met e - 1); input = RequestIn (request_of conn.vc (facts_of (conn_of event) past) seq); reply = RequestedOut onward } in w)) is
+    ∙ ap (λ e. Some (let w : Visit = record { port = slice_index conn.path (hop_visited e - 1); input = RequestIn (request_of conn.vc (facts_of (conn_of event) past) seq); reply = RequestedOut onward } in w)) is
 
 answer_visit : (net : Topology) (past : List ConnectionFact) (c : ℕ) (conn : Conn) (event : Event) (d hop seq : ℕ) (granted : Bool) (back : Back) → conn_at net c ≡ Some conn → conn_of event ≡ c → event ≡ Answer d hop seq granted →
     outcome_of net past event ≡ Answered back →
@@ -311,7 +296,7 @@ answer_visit : (net : Topology) (past : List ConnectionFact) (c : ℕ) (conn : C
 answer_visit net past c conn event d hop seq granted back known whose is said =
     visit_made net past event conn (AnswerIn (answer_to (request_of conn.vc (facts_of (conn_of event) past) seq) granted)) (AnsweredOut back) (ap (conn_at net) whose ∙ known)
     (ap (input_of conn.vc (facts_of (conn_of event) past)) is) (ap reply_of said)
-    ∙ ap (λ e. Some (let w : Visit = record { port = slice_index conn.path (hop_met e - 1); input = AnswerIn (answer_to (request_of conn.vc (facts_of (conn_of event) past) seq) granted); reply = AnsweredOut back } in w)) is
+    ∙ ap (λ e. Some (let w : Visit = record { port = slice_index conn.path (hop_visited e - 1); input = AnswerIn (answer_to (request_of conn.vc (facts_of (conn_of event) past) seq) granted); reply = AnsweredOut back } in w)) is
 
 quiet_passes : (s j : ℕ) → IsHopTest (is_pass_of s j)
 quiet_passes s j = record { started = λ a b. refl; crashed = refl; stored = λ a. refl; asked = λ a b c d. refl; heard = λ a b. refl; emitted = λ a b c. refl; delivered = λ a. refl; turned = λ a. refl; arrived = λ a b c d. refl }
@@ -345,7 +330,7 @@ pass_left net c conn s j its = record {
       let its_event = request_event parts.conn.vc (facts_of (conn_of event) past) event m.0 (parts.input ∙ ap (λ (i : PortInput). Some i) m.1) in
       let at = located net c conn j its past event v parts here (its_event.3 ∙ m.2) in
       let said = requested_is (outcome_of net past event) Pass (parts.reply ∙ ap (λ (r : PortReply). Some r) m.4) in
-      let hop : its_event.1 ≡ j = ap hop_met (sym its_event.2) ∙ at.1 in (
+      let hop : its_event.1 ≡ j = ap hop_visited (sym its_event.2) ∙ at.1 in (
         at.0,
         ap (λ e. list_any (is_pass_of s j) (facts_added (facts_of c past) e (outcome_of net past event))) its_event.2
             ∙ ap (λ o. list_any (is_pass_of s j) (facts_added (facts_of c past) (Request its_event.0 its_event.1 m.0.seq) o)) said
@@ -379,7 +364,7 @@ back_left net c conn s j its = record {
       let its_event = answer_event parts.conn.vc (facts_of (conn_of event) past) event m.0 (parts.input ∙ ap (λ (i : PortInput). Some i) m.1) in
       let at = located net c conn j its past event v parts here (its_event.3 ∙ m.2) in
       let said = answered_is (outcome_of net past event) PassBack (parts.reply ∙ ap (λ (r : PortReply). Some r) m.5) in
-      let hop : its_event.1 ≡ j = ap hop_met (sym its_event.2) ∙ at.1 in (
+      let hop : its_event.1 ≡ j = ap hop_visited (sym its_event.2) ∙ at.1 in (
         at.0,
         ap (λ e. list_any (is_back_of s j) (facts_added (facts_of c past) e (outcome_of net past event))) its_event.2
             ∙ ap (λ g. list_any (is_back_of s j) (facts_added (facts_of c past) (Answer its_event.0 its_event.1 m.0.terms.seq g) (outcome_of net past event))) m.4
@@ -428,7 +413,7 @@ shut_left net c conn s j its = record {
         let its_event = request_event parts.conn.vc (facts_of (conn_of event) past) event m.0 (parts.input ∙ ap (λ (i : PortInput). Some i) m.2) in
         let at = located net c conn j its past event v parts here (its_event.3 ∙ m.3) in
         let said = requested_is (outcome_of net past event) (Refuse m.1) (parts.reply ∙ ap (λ (r : PortReply). Some r) m.5) in
-        let hop : its_event.1 ≡ j = ap hop_met (sym its_event.2) ∙ at.1 in (
+        let hop : its_event.1 ≡ j = ap hop_visited (sym its_event.2) ∙ at.1 in (
           at.0,
           ap (λ e. list_any (is_shut_of s j) (facts_added (facts_of c past) e (outcome_of net past event))) its_event.2
               ∙ ap (λ o. list_any (is_shut_of s j) (facts_added (facts_of c past) (Request its_event.0 its_event.1 m.0.seq) o)) said
@@ -439,7 +424,7 @@ shut_left net c conn s j its = record {
         let its_event = answer_event parts.conn.vc (facts_of (conn_of event) past) event m.0 (parts.input ∙ ap (λ (i : PortInput). Some i) m.1) in
         let at = located net c conn j its past event v parts here (its_event.3 ∙ m.2) in
         let said = answered_is (outcome_of net past event) PassBack (parts.reply ∙ ap (λ (r : PortReply). Some r) m.5) in
-        let hop : its_event.1 ≡ j = ap hop_met (sym its_event.2) ∙ at.1 in (
+        let hop : its_event.1 ≡ j = ap hop_visited (sym its_event.2) ∙ at.1 in (
           at.0,
           ap (λ e. list_any (is_shut_of s j) (facts_added (facts_of c past) e (outcome_of net past event))) its_event.2
               ∙ ap (λ g. list_any (is_shut_of s j) (facts_added (facts_of c past) (Answer its_event.0 its_event.1 m.0.terms.seq g) (outcome_of net past event))) m.4

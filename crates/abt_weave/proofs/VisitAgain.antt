@@ -1,7 +1,7 @@
 -- What came to a port where the journals stood so comes there again, and is replied to the same.
-use Rattle.std.proofs.Common.{◌≡◌, ◌≢◌, ℕ, ◌+◌, ◌-◌, ◌<◌, ◌≤◌, inl, inr, refl, ap, Bool, true, false, List, [], ◌∷◌, ◌++◌, length, ◌∙◌, sym, subst, Option, None, Some, arith}
-use Rattle.std.specs.Prelude.{◌==◌, ◌&&◌, not, nat_lt, nat_le, if◌then◌else◌, slice_get, slice_index, max, All}
-use Rattle.std.proofs.lemmas.Bool.{false≢true, cond-true, cond-false, cases_Bool, cases_eq, eq-eqb, ne_eqb, eqb-true}
+use Rattle.std.proofs.Common.{◌≡◌, ℕ, ◌+◌, ◌-◌, ◌<◌, ◌≤◌, inl, inr, refl, ap, Bool, true, false, List, [], length, ◌∙◌, sym, subst, Some, arith}
+use Rattle.std.specs.Prelude.{◌&&◌, not, nat_lt, nat_le, if◌then◌else◌, slice_index, max, All}
+use Rattle.std.proofs.lemmas.Bool.{false≢true, cond-true, cond-false, cases_eq, eq-eqb, ne_eqb}
 use Rattle.std.proofs.lemmas.Option.{slice_get_within}
 use Rattle.abt_cell.specs.Channel.{Channel}
 use Rattle.abt_cell.specs.Message.{Terms}
@@ -15,33 +15,28 @@ use Rattle.abt_facts.specs.Requests.{was_asked, floor_of, ask_of}
 use Rattle.abt_facts.specs.Sent.{request_is_at, answer_is_at, was_passed}
 use Rattle.abt_facts.specs.Cells.{emitted_of, moment_of, after_last_of, delivered_mark_of, last_arrival_of, fence_of, is_in_time, verdict_at}
 use Rattle.abt_facts.specs.Hop.{held_of}
-use Rattle.abt_model.specs.declared.connection_fact.ConnectionFact.{ConnectionFact}
 use Rattle.abt_model.specs.declared.event.Event.{Event}
 use Rattle.abt_model.specs.declared.event.Event.TheVariants.{Arrive, Request, Answer}
 use Rattle.abt_model.specs.declared.outcome.Cause.TheVariants.{ClockBack, NotSent, Unknown, Fenced, Delay}
 use Rattle.abt_model.specs.declared.outcome.Outcome.{Outcome}
-use Rattle.abt_model.specs.declared.outcome.Outcome.TheVariants.{Requested, Answered, Arrived, NotEnabled}
-use Rattle.abt_model.specs.Answers.{arrive_answer, is_hop, answer_by}
+use Rattle.abt_model.specs.declared.outcome.Outcome.TheVariants.{Requested, Arrived, NotEnabled}
+use Rattle.abt_model.specs.Answers.{arrive_answer, is_hop}
 use Rattle.abt_model.specs.Conns.{conn_at}
-use Rattle.abt_model.specs.Decision.{request_of, answer_to, request_decision, answer_decision}
+use Rattle.abt_model.specs.Decision.{request_of, answer_to}
 use Rattle.abt_model.specs.Events.{AsksRate}
-use Rattle.abt_model.specs.Outcomes.{conn_of, port_of, outcome_of}
+use Rattle.abt_model.specs.Outcomes.{conn_of, outcome_of}
 use Rattle.abt_model.specs.Past.{facts_of}
-use Rattle.abt_model.specs.PortTable.{port_table}
-use Rattle.abt_model.specs.Reserved.{reserved_on}
+use Rattle.abt_model.specs.PortTable.{hop_visited, port_table}
 use Rattle.abt_model.proofs.Chain.{at_asked, passed_asked}
 use Rattle.abt_model.proofs.Drops.{answer_passed}
-use Rattle.abt_model.proofs.Lawful.{route_of, IsLawful, IsAtHop}
-use Rattle.abt_model.proofs.Served.{conn_within}
+use Rattle.abt_model.proofs.Lawful.{route_of}
 use Rattle.abt_model.proofs.Steps.{is_hop_tells, request_at_tells}
 use Rattle.abt_model.proofs.Worlds.{outcome_of-known, lawful_at}
 use Rattle.abt_journal.specs.declared.input.PortInput.{PortInput}
-use Rattle.abt_journal.specs.declared.input.PortInput.TheVariants.{Request as RequestIn, Answer as AnswerIn, Arrive as ArriveIn}
+use Rattle.abt_journal.specs.declared.input.PortInput.TheVariants.{Request as RequestIn, Answer as AnswerIn}
 use Rattle.abt_journal.specs.declared.input.PortReply.{PortReply}
 use Rattle.abt_journal.specs.Replay.{reply_by}
-use Rattle.abt_source_journal.specs.declared.entry.SourceEntry.{SourceEntry}
-use Rattle.abt_woven.specs.Projections.{Step, Visit, is_enabled, reply_of, hop_met, input_of, past_of, visit, steps_on, entry_made, entries_on}
-use Rattle.abt_weave.specs.Comes.{entry_beside}
+use Rattle.abt_woven.specs.Projections.{Visit, is_enabled, input_of, past_of, visit, steps_on, entry_made, entries_on}
 use Rattle.abt_weave.proofs.Asks.{AreTerms, asked_below, terms_below}
 use Rattle.abt_weave.proofs.LineFacts.{line, emitted_of-line, moment_of-line, after_last_of-line, last_arrival_of-line, delivered_mark_of-line}
 use Rattle.abt_weave.proofs.LineReplays.{lined, line_replayed}
@@ -84,13 +79,13 @@ comes_again net less more both event v parts is same brings on =
     let found = has_reply net past event conn v.input parts.known (first_hop net both.rules (conn_of event) conn parts.known) brings on in
     let made = visit_made net past event conn v.input found.reply parts.known brings found.is in
     let one = (event_made net before both.rules (past_lawful net less both.one) event v is).0 in
-    let other = (event_made net past both.rules (past_lawful net more both.other) event (record { port = slice_index conn.path (hop_met event - 1); input = v.input; reply = found.reply }) made).0 in
+    let other = (event_made net past both.rules (past_lawful net more both.other) event (record { port = slice_index conn.path (hop_visited event - 1); input = v.input; reply = found.reply }) made).0 in
     let reply : found.reply ≡ v.reply =
     other ∙ ap (λ p. reply_by (port_table net past p) v.input) parts.port ∙ ap (λ (t : Table). reply_by t v.input) (sym (tables_same net less more both v.port same)) ∙ sym one in
     let n = length (steps_on net v.port less) in
     let enabled = reply_enabled (outcome_of net before event) v.reply parts.reply in
     record {
-      visits = made ∙ ap (λ (w : Visit). Some w) (visit_made_of (slice_index conn.path (hop_met event - 1)) v.port v.input v.input found.reply v.reply parts.port refl reply);
+      visits = made ∙ ap (λ (w : Visit). Some w) (visit_made_of (slice_index conn.path (hop_visited event - 1)) v.port v.input v.input found.reply v.reply parts.port refl reply);
       beside = made_beside net more event v.port n conn (outcome_of net past event) v.input (facts_of (conn_of event) past) parts.known parts.port (ap (λ l. length l) same) brings on
           ∙ sym (made_beside net less event v.port n conn (outcome_of net before event) v.input (facts_of (conn_of event) before) parts.known parts.port refl parts.input enabled);
     }

@@ -2,12 +2,18 @@
 use Rattle.std.specs.Prelude.{ℕ, ◌==◌, ◌&&◌, ◌||◌, not, Bool, true, false, List, if◌then◌else◌, Option, None, Some, option_map}
 use Rattle.abt_cell.specs.Channel.{Channel}
 use Rattle.abt_model.specs.declared.event.Event.{Event}
-use Rattle.abt_model.specs.declared.event.Event.TheVariants.{Start, Ask, Again, Crash, Emit, Arrive, Request, Turn, Answer, Told}
+use Rattle.abt_model.specs.declared.event.Event.TheVariants.{Arrive, Request, Answer}
+use Rattle.abt_model.specs.declared.target.HopEvent.{HopEvent}
+use Rattle.abt_model.specs.declared.target.HopEvent.TheVariants as hop
+use Rattle.abt_model.specs.declared.target.Target.{Target}
+use Rattle.abt_model.specs.declared.target.Target.TheVariants.{Source, Hop}
+use Rattle.abt_model.specs.Targets.{target_of}
 use Rattle.abt_journal.specs.declared.input.PortInput.{PortInput}
 use Rattle.abt_journal.specs.declared.input.PortInput.TheVariants.{Request as RequestIn, Answer as AnswerIn, Arrive as ArriveIn}
 use Rattle.abt_source_journal.specs.declared.entry.SourceEntry.{SourceEntry}
-use Rattle.abt_source_journal.specs.declared.entry.SourceEntry.TheVariants.{Did, Sent, Arrived as ArrivedAt}
+use Rattle.abt_source_journal.specs.declared.entry.SourceEntry.TheVariants.{Sent, Arrived as ArrivedAt}
 use Rattle.abt_woven.specs.Asked.{floor_in, ask_in}
+use Rattle.abt_woven.specs.Projections.{is_told_by}
 
 -- whether the entry says that this step was sent, and which cell it says arrived there
 abbrev pub is_sent_at : (place : ℕ) → Option SourceEntry → Bool
@@ -36,21 +42,29 @@ channel_of (AnswerIn answer) = answer.terms.vc
 channel_of (ArriveIn vc at) = vc
 
 -- whether an event is a command of this source, or an answer that it is told
+abbrev pub is_at_source : ℕ → Target → Bool
+is_at_source c (Source d event) = d == c
+is_at_source c other = false
+
 abbrev pub is_own_of : ℕ → Event → Bool
-is_own_of c (Start d now) = d == c
-is_own_of c (Ask d rate plan) = d == c
-is_own_of c (Again d) = d == c
-is_own_of c (Crash d) = d == c
-is_own_of c (Emit d now) = d == c
-is_own_of c (Told d seq granted) = d == c
-is_own_of c event = false
+is_own_of c event = is_at_source c (target_of event)
+
+abbrev pub is_told_in : Target → Bool
+is_told_in (Source c event) = is_told_by event
+is_told_in other = false
 
 abbrev pub is_told : Event → Bool
-is_told (Told c seq granted) = true
-is_told event = false
+is_told event = is_told_in (target_of event)
 
 -- whether an event makes a step of its first port stand in its source's journal
+abbrev pub is_beside_by : HopEvent → Bool
+is_beside_by (hop.Arrive cell at) = true
+is_beside_by (hop.Request j seq) = j == 1
+is_beside_by (hop.Answer j seq granted) = false
+
+abbrev pub is_beside_in : Target → Bool
+is_beside_in (Hop c event) = is_beside_by event
+is_beside_in other = false
+
 abbrev pub is_beside : Event → Bool
-is_beside (Request c hop seq) = hop == 1
-is_beside (Arrive c cell at) = true
-is_beside event = false
+is_beside event = is_beside_in (target_of event)

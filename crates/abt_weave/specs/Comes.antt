@@ -1,42 +1,48 @@
 -- The event that a port's next entry can be.
-use Rattle.std.specs.Prelude.{◌≡◌, ℕ, ◌+◌, ◌-◌, ◌<◌, ◌==◌, true, List, length, reverse, slice_index, Option, None, Some, if◌then◌else◌}
+use Rattle.std.specs.Prelude.{◌≡◌, ℕ, ◌+◌, ◌-◌, ◌<◌, true, List, length, reverse, slice_index, Option, None, Some, if◌then◌else◌}
 use Rattle.abt_cell.specs.Channel.{Channel}
+use Rattle.abt_cell.specs.Message.{Terms}
 use Rattle.abt_net.specs.declared.conn.Conn.{Conn}
 use Rattle.abt_net.specs.Topology.{Topology, IsWithinRules}
 use Rattle.abt_model.specs.declared.event.Event.{Event}
-use Rattle.abt_model.specs.declared.event.Event.TheVariants.{Start, Ask, Again, Crash, Emit, Arrive, Request, Turn, Answer, Told}
+use Rattle.abt_model.specs.declared.event.Event.TheVariants.{Turn, Answer}
 use Rattle.abt_model.specs.Answers.{is_hop}
 use Rattle.abt_model.specs.Conns.{conn_at}
+use Rattle.abt_model.specs.declared.target.Target.{Target}
+use Rattle.abt_model.specs.declared.target.Target.TheVariants.{Hop}
 use Rattle.abt_model.specs.Outcomes.{conn_of}
+use Rattle.abt_model.specs.PortTable.{hop_visited}
+use Rattle.abt_model.specs.Targets.{target_of}
 use Rattle.abt_journal.specs.declared.input.PortInput.{PortInput}
-use Rattle.abt_journal.specs.declared.input.PortInput.TheVariants.{Request as RequestIn, Answer as AnswerIn, Arrive as ArriveIn}
 use Rattle.abt_journal.specs.declared.input.PortReply.{PortReply}
 use Rattle.abt_source_journal.specs.declared.entry.SourceEntry.{SourceEntry}
-use Rattle.abt_source_journal.specs.declared.entry.SourceEntry.TheVariants.{Sent, Arrived as ArrivedAt}
 use Rattle.abt_woven.specs.Asked.{floor_in, ask_in}
-use Rattle.abt_woven.specs.Projections.{Step, hop_met, steps_on, entries_on}
+use Rattle.abt_woven.specs.Projections.{input_in, entry_by, steps_on, entries_on}
 use Rattle.abt_woven.specs.Stuck.{Journaled, next_step, next_entry}
 use Rattle.abt_weave.specs.Candidates.{is_beside}
 
--- what an event brings to a port, where its source has done this, the newest first
+-- the request of a number, where the source has done this, the newest first
+abbrev pub request_told : Channel → List SourceEntry → ℕ → Terms
+request_told vc placed seq = record { vc = vc; seq = seq; floor = floor_in placed seq; ask = ask_in placed seq }
+
+-- what an event brings to a port then
 abbrev pub input_told : Channel → List SourceEntry → Event → Option PortInput
-input_told vc placed (Request c hop seq) = Some (RequestIn (record { vc = vc; seq = seq; floor = floor_in placed seq; ask = ask_in placed seq }))
-input_told vc placed (Answer c hop seq granted) = Some (AnswerIn (record { terms = record { vc = vc; seq = seq; floor = floor_in placed seq; ask = ask_in placed seq }; granted = granted }))
-input_told vc placed (Arrive c cell at) = Some (ArriveIn vc at)
-input_told vc placed event = None
+input_told vc placed event = input_in vc (request_told vc placed) (target_of event)
 
 -- what stands beside a step of this place at the source, if the event happens
+abbrev pub entry_beside_in : (place : ℕ) → Target → Option SourceEntry
+entry_beside_in place (Hop c event) = entry_by place event true
+entry_beside_in place other = None
+
 abbrev pub entry_beside : (place : ℕ) → Event → Option SourceEntry
-entry_beside place (Request c hop seq) = if hop == 1 then Some (Sent place) else None
-entry_beside place (Arrive c cell at) = Some (ArrivedAt cell place)
-entry_beside place event = None
+entry_beside place event = entry_beside_in place (target_of event)
 
 -- An event comes to a port with this step, whatever it answers, and what it is to its source is the next entry there.
 pub record Comes (net : Topology) (journals : Journaled) (earlier : List Event) (p place : ℕ) (input : PortInput) (event : Event) : Type 0 where
   pub conn : Conn
   pub known : conn_at net (conn_of event) ≡ Some conn
-  pub within : is_hop (length conn.path) (hop_met event) ≡ true
-  pub port : slice_index conn.path (hop_met event - 1) ≡ p
+  pub within : is_hop (length conn.path) (hop_visited event) ≡ true
+  pub port : slice_index conn.path (hop_visited event - 1) ≡ p
   pub brings : input_told conn.vc (reverse (entries_on net (conn_of event) earlier)) event ≡ Some input
   pub at : place ≡ length (steps_on net p earlier)
   pub beside : (x : SourceEntry) → entry_beside place event ≡ Some x → next_entry net journals earlier (conn_of event) ≡ Some x

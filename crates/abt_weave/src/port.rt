@@ -17,7 +17,7 @@ use crate::given::Given;
 use crate::look::Look;
 use crate::trying::{Tried, try_turn, try_visit};
 use abt_journal::Entry;
-use abt_model::Event;
+use abt_model::{Event, HopEvent, Target};
 use abt_source_journal::SourceEntry;
 use std::alloc::{AllocError, Global};
 
@@ -68,13 +68,23 @@ fn candidate(given: &Given, board: &Board, port: u16, place: usize, entry: &Entr
     })
 }
 
+// Whether what comes to a hop makes its step stand in its source's journal.
+fn is_beside_by(event: &HopEvent) -> bool
+    ensures { result ≡ candidates.is_beside_by event.now }
+{
+    match *event {
+        HopEvent::Arrive { .. } => true,
+        HopEvent::Request { hop, .. } => hop == 1,
+        HopEvent::Answer { .. } => false,
+    }
+}
+
 fn is_beside(event: &Event) -> bool
     ensures { result ≡ candidates.is_beside event.now }
 {
-    match *event {
-        Event::Request { hop, .. } => hop == 1,
-        Event::Arrive { .. } => true,
-        _ => false,
+    match event.target() {
+        Target::Hop { event, .. } => is_beside_by(&event),
+        Target::Source { .. } | Target::End { .. } => false,
     }
 }
 

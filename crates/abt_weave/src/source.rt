@@ -7,7 +7,7 @@ use crate::board::{Board, world_after};
 use crate::given::Given;
 use crate::look::Look;
 use crate::trying::{Tried, try_own};
-use abt_model::Event;
+use abt_model::{Event, Target};
 use abt_source_journal::SourceEntry;
 use std::alloc::{AllocError, Global};
 
@@ -15,15 +15,7 @@ use std::alloc::{AllocError, Global};
 fn is_own_of(event: &Event, source: u16) -> bool
     ensures { result ≡ candidates.is_own_of source event.now }
 {
-    match *event {
-        Event::Start { conn, .. }
-        | Event::Ask { conn, .. }
-        | Event::Again { conn }
-        | Event::Crash { conn }
-        | Event::Emit { conn, .. }
-        | Event::Told { conn, .. } => conn == source,
-        _ => false,
-    }
+    matches!(event.target(), Target::Source { conn, .. } if conn == source)
 }
 
 /// Places the next entry of a source, if it is something that the source did and that it can have done now.

@@ -17,9 +17,12 @@ use Rattle.abt_model.specs.declared.command.SourceCommand.TheVariants as command
 use Rattle.abt_model.specs.declared.connection_fact.ConnectionFact.{ConnectionFact}
 use Rattle.abt_model.specs.declared.event.Event.{Event}
 use Rattle.abt_model.specs.declared.event.Event.TheVariants.{Arrive, Request, Turn, Answer}
+use Rattle.abt_model.specs.declared.target.HopEvent.{HopEvent}
+use Rattle.abt_model.specs.declared.target.HopEvent.TheVariants as hop
 use Rattle.abt_model.specs.declared.outcome.Outcome.{Outcome}
 use Rattle.abt_model.specs.declared.outcome.Outcome.TheVariants.{Arrived, Requested, Turned, Answered}
 use Rattle.abt_model.specs.Events.{AsksRate}
+use Rattle.abt_model.specs.Targets.{event_at_hop}
 use Rattle.abt_model.specs.Past.{facts_of}
 use Rattle.abt_model.specs.Reserved.{reserved_on}
 use Rattle.abt_model.specs.Answers.{answer_by}
@@ -31,12 +34,6 @@ use Rattle.abt_actor.specs.Carrying.{Carries}
 use Rattle.abt_actor.specs.Commands.{event_of, command_answer, command_adds}
 use Rattle.abt_world.specs.Steps.{IsConnAt, ArePorts, Happens}
 use Rattle.abt_world.proofs.Sendings.{happens, all_lawful}
-
--- what an event makes of the ports and of the actor of its connection
-abbrev pub Takes : Topology → List ConnectionFact → Conn → List Fact → Event → (ports after : List Table) → (actor new : ActorView) → Outcome → List Fact → Type 0
-Takes net past conn facts e ports after actor new outcome added =
-    AsksRate e → IsConnAt net past (conn_of e) conn facts → ArePorts net past ports → actor ≡ actor_of conn.vc facts →
-    Happens net past e outcome added × ArePorts net (after_event net past e) after × (new ≡ actor_of conn.vc (added ++ facts))
 
 -- an event that comes to no port
 pub tables_kept :
@@ -90,13 +87,13 @@ delivery_kind hop seq = elim (cases_Bool (hop == 1)) [
   | inr later ↦ subst AreOfHops (sym (cond-false _ _ _ later)) tt
 ]
 
-pub request_kind : (fs : List Fact) (c hop seq : ℕ) (o : Outcome) → AreOfHops (facts_added fs (Request c hop seq) o)
+request_kind : (fs : List Fact) (c hop seq : ℕ) (o : Outcome) → AreOfHops (facts_added fs (Request c hop seq) o)
 request_kind fs c hop seq (Requested Pass) = (tt, delivery_kind hop seq)
 request_kind fs c hop seq (Requested (Refuse answer)) = (tt, delivery_kind hop seq)
 request_kind fs c hop seq (Requested (Drop cause)) = delivery_kind hop seq
 request_kind fs c hop seq other = tt
 
-pub answer_kind : (fs : List Fact) (c hop seq : ℕ) (granted : Bool) (o : Outcome) → AreOfHops (facts_added fs (Answer c hop seq granted) o)
+answer_kind : (fs : List Fact) (c hop seq : ℕ) (granted : Bool) (o : Outcome) → AreOfHops (facts_added fs (Answer c hop seq granted) o)
 answer_kind fs c hop seq true (Answered PassBack) = (tt, tt)
 answer_kind fs c hop seq false (Answered PassBack) = (tt, tt)
 answer_kind fs c hop seq granted (Answered (DropBack cause)) = tt
@@ -106,9 +103,14 @@ pub turn_kind : (fs : List Fact) (c seq : ℕ) (o : Outcome) → AreOfHops (fact
 turn_kind fs c seq Turned = (tt, tt)
 turn_kind fs c seq other = tt
 
-pub arrive_kind : (fs : List Fact) (c cell at : ℕ) (o : Outcome) → AreOfHops (facts_added fs (Arrive c cell at) o)
+arrive_kind : (fs : List Fact) (c cell at : ℕ) (o : Outcome) → AreOfHops (facts_added fs (Arrive c cell at) o)
 arrive_kind fs c cell at (Arrived verdict) = (tt, tt)
 arrive_kind fs c cell at other = tt
+
+pub hop_kind : (fs : List Fact) (c : ℕ) (x : HopEvent) (o : Outcome) → AreOfHops (facts_added fs (event_at_hop c x) o)
+hop_kind fs c (hop.Arrive cell at) o = arrive_kind fs c cell at o
+hop_kind fs c (hop.Request j seq) o = request_kind fs c j seq o
+hop_kind fs c (hop.Answer j seq granted) o = answer_kind fs c j seq granted o
 
 -- an event whose facts say nothing of the source leaves the actor
 pub actor_left :
@@ -138,23 +140,20 @@ own_adds facts c command.Crash outcome is = refl
 own_adds facts c (command.Emit now) outcome is = refl
 own_adds facts c (command.Told answer) outcome is = absurd is
 
-own_conn : (c : ℕ) (own : SourceCommand) → IsOwn own → (conn_of (event_of c own) ≡ c) × (hop_visited (event_of c own) ≡ 0)
-own_conn c (command.Start now) is = (refl, refl)
-own_conn c (command.Ask rate plan) is = (refl, refl)
-own_conn c command.Again is = (refl, refl)
-own_conn c command.Crash is = (refl, refl)
-own_conn c (command.Emit now) is = (refl, refl)
+own_conn : (c : ℕ) (own : SourceCommand) → IsOwn own → conn_of (event_of c own) ≡ c
 own_conn c (command.Told answer) is = absurd is
+own_conn c other is = refl
 
-pub command_takes :
-    (net : Topology) (past : List ConnectionFact) (conn : Conn) (facts : List Fact) (c : ℕ) (own : SourceCommand) (ports : List Table) (actor new : ActorView) (outcome : Outcome) (added : List Fact) →
-    IsOwn own → Carries actor own outcome added new → Takes net past conn facts (event_of c own) ports ports actor new outcome added
-command_takes net past conn facts c own ports actor new outcome added is_own carries asks at are is =
+pub command_happens :
+    (net : Topology) (past : List ConnectionFact) (conn : Conn) (facts : List Fact) (c : ℕ) (own : SourceCommand) (actor new : ActorView) (outcome : Outcome) (added : List Fact) →
+    IsOwn own → Carries actor own outcome added new → IsConnAt net past c conn facts → actor ≡ actor_of conn.vc facts →
+    Happens net past (event_of c own) outcome added × (new ≡ actor_of conn.vc (added ++ facts))
+command_happens net past conn facts c own actor new outcome added is_own carries at is =
     let e = event_of c own in
+    let here = subst (λ (n : ℕ). IsConnAt net past n conn facts) (sym (own_conn c own is_own)) at in
     let carried = carries conn.vc facts is in (
-      happens net past e conn facts at outcome added
+      happens net past e conn facts here outcome added
           (carried.answer ∙ own_answer conn (reserved_on net past (port_of conn.path e)) (slice_index net.capacities (port_of conn.path e)) c facts own is_own)
           (carried.adds ∙ own_adds facts c own outcome is_own),
-      tables_kept net past e conn facts ports asks at are (own_conn c own is_own).1,
       carried.becomes,
     )

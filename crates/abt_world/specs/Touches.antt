@@ -5,15 +5,18 @@ use Rattle.abt_net.specs.declared.conn.Conn.{Conn}
 use Rattle.abt_node.specs.Table.{Table}
 use Rattle.abt_safety.specs.Holding.{held_by_port}
 use Rattle.abt_model.specs.declared.event.Event.{Event}
-use Rattle.abt_model.specs.declared.event.Event.TheVariants.{Request, Answer, Arrive}
+use Rattle.abt_model.specs.declared.target.Target.{Target}
+use Rattle.abt_model.specs.declared.target.Target.TheVariants.{Hop}
+use Rattle.abt_model.specs.Targets.{target_of, hop_met_by}
 use Rattle.abt_world.specs.Steps.{port_at}
 
 -- the port that an event comes to, if it comes to one
+abbrev pub port_visited : List ℕ → Target → Option ℕ
+port_visited path (Hop c event) = port_at path (hop_met_by event)
+port_visited path other = None
+
 abbrev pub visited : Conn → Event → Option ℕ
-visited conn (Request c hop seq) = port_at conn.path hop
-visited conn (Answer c hop seq granted) = port_at conn.path hop
-visited conn (Arrive c cell at) = port_at conn.path 1
-visited conn event = None
+visited conn event = port_visited conn.path (target_of event)
 
 -- One table at most is another, that of this port.
 abbrev pub Rewrites : Option ℕ → (before after : List Table) → Type 0

@@ -15,7 +15,7 @@ ghost use Rattle.abt_world.specs.Standing.{StandsFor};
 use crate::course::Course;
 use crate::ends::{held_of, rates_of, totals_of};
 use crate::fresh::{fresh_courses, opening_ports};
-use crate::happen::{asks_rate, conn_number, visited};
+use crate::happen::{asks_rate, visited};
 use crate::hops::port_at;
 use crate::safety::{counted_marks, marks};
 use abt_list::Sequence;
@@ -101,7 +101,7 @@ impl<'net> World<'net> {
         ensures same { OnErr result (self.new ≡ self.old) }
     {
         asks_rate(event);
-        let place = usize::from(conn_number(event));
+        let place = usize::from(event.conn());
         let net = self.net;
         if place >= net.conns().len() {
             self.looks = 0;

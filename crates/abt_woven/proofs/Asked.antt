@@ -1,28 +1,24 @@
 -- The facts of a connection have the requests that its source's projection has.
-use Rattle.std.proofs.Common.{◌≡◌, ◌≢◌, ℕ, inl, inr, refl, ap, Bool, true, false, List, [], ◌∷◌, ◌++◌, length, ◌∙◌, sym, subst, Option, None, Some, reverse}
+use Rattle.std.proofs.Common.{◌≡◌, ◌≢◌, ℕ, inl, inr, refl, ap, Bool, true, false, List, [], ◌∷◌, ◌++◌, ◌∙◌, sym, subst, Option, None, Some, reverse}
 use Rattle.std.specs.Prelude.{◌==◌, ◌&&◌, if◌then◌else◌}
 use Rattle.std.proofs.lemmas.Bool.{cond-false, cond-true, cases_eq, eq-eqb, ne_eqb}
 use Rattle.std.proofs.lemmas.List.{reverse-append, append-nil}
 use Rattle.abt_net.specs.Topology.{Topology}
-use Rattle.abt_keep.specs.declared.plan.StorePlan.{StorePlan}
-use Rattle.abt_keep.specs.declared.plan.StorePlan.TheVariants.{Works, FailsBefore, FailsAfter}
+use Rattle.abt_keep.specs.declared.plan.StorePlan.TheVariants.{FailsAfter}
 use Rattle.abt_node.specs.declared.reply.Onward.{Onward}
 use Rattle.abt_node.specs.declared.reply.Onward.TheVariants.{Pass, Refuse, Drop}
 use Rattle.abt_node.specs.declared.reply.Back.{Back}
 use Rattle.abt_node.specs.declared.reply.Back.TheVariants.{Pass as PassBack, Drop as DropBack}
-use Rattle.abt_source.specs.declared.fault.AskFault.{AskFault}
-use Rattle.abt_source.specs.declared.fault.AskFault.TheVariants.{SeqExhausted, Keep}
+use Rattle.abt_source.specs.declared.fault.AskFault.TheVariants.{Keep}
 use Rattle.abt_facts.specs.declared.fact.Fact.{Fact}
 use Rattle.abt_facts.specs.declared.fact.Fact.TheVariants.{Delivered}
 use Rattle.abt_facts.specs.Requests.{floor_of, ask_of}
-use Rattle.abt_model.specs.declared.connection_fact.ConnectionFact.{ConnectionFact}
 use Rattle.abt_model.specs.declared.event.Event.{Event}
-use Rattle.abt_model.specs.declared.event.Event.TheVariants.{Start, Ask, Again, Crash, Emit, Arrive, Request, Turn, Answer, Told}
-use Rattle.abt_model.specs.declared.outcome.Heard.{Heard}
-use Rattle.abt_model.specs.declared.outcome.Heard.TheVariants.{Raised, Refused, Ignored}
+use Rattle.abt_model.specs.declared.event.Event.TheVariants.{Start, Ask, Crash, Emit, Arrive, Request, Turn, Answer, Told}
+use Rattle.abt_model.specs.declared.outcome.Heard.TheVariants.{Raised}
 use Rattle.abt_model.specs.declared.outcome.Outcome.{Outcome}
-use Rattle.abt_model.specs.declared.outcome.Outcome.TheVariants.{Started, Asked, AskRefused, Crashed, Emitted, Arrived, Requested, Turned, Answered, Told as HasTold, NotEnabled}
-use Rattle.abt_model.specs.Outcomes.{conn_of, outcome_of, facts_added, after_event, delivery, request_adds, answer_adds}
+use Rattle.abt_model.specs.declared.outcome.Outcome.TheVariants.{Started, Asked, AskRefused, Crashed, Emitted, Arrived, Requested, Turned, Answered, Told as HasTold}
+use Rattle.abt_model.specs.Outcomes.{conn_of, outcome_of, facts_added, after_event, request_adds, answer_adds}
 use Rattle.abt_model.specs.Past.{facts_of}
 use Rattle.abt_model.proofs.Worlds.{facts_of-own, facts_of-other}
 use Rattle.abt_source_journal.specs.declared.entry.SourceEntry.{SourceEntry}
@@ -66,30 +62,17 @@ floor_answered facts hop seq false (DropBack cause) s = refl
 floor_alike : (facts : List Fact) (entries : List SourceEntry) (place s : ℕ) → floor_of facts s ≡ floor_in entries s → (event : Event) (outcome : Outcome) →
     floor_of (facts_added facts event outcome ++ facts) s ≡ floor_in (as_list (entry_of place event outcome) ++ entries) s
 floor_alike facts entries place s h (Start c now) Started = h
-floor_alike facts entries place s h (Start c now) other = h
 floor_alike facts entries place s h (Ask c rate plan) (Asked request) = ap (λ n. if request.seq == s then request.floor else n) h
 floor_alike facts entries place s h (Ask c rate FailsAfter) (AskRefused Keep) = h
-floor_alike facts entries place s h (Ask c rate FailsAfter) (AskRefused SeqExhausted) = h
-floor_alike facts entries place s h (Ask c rate Works) (AskRefused fault) = h
-floor_alike facts entries place s h (Ask c rate FailsBefore) (AskRefused fault) = h
-floor_alike facts entries place s h (Ask c rate plan) other = h
-floor_alike facts entries place s h (Again c) other = h
 floor_alike facts entries place s h (Crash c) Crashed = h
-floor_alike facts entries place s h (Crash c) other = h
 floor_alike facts entries place s h (Emit c now) (Emitted cell next) = h
-floor_alike facts entries place s h (Emit c now) other = h
 floor_alike facts entries place s h (Arrive c cell at) (Arrived verdict) = h
-floor_alike facts entries place s h (Arrive c cell at) other = h
 floor_alike facts entries place s h (Request c hop seq) (Requested onward) = floor_requested facts hop seq onward s ∙ h ∙ floor_sent (hop == 1) place entries s
 floor_alike facts entries place s h (Request c hop seq) other = h ∙ floor_sent (is_enabled other && hop == 1) place entries s
 floor_alike facts entries place s h (Turn c seq) Turned = h
-floor_alike facts entries place s h (Turn c seq) other = h
 floor_alike facts entries place s h (Answer c hop seq granted) (Answered back) = floor_answered facts hop seq granted back s ∙ h
-floor_alike facts entries place s h (Answer c hop seq granted) other = h
 floor_alike facts entries place s h (Told c seq granted) (HasTold Raised) = h
-floor_alike facts entries place s h (Told c seq granted) (HasTold Refused) = h
-floor_alike facts entries place s h (Told c seq granted) (HasTold Ignored) = h
-floor_alike facts entries place s h (Told c seq granted) other = h
+floor_alike facts entries place s h event outcome = h
 
 -- the floor of a number by the facts of a connection is that by its source's projection
 pub floor_told : (net : Topology) (c s : ℕ) (earlier : List Event) → floor_of (facts_of c (past_of net earlier)) s ≡ floor_in (reverse (entries_on net c earlier)) s
@@ -130,30 +113,17 @@ ask_answered facts hop seq false (DropBack cause) s = refl
 ask_alike : (facts : List Fact) (entries : List SourceEntry) (place s : ℕ) → ask_of facts s ≡ ask_in entries s → (event : Event) (outcome : Outcome) →
     ask_of (facts_added facts event outcome ++ facts) s ≡ ask_in (as_list (entry_of place event outcome) ++ entries) s
 ask_alike facts entries place s h (Start c now) Started = h
-ask_alike facts entries place s h (Start c now) other = h
 ask_alike facts entries place s h (Ask c rate plan) (Asked request) = ap (λ n. if request.seq == s then request.ask else n) h
 ask_alike facts entries place s h (Ask c rate FailsAfter) (AskRefused Keep) = h
-ask_alike facts entries place s h (Ask c rate FailsAfter) (AskRefused SeqExhausted) = h
-ask_alike facts entries place s h (Ask c rate Works) (AskRefused fault) = h
-ask_alike facts entries place s h (Ask c rate FailsBefore) (AskRefused fault) = h
-ask_alike facts entries place s h (Ask c rate plan) other = h
-ask_alike facts entries place s h (Again c) other = h
 ask_alike facts entries place s h (Crash c) Crashed = h
-ask_alike facts entries place s h (Crash c) other = h
 ask_alike facts entries place s h (Emit c now) (Emitted cell next) = h
-ask_alike facts entries place s h (Emit c now) other = h
 ask_alike facts entries place s h (Arrive c cell at) (Arrived verdict) = h
-ask_alike facts entries place s h (Arrive c cell at) other = h
 ask_alike facts entries place s h (Request c hop seq) (Requested onward) = ask_requested facts hop seq onward s ∙ h ∙ ask_sent (hop == 1) place entries s
 ask_alike facts entries place s h (Request c hop seq) other = h ∙ ask_sent (is_enabled other && hop == 1) place entries s
 ask_alike facts entries place s h (Turn c seq) Turned = h
-ask_alike facts entries place s h (Turn c seq) other = h
 ask_alike facts entries place s h (Answer c hop seq granted) (Answered back) = ask_answered facts hop seq granted back s ∙ h
-ask_alike facts entries place s h (Answer c hop seq granted) other = h
 ask_alike facts entries place s h (Told c seq granted) (HasTold Raised) = h
-ask_alike facts entries place s h (Told c seq granted) (HasTold Refused) = h
-ask_alike facts entries place s h (Told c seq granted) (HasTold Ignored) = h
-ask_alike facts entries place s h (Told c seq granted) other = h
+ask_alike facts entries place s h event outcome = h
 
 -- the ask of a number by the facts of a connection is that by its source's projection
 pub ask_told : (net : Topology) (c s : ℕ) (earlier : List Event) → ask_of (facts_of c (past_of net earlier)) s ≡ ask_in (reverse (entries_on net c earlier)) s

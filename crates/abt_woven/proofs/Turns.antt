@@ -13,7 +13,7 @@ use Rattle.abt_facts.specs.Source.{SourceState, Down, Idle, Asking, state_of}
 use Rattle.abt_facts.specs.Sent.{answer_is_at, was_turned, was_back}
 use Rattle.abt_model.specs.declared.connection_fact.ConnectionFact.{ConnectionFact}
 use Rattle.abt_model.specs.declared.event.Event.{Event}
-use Rattle.abt_model.specs.declared.event.Event.TheVariants.{Start, Ask, Again, Crash, Emit, Arrive, Request, Turn, Answer, Told}
+use Rattle.abt_model.specs.declared.event.Event.TheVariants.{Start, Ask, Again, Turn, Answer}
 use Rattle.abt_model.specs.declared.outcome.Cause.TheVariants.{NotSent, Unknown}
 use Rattle.abt_model.specs.declared.outcome.Outcome.{Outcome}
 use Rattle.abt_model.specs.declared.outcome.Outcome.TheVariants.{Answered, Turned, NotEnabled}

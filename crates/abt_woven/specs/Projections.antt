@@ -1,19 +1,27 @@
 -- What events are to the ports and the sources of a net: the entries that they make in journals (docs/THREADS.md). Events are
 -- listed with the newest first.
-use Rattle.std.specs.Prelude.{ℕ, ◌-◌, ◌==◌, ◌&&◌, Bool, true, false, List, [], ◌∷◌, ◌++◌, length, if◌then◌else◌, slice_index, Option, None, Some, option_map, option_and_then, Ok}
+use Rattle.std.specs.Prelude.{ℕ, ◌-◌, ◌==◌, ◌&&◌, ◌||◌, not, Bool, true, false, List, [], ◌∷◌, ◌++◌, length, if◌then◌else◌, slice_index, Option, None, Some, option_map, Ok}
 use Rattle.abt_cell.specs.Channel.{Channel}
+use Rattle.abt_cell.specs.Message.{Terms}
 use Rattle.abt_net.specs.declared.conn.Conn.{Conn}
 use Rattle.abt_net.specs.Topology.{Topology}
 use Rattle.abt_facts.specs.declared.fact.Fact.{Fact}
 use Rattle.abt_model.specs.declared.connection_fact.ConnectionFact.{ConnectionFact}
 use Rattle.abt_model.specs.declared.event.Event.{Event}
-use Rattle.abt_model.specs.declared.event.Event.TheVariants.{Start, Ask, Again, Crash, Emit, Arrive, Request, Turn, Answer, Told}
+use Rattle.abt_model.specs.declared.target.SourceEvent.{SourceEvent}
+use Rattle.abt_model.specs.declared.target.SourceEvent.TheVariants as source
+use Rattle.abt_model.specs.declared.target.HopEvent.{HopEvent}
+use Rattle.abt_model.specs.declared.target.HopEvent.TheVariants as hop
+use Rattle.abt_model.specs.declared.target.Target.{Target}
+use Rattle.abt_model.specs.declared.target.Target.TheVariants.{Source, Hop, End}
 use Rattle.abt_model.specs.declared.outcome.Outcome.{Outcome}
 use Rattle.abt_model.specs.declared.outcome.Outcome.TheVariants.{Arrived, Requested, Answered, NotEnabled}
 use Rattle.abt_model.specs.Conns.{conn_at}
 use Rattle.abt_model.specs.Decision.{request_of, answer_to}
 use Rattle.abt_model.specs.Outcomes.{conn_of, outcome_of, after_event}
 use Rattle.abt_model.specs.Past.{facts_of}
+use Rattle.abt_model.specs.PortTable.{hop_visited}
+use Rattle.abt_model.specs.Targets.{target_of, event_at_source}
 use Rattle.abt_journal.specs.declared.entry.Entry.{Entry}
 use Rattle.abt_journal.specs.declared.input.PortInput.{PortInput}
 use Rattle.abt_journal.specs.declared.input.PortInput.TheVariants.{Request as RequestIn, Answer as AnswerIn, Arrive as ArriveIn}
@@ -49,43 +57,52 @@ reply_of (Answered back) = Some (AnsweredOut back)
 reply_of (Arrived verdict) = Some (ArrivedOut (Ok verdict))
 reply_of outcome = None
 
--- the hop of its path that an event comes to: a cell comes to the first
-abbrev pub hop_met : Event → ℕ
-hop_met (Request c hop seq) = hop
-hop_met (Answer c hop seq granted) = hop
-hop_met event = 1
+-- what comes to a port by an event at a hop, where the request of a number is this
+abbrev pub input_by : Channel → (ℕ → Terms) → HopEvent → PortInput
+input_by vc request (hop.Arrive cell at) = ArriveIn vc at
+input_by vc request (hop.Request j seq) = RequestIn (request seq)
+input_by vc request (hop.Answer j seq granted) = AnswerIn (answer_to (request seq) granted)
+
+abbrev pub input_in : Channel → (ℕ → Terms) → Target → Option PortInput
+input_in vc request (Hop c event) = Some (input_by vc request event)
+input_in vc request other = None
 
 -- what an event brings to a port
 abbrev pub input_of : Channel → List Fact → Event → Option PortInput
-input_of vc facts (Request c hop seq) = Some (RequestIn (request_of vc facts seq))
-input_of vc facts (Answer c hop seq granted) = Some (AnswerIn (answer_to (request_of vc facts seq) granted))
-input_of vc facts (Arrive c cell at) = Some (ArriveIn vc at)
-input_of vc facts event = None
+input_of vc facts event = input_in vc (request_of vc facts) (target_of event)
 
 abbrev pub visit_by : List ConnectionFact → Event → Option PortReply → Option Conn → Option Visit
 visit_by past event reply None = None
 visit_by past event None (Some conn) = None
 visit_by past event (Some reply) (Some conn) =
-    option_map (λ (input : PortInput). record { port = slice_index conn.path (hop_met event - 1); input = input; reply = reply })
+    option_map (λ (input : PortInput). record { port = slice_index conn.path (hop_visited event - 1); input = input; reply = reply })
     (input_of conn.vc (facts_of (conn_of event) past) event)
 
 -- the visit that an event is after a past, if it happens and comes to a port
 abbrev pub visit : Topology → List ConnectionFact → Event → Option Visit
 visit net past event = visit_by past event (reply_of (outcome_of net past event)) (conn_at net (conn_of event))
 
+-- whether an event at a source is an answer that it is told, and no command
+abbrev pub is_told_by : SourceEvent → Bool
+is_told_by (source.Told seq granted) = true
+is_told_by command = false
+
+-- what stands at the source for an event at a hop that happens or doesn't, where its step takes this place in the journal of the
+-- first port
+abbrev pub entry_by : (place : ℕ) → HopEvent → (happens : Bool) → Option SourceEntry
+entry_by place (hop.Arrive cell at) happens = if happens then Some (ArrivedAt cell place) else None
+entry_by place (hop.Request j seq) happens = if happens && j == 1 then Some (Sent place) else None
+entry_by place (hop.Answer j seq granted) happens = None
+
+abbrev pub entry_in : (place : ℕ) → Target → Outcome → Option SourceEntry
+entry_in place (Source c event) outcome = if not (is_told_by event) || is_enabled outcome then Some (Did (event_at_source c event) outcome) else None
+entry_in place (Hop c event) outcome = entry_by place event (is_enabled outcome)
+entry_in place (End c seq) outcome = None
+
 -- What an event is to its source, where its step, if it has one, takes this place in the journal of the first port: a command
 -- stands there whatever it answers, and all else only if it happens.
 abbrev pub entry_of : (place : ℕ) → Event → Outcome → Option SourceEntry
-entry_of place (Start c now) outcome = Some (Did (Start c now) outcome)
-entry_of place (Ask c rate plan) outcome = Some (Did (Ask c rate plan) outcome)
-entry_of place (Again c) outcome = Some (Did (Again c) outcome)
-entry_of place (Crash c) outcome = Some (Did (Crash c) outcome)
-entry_of place (Emit c now) outcome = Some (Did (Emit c now) outcome)
-entry_of place (Told c seq granted) outcome = if is_enabled outcome then Some (Did (Told c seq granted) outcome) else None
-entry_of place (Request c hop seq) outcome = if is_enabled outcome && hop == 1 then Some (Sent place) else None
-entry_of place (Arrive c cell at) outcome = if is_enabled outcome then Some (ArrivedAt cell place) else None
-entry_of place (Turn c seq) outcome = None
-entry_of place (Answer c hop seq granted) outcome = None
+entry_of place event outcome = entry_in place (target_of event) outcome
 
 -- the past that events leave
 abbrev pub past_of : Topology → List Event → List ConnectionFact

@@ -5,7 +5,7 @@ use abt_list::Sequence;
 use abt_node::Onward;
 use abt_ports::Journals;
 use abt_source_journal::{SourceEntry, SourceJournal};
-use abt_walk::walk::{Walk, conn_of};
+use abt_walk::walk::Walk;
 use abt_world::{Event, Net, Outcome};
 use std::alloc::{AllocError, Global};
 
@@ -69,7 +69,7 @@ pub fn project(alloc: Global, net: &Net, events: &[Event]) -> Result<Books, Allo
     let mut walk = Walk::new(alloc, net);
     let mut books = blank(alloc, net)?;
     for event in events {
-        let number = conn_of(event);
+        let number = event.conn();
         let facts = walk.facts_of(alloc, number)?;
         let outcome = walk.step(alloc, event)?;
         let conn = net.conns().get(usize::from(number));

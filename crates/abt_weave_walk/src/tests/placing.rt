@@ -4,7 +4,7 @@ use super::parts::{Visit, own, visited};
 use abt_journal::{Entry, PortInput, PortReply};
 use abt_node::Onward;
 use abt_source_journal::SourceEntry;
-use abt_walk::walk::{Walk, conn_of, number};
+use abt_walk::walk::{Walk, number};
 use abt_world::{Event, Net, Outcome};
 use abt_woven::{Actor, Stuck};
 use std::alloc::{AllocError, Global};
@@ -88,7 +88,7 @@ impl<'net> Placing<'net> {
     fn parts(&mut self, alloc: Global, event: &Event) -> Result<Parts, AllocError> {
         // Names a type within an outcome, without which the checker can't follow one.
         let _ = Onward::Pass;
-        let conn = conn_of(event);
+        let conn = event.conn();
         let facts = self.walk.facts_of(alloc, conn)?;
         let before = self.walk.count();
         let outcome = self.walk.step(alloc, event)?;
@@ -165,7 +165,7 @@ impl<'net> Placing<'net> {
             let _ = matches!(visit.input, PortInput::Arrive { .. });
         }
         let port = self.fits_port(books, visit);
-        let source = self.fits_source(books, conn_of(event), own);
+        let source = self.fits_source(books, event.conn(), own);
         Ok(match (port, source) {
             (Fit::Fits, source) => source,
             (port, Fit::Fits) => port,
@@ -185,7 +185,7 @@ impl<'net> Placing<'net> {
             one_more(&mut self.ports, visit.port);
         }
         if own.is_some() {
-            one_more(&mut self.sources, conn_of(event));
+            one_more(&mut self.sources, event.conn());
         }
         Ok(())
     }

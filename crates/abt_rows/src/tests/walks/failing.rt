@@ -7,7 +7,7 @@ use abt_keep::StorePlan;
 use abt_node::Onward;
 use abt_walk::drawn::walk_through;
 use abt_walk::nets::{Access, build, line, lone, shared};
-use abt_walk::walk::{Walk, conn_of};
+use abt_walk::walk::Walk;
 use abt_walk::words::clock;
 use abt_world::{Event, Net, run};
 use std::alloc::{AllocError, Global};
@@ -42,7 +42,7 @@ fn failing_at(
     for event in story.iter().skip(place).take(1) {
         events.push(planned(event, plan))?;
         if restarts {
-            let conn = conn_of(event);
+            let conn = event.conn();
             let now = clock(&walk.facts_of(alloc, conn)?);
             events.push(Event::Crash { conn })?;
             events.push(Event::Start { conn, now })?;

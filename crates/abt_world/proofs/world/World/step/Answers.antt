@@ -34,7 +34,7 @@ pub returns-then-place-conns-clause-outcome : goal.returns-then-place-conns-clau
 returns-then-place-conns-clause-outcome c net events stands =
     let conns = c.conns.ensures.value in
     let past_end = c.if-place-conns.true in
-    let place = c.from-place.ensures ∙ c.conn_number.ensures in
+    let place = c.from-place.ensures ∙ c.conn.ensures.value in
     let before : StandsFor net events (record { net = c.self.inside.net.now; ports = c.self.inside.ports.items; courses = map seen c.self.inside.courses.items; looks = c.self.inside.looks }) = subst (StandsFor net events) (sym c.self.view_is) stands in
     let count = ap length conns ∙ ap (λ (n : Topology). length n.conns) before.stands.net_is in
     step_unknown net events (record { net = c.self.inside.net.now; ports = c.self.inside.ports.items; courses = map seen c.self.inside.courses.items; looks = c.self.inside.looks }) c.args.event.now 0 before c.asks_rate.ensures (omega arith)
@@ -81,7 +81,7 @@ returns-in-Ok-clause-outcome c net events stands =
     let here : StandsFor net events (record { net = net; ports = held; courses = map seen courses; looks = c.self.inside.looks }) =
     subst (λ (n : Topology). StandsFor net events (record { net = n; ports = held; courses = map seen courses; looks = c.self.inside.looks })) net_is before in
     let rules : IsWithinRules net = subst IsWithinRules net_is c.conns.ensures.rules in
-    let from : c.from-place.result ≡ conn_of e = c.from-place.ensures ∙ c.conn_number.ensures in
+    let from : c.from-place.result ≡ conn_of e = c.from-place.ensures ∙ c.conn.ensures.value in
     let place : c.counting.result ≡ conn_of e = c.counting.ensures.value ∙ from in
     let conns : c.conns.result.now ≡ net.conns = c.conns.ensures.value ∙ ap (λ (n : Topology). n.conns) net_is in
     let conns2 : c.conns-2.result.now ≡ net.conns = c.conns-2.ensures.value ∙ ap (λ (n : Topology). n.conns) net_is in
@@ -202,7 +202,7 @@ pub returns-then-place-conns-clause-counted : goal.returns-then-place-conns-clau
 returns-then-place-conns-clause-counted c net events stands =
     let e = c.args.event.now in
     let past_end = c.if-place-conns.true in
-    let place = c.from-place.ensures ∙ c.conn_number.ensures in
+    let place = c.from-place.ensures ∙ c.conn.ensures.value in
     let net_is = ap (λ (w : WorldView). w.net) c.self.view_is ∙ stands.stands.net_is in
     let count = ap length c.conns.ensures.value ∙ ap (λ (n : Topology). length n.conns) net_is in
     let unknown : conn_at net (conn_of e) ≡ None = slice_get_past net.conns (conn_of e) (omega arith) in
@@ -224,7 +224,7 @@ returns-in-Ok-clause-counted c net events stands =
     let here : StandsFor net events (record { net = net; ports = held; courses = map seen courses; looks = c.self.inside.looks }) =
     subst (λ (n : Topology). StandsFor net events (record { net = n; ports = held; courses = map seen courses; looks = c.self.inside.looks })) net_is before in
     let rules : IsWithinRules net = subst IsWithinRules net_is c.conns.ensures.rules in
-    let from : c.from-place.result ≡ conn_of e = c.from-place.ensures ∙ c.conn_number.ensures in
+    let from : c.from-place.result ≡ conn_of e = c.from-place.ensures ∙ c.conn.ensures.value in
     let place : c.counting.result ≡ conn_of e = c.counting.ensures.value ∙ from in
     let conns : c.conns.result.now ≡ net.conns = c.conns.ensures.value ∙ ap (λ (n : Topology). n.conns) net_is in
     let conns2 : c.conns-2.result.now ≡ net.conns = c.conns-2.ensures.value ∙ ap (λ (n : Topology). n.conns) net_is in
