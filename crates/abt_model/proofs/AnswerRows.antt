@@ -26,7 +26,8 @@ use Rattle.abt_facts.specs.Sent.{was_shut, request_is_at, answer_is_at, answer_i
 use Rattle.abt_facts.specs.Hop.{newest_of, held_of, is_open_at}
 use Rattle.abt_facts.specs.Cells.{emitted_of, last_arrival_of, fence_of, verdict_at, is_in_time}
 use Rattle.abt_cell.specs.Channel.{Channel}
-use Rattle.abt_model.specs.Decision.{request_of, answer_to}
+use Rattle.abt_cell.specs.Message.{answer_to}
+use Rattle.abt_source.specs.SourceFacts.{request_of}
 use Rattle.abt_rate.specs.Limits.{emit_max, number_max}
 use Rattle.abt_model.specs.Answers.{start_max, if_up, start_answer, ask_answer, emit_answer, arrive_answer, told_answer, is_hop, answer_by}
 use Rattle.abt_model.specs.Outcomes.{delivery, request_adds, answer_adds, facts_added}

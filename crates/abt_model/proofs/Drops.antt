@@ -19,12 +19,11 @@ use Rattle.abt_facts.specs.Source.{SourceState, Down, Idle, Asking, state_of, ra
 use Rattle.abt_facts.specs.Sent.{was_passed, was_shut, was_turned, request_is_at, answer_is_at, answer_is_home, request_is_through}
 use Rattle.abt_facts.specs.Hop.{newest_of, held_of}
 use Rattle.abt_facts.specs.Cells.{emitted_of, last_arrival_of, fence_of, is_in_time}
-use Rattle.abt_cell.specs.Message.{Reply, Terms}
-use Rattle.abt_net.specs.Topology.{Topology}
-use Rattle.abt_model.specs.Conns.{conn_at}
+use Rattle.abt_cell.specs.Message.{Reply, Terms, answer_to}
+use Rattle.abt_net.specs.Topology.{Topology, conn_at}
 use Rattle.abt_cell.specs.Channel.{Channel}
 use Rattle.abt_model.specs.Past.{facts_of}
-use Rattle.abt_model.specs.Decision.{request_of, answer_to}
+use Rattle.abt_source.specs.SourceFacts.{request_of}
 use Rattle.abt_rate.specs.Limits.{emit_max, number_max}
 use Rattle.abt_model.specs.Answers.{start_max, if_up, start_answer, next_request, stored_answer, again_answer, emit_answer, arrive_answer, is_hop, answer_by}
 use Rattle.abt_model.specs.Outcomes.{conn_of, outcome_at}

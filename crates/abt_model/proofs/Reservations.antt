@@ -10,9 +10,9 @@ use Rattle.abt_node.specs.declared.reply.DropCause.TheVariants.{Stale, Conflict,
 use Rattle.abt_facts.specs.Requests.{floor_of, ask_of}
 use Rattle.abt_facts.specs.Sent.{was_shut}
 use Rattle.abt_facts.specs.Hop.{newest_of, held_of, is_open_at}
-use Rattle.abt_cell.specs.Message.{Terms}
+use Rattle.abt_cell.specs.Message.{Terms, answer_to}
 use Rattle.abt_cell.specs.Channel.{Channel}
-use Rattle.abt_model.specs.Decision.{request_of, answer_to}
+use Rattle.abt_source.specs.SourceFacts.{request_of}
 use Rattle.abt_model.specs.Outcomes.{delivery, request_adds}
 use Rattle.abt_model.specs.PortTable.{reservation_at}
 use Rattle.abt_node.specs.Reservation.{Reservation, held_by, decided_as, no_to, pass_or_refuse, is_of, decision_of}

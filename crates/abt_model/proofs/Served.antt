@@ -18,8 +18,7 @@ use Rattle.abt_model.specs.declared.outcome.Outcome.TheVariants.{Arrived as HasA
 use Rattle.abt_facts.specs.Source.{clock_of, hold_off, next_of}
 use Rattle.abt_facts.specs.Hop.{held_of}
 use Rattle.abt_facts.specs.Cells.{emitted_of, moment_of, last_arrival_of, fence_of, taken_of, verdict_at, is_in_time}
-use Rattle.abt_net.specs.Topology.{Topology, IsWithinRules, IsConnWithin}
-use Rattle.abt_model.specs.Conns.{conn_at}
+use Rattle.abt_net.specs.Topology.{Topology, IsWithinRules, IsConnWithin, conn_at}
 use Rattle.abt_model.specs.Past.{facts_of}
 use Rattle.abt_rate.specs.Limits.{emit_max}
 use Rattle.abt_model.specs.Answers.{arrive_answer}

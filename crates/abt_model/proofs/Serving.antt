@@ -22,15 +22,17 @@ use Rattle.abt_facts.specs.Hop.{held_of}
 use Rattle.abt_facts.specs.Cells.{taken_of}
 use Rattle.abt_net.specs.Topology.{Topology, IsWithinRules}
 use Rattle.abt_model.specs.Past.{facts_of}
-use Rattle.abt_model.specs.Reserved.{hop_of, reserved_on}
-use Rattle.abt_model.specs.Decision.{request_of, answer_to}
+use Rattle.abt_model.specs.Reserved.{reserved_on}
+use Rattle.abt_net.specs.Paths.{hop_of}
+use Rattle.abt_cell.specs.Message.{answer_to}
+use Rattle.abt_source.specs.SourceFacts.{request_of}
 use Rattle.abt_model.specs.Answers.{is_hop, answer_by}
 use Rattle.abt_model.specs.Outcomes.{request_adds, answer_adds, facts_added, after_event}
 use Rattle.abt_model.specs.PortTable.{reservation_at, due_after, policing_by, kept_at, port_table, RequestsServed, AnswersServed, ArrivalsServed}
 use Rattle.abt_node.specs.Reservation.{Reservation, held_by, decision_of, answer_of}
 use Rattle.abt_node.specs.Table.{sum_of, connection_at, reply_by, table_by, reply_to, answer_by as answer_kept, table_by_answer, arrival_by, arrival_of, policing_after, table_by_arrival}
 use Rattle.abt_model.proofs.Chain.{at_asked, asked_last}
-use Rattle.abt_model.proofs.Sums.{hop_of-port}
+use Rattle.abt_net.proofs.PathLemmas.{hop_of-port}
 use Rattle.abt_model.proofs.Worlds.{facts_of-own, facts_of-other, outcome_of-known, AllLawful, lawful_at}
 use Rattle.abt_model.proofs.AnswerRows.{answer_reserved, request_polices, answer_polices}
 use Rattle.abt_model.proofs.Lawful.{route_of, IsAtHop}

@@ -14,11 +14,10 @@ use Rattle.abt_model.specs.declared.connection_fact.ConnectionFact.{ConnectionFa
 use Rattle.abt_model.specs.declared.outcome.Outcome.{Outcome}
 use Rattle.abt_net.specs.declared.conn.Conn.{Conn}
 use Rattle.abt_facts.specs.Hop.{held_of}
-use Rattle.abt_net.specs.Topology.{Topology, IsWithinRules}
-use Rattle.abt_model.specs.Conns.{conn_at}
+use Rattle.abt_net.specs.Topology.{Topology, IsWithinRules, conn_at}
 use Rattle.abt_cell.specs.Channel.{Channel, channel_cmp, same_channel}
 use Rattle.abt_model.specs.Past.{facts_of}
-use Rattle.abt_model.specs.Reserved.{hop_of}
+use Rattle.abt_net.specs.Paths.{hop_of}
 use Rattle.abt_model.specs.Outcomes.{conn_of, facts_added, after_event}
 use Rattle.abt_model.specs.PortTable.{kept_at, kept_from, port_table, hop_visited, TotalsAreReserved, TablesHaveRows, TablesStay}
 use Rattle.abt_node.specs.Table.{Connection, held_at, connection_at, with_connection}

@@ -1,8 +1,7 @@
 -- What a hop does with a message, by the facts of its connection (docs/RULES.md, "Node"). A message of a net is that of its
 -- number: it has the floor and the asked rate of the ask.
 use Rattle.std.specs.Prelude.{ℕ, ◌+◌, ◌-◌, ◌==◌, ◌&&◌, ◌||◌, not, nat_lt, nat_le, Bool, false, List, if◌then◌else◌}
-use Rattle.abt_cell.specs.Channel.{Channel}
-use Rattle.abt_cell.specs.Message.{Terms, Reply}
+use Rattle.abt_cell.specs.Message.{Terms, Reply, answer_to}
 use Rattle.abt_node.specs.declared.reply.Onward.{Onward}
 use Rattle.abt_node.specs.declared.reply.Onward.TheVariants.{Pass, Refuse, Drop}
 use Rattle.abt_node.specs.declared.reply.Back.{Back}
@@ -12,14 +11,6 @@ use Rattle.abt_facts.specs.declared.fact.Fact.{Fact}
 use Rattle.abt_facts.specs.Requests.{floor_of, ask_of}
 use Rattle.abt_facts.specs.Sent.{was_shut}
 use Rattle.abt_facts.specs.Hop.{newest_of, held_of}
-
--- the request of a number
-abbrev pub request_of : Channel → List Fact → ℕ → Terms
-request_of vc facts s = record { vc = vc; seq = s; floor = floor_of facts s; ask = ask_of facts s }
-
--- the answer to it
-abbrev pub answer_to : Terms → Bool → Reply
-answer_to request granted = record { terms = request; granted = granted }
 
 -- whether a message has the floor and the asked rate of the newest number of a hop
 abbrev pub is_newest_again : List Fact → ℕ → Terms → Bool

@@ -12,8 +12,7 @@ use Rattle.abt_node.specs.declared.reply.Back.{Back}
 use Rattle.abt_node.specs.Table as table
 use Rattle.abt_node.specs.Table.{Connection, Table, connection_at, sum_of, reply_to, table_after, table_after_answer, arrival_at, table_after_arrival}
 use Rattle.abt_net.specs.declared.conn.Conn.{Conn}
-use Rattle.abt_net.specs.Topology.{Topology}
-use Rattle.abt_model.specs.Conns.{conn_at}
+use Rattle.abt_net.specs.Topology.{Topology, conn_at}
 use Rattle.abt_facts.specs.declared.fact.Fact.{Fact}
 use Rattle.abt_facts.specs.Requests.{floor_of, ask_of}
 use Rattle.abt_facts.specs.Hop.{newest_of, is_open_at}
@@ -24,8 +23,10 @@ use Rattle.abt_model.specs.declared.event.Event.TheVariants.{Request, Answer, Ar
 use Rattle.abt_model.specs.declared.outcome.Outcome.TheVariants.{Arrived, Requested, Answered}
 use Rattle.abt_model.specs.Events.{AsksRate}
 use Rattle.abt_model.specs.Past.{facts_of}
-use Rattle.abt_model.specs.Reserved.{hop_of, reserved_on}
-use Rattle.abt_model.specs.Decision.{request_of, answer_to}
+use Rattle.abt_model.specs.Reserved.{reserved_on}
+use Rattle.abt_net.specs.Paths.{hop_of}
+use Rattle.abt_cell.specs.Message.{answer_to}
+use Rattle.abt_source.specs.SourceFacts.{request_of}
 use Rattle.abt_model.specs.Outcomes.{conn_of, outcome_of, after_event}
 
 -- what hop j reserves for a connection

@@ -3,7 +3,7 @@ use Rattle.std.proofs.Common.{◌≡◌, ◌≢◌, ℕ, ◌<◌, inl, inr, refl
 use Rattle.std.specs.Prelude.{◌==◌, ◌&&◌, ◌-◌, not, if◌then◌else◌, slice_get, slice_index, option_map}
 use Rattle.std.proofs.lemmas.Bool.{cond-false, cond-true, cases_Bool, cases_eq, eq-eqb, eqb-true, false≢true}
 use Rattle.abt_net.specs.declared.conn.Conn.{Conn}
-use Rattle.abt_net.specs.Topology.{Topology}
+use Rattle.abt_net.specs.Topology.{Topology, conn_at}
 use Rattle.abt_facts.specs.declared.fact.Fact.{Fact}
 use Rattle.abt_model.specs.declared.connection_fact.ConnectionFact.{ConnectionFact}
 use Rattle.abt_model.specs.declared.event.Event.{Event}
@@ -14,7 +14,6 @@ use Rattle.abt_journal.specs.declared.input.PortInput.{PortInput}
 use Rattle.abt_journal.specs.declared.input.PortReply.{PortReply}
 use Rattle.abt_source_journal.specs.declared.entry.SourceEntry.{SourceEntry}
 use Rattle.abt_source_journal.specs.declared.entry.SourceEntry.TheVariants.{Did, Sent, Arrived as ArrivedAt}
-use Rattle.abt_model.specs.Conns.{conn_at}
 use Rattle.abt_model.specs.Past.{facts_of}
 use Rattle.abt_woven.specs.Projections.{Visit, reply_of, hop_met, is_enabled, input_of, visit_by, visit, entry_of, place_at_first, past_of, entry_made, entries_on}
 use Rattle.abt_woven.specs.Stuck.{Journaled, source_journal, next_entry, Fits, AreTurns, SourceMismatches}

@@ -5,7 +5,7 @@ use Rattle.std.specs.List.{list_any}
 use Rattle.std.proofs.lemmas.Bool.{false≢true, cond-true, cases_eq, eq-eqb, eqb-true, or_cases}
 use Rattle.std.proofs.lemmas.List.Folds.{list_any-append}
 use Rattle.abt_cell.specs.Channel.{Channel}
-use Rattle.abt_cell.specs.Message.{Terms, Reply}
+use Rattle.abt_cell.specs.Message.{Terms, Reply, answer_to}
 use Rattle.abt_keep.specs.declared.plan.StorePlan.TheVariants.{Works, FailsBefore, FailsAfter}
 use Rattle.abt_node.specs.declared.reply.Onward.{Onward}
 use Rattle.abt_node.specs.declared.reply.Onward.TheVariants.{Pass, Refuse, Drop}
@@ -14,7 +14,7 @@ use Rattle.abt_node.specs.declared.reply.Back.TheVariants.{Pass as PassBack, Dro
 use Rattle.abt_source.specs.declared.fault.AskFault.TheVariants.{SeqExhausted, Keep}
 use Rattle.abt_gcra.specs.declared.verdict.Verdict.{Verdict}
 use Rattle.abt_net.specs.declared.conn.Conn.{Conn}
-use Rattle.abt_net.specs.Topology.{Topology, IsWithinRules}
+use Rattle.abt_net.specs.Topology.{Topology, IsWithinRules, conn_at}
 use Rattle.abt_facts.specs.declared.fact.Fact.{Fact}
 use Rattle.abt_facts.specs.declared.fact.Fact.TheVariants.{Started as FactStarted, Crashed as FactCrashed, Stored, Asked as FactAsked, Heard as FactHeard, Emitted as FactEmitted, Delivered, Passed, Shut, Turned as FactTurned, Back as FactBack, Arrived as FactArrived}
 use Rattle.abt_facts.specs.Sent.{is_pass_of, is_shut_of, is_back_of, was_passed, was_shut, was_back}
@@ -24,14 +24,13 @@ use Rattle.abt_model.specs.declared.event.Event.TheVariants.{Start, Ask, Again, 
 use Rattle.abt_model.specs.declared.outcome.Heard.TheVariants.{Raised, Refused, Ignored}
 use Rattle.abt_model.specs.declared.outcome.Outcome.{Outcome}
 use Rattle.abt_model.specs.declared.outcome.Outcome.TheVariants.{Started, Asked, AskRefused, Crashed, Emitted, Arrived, Requested, Turned, Answered, Told as HasTold, NotEnabled}
-use Rattle.abt_model.specs.Conns.{conn_at}
-use Rattle.abt_model.specs.Decision.{request_of, answer_to}
+use Rattle.abt_source.specs.SourceFacts.{request_of}
 use Rattle.abt_model.specs.Outcomes.{conn_of, outcome_of, facts_added, after_event, request_adds, answer_adds}
 use Rattle.abt_model.specs.Past.{facts_of}
-use Rattle.abt_model.specs.Reserved.{hop_of}
+use Rattle.abt_net.specs.Paths.{hop_of}
 use Rattle.abt_model.proofs.Served.{conn_within}
 use Rattle.abt_model.proofs.Worlds.{cases_option, facts_of-own, facts_of-other}
-use Rattle.abt_world.proofs.Serving.{hop_at}
+use Rattle.abt_net.proofs.PathLemmas.{hop_at}
 use Rattle.abt_journal.specs.declared.input.PortInput.{PortInput}
 use Rattle.abt_journal.specs.declared.input.PortInput.TheVariants.{Request as RequestIn, Answer as AnswerIn, Arrive as ArriveIn}
 use Rattle.abt_journal.specs.declared.input.PortReply.{PortReply}
