@@ -1,9 +1,9 @@
 -- The cells of a connection, by the connection's facts, the newest first (docs/RULES.md, "Cells"). They are numbered from 0.
-use Rattle.std.specs.Prelude.{ℕ, ◌+◌, ◌==◌, ◌&&◌, nat_le, Bool, true, List, [], ◌∷◌, if◌then◌else◌, max}
+use Rattle.std.specs.Prelude.{ℕ, ◌+◌, ◌==◌, ◌&&◌, nat_le, Bool, List, [], ◌∷◌, if◌then◌else◌, max}
 use Rattle.abt_rate.specs.Rate.{spacing_of}
 use Rattle.abt_gcra.specs.declared.verdict.Verdict.{Verdict}
-use Rattle.abt_gcra.specs.declared.verdict.Verdict.TheVariants.{Conforming, TooEarly, NoRate}
 use Rattle.abt_gcra.specs.Windows.{Arrival, taken_after}
+use Rattle.abt_gcra.specs.Finding as finding
 use Rattle.abt_facts.specs.declared.fact.Fact.{Fact}
 use Rattle.abt_facts.specs.declared.fact.Fact.TheVariants.{Delivered, Emitted, Arrived}
 use Rattle.abt_facts.specs.Requests.{mark_of}
@@ -57,20 +57,6 @@ taken_of [] = []
 taken_of (Arrived cell at rate verdict ∷ facts) = taken_after (taken_of facts) (record { at = at; spacing = spacing_of rate }) verdict
 taken_of (fact ∷ facts) = taken_of facts
 
--- Whether a cell at a moment keeps the window to each cell of a list that was taken before it. Between those and it lie
--- spacings that are counted already.
-abbrev pub keeps_windows : (tau at counted : ℕ) → List Arrival → Bool
-keeps_windows tau at counted [] = true
-keeps_windows tau at counted (earlier ∷ older) =
-    nat_le (earlier.at + (earlier.spacing + counted)) (at + tau) && keeps_windows tau at (earlier.spacing + counted) older
-
--- whether all windows between cells are kept, the last cell first
-abbrev pub all_windows_kept : ℕ → List Arrival → Bool
-all_windows_kept tau [] = true
-all_windows_kept tau (later ∷ older) = keeps_windows tau later.at 0 older && all_windows_kept tau older
-
 -- the verdict on a cell that comes at a moment where a rate is held: conforming exactly if it keeps all windows with the cells taken
 abbrev pub verdict_at : ℕ → List Fact → (at held : ℕ) → Verdict
-verdict_at tau facts at held =
-    if held == 0 then NoRate
-    else (if all_windows_kept tau (record { at = at; spacing = spacing_of held } ∷ taken_of facts) then Conforming else TooEarly)
+verdict_at tau facts at held = finding.verdict_at tau (taken_of facts) at held
