@@ -25,7 +25,7 @@ use Rattle.abt_model.proofs.Sums.{numbered_sum, holding}
 use Rattle.abt_model.proofs.Worlds.{facts_of-own, facts_of-other, outcome_of-known, AllLawful, lawful_at}
 use Rattle.abt_model.proofs.AnswerRows.{step_stays}
 use Rattle.abt_model.proofs.Lawful.{route_of}
-use Rattle.abt_model.proofs.Reservations.{held_by-held}
+use Rattle.abt_model.proofs.Decisions.{held_by-held}
 use Rattle.abt_cell.proofs.ChannelLemmas.{channel_cmp_total, channel_cmp-IsAntisymmetric, same_channel_tied, same_channel-is, same_channel-refl}
 
 -- the connection of a channel among those through a port, from number c on

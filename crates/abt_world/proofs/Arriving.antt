@@ -21,7 +21,7 @@ use Rattle.abt_model.specs.PortTable.{port_table, kept_at}
 use Rattle.abt_model.proofs.Lawful.{route_of}
 use Rattle.abt_model.proofs.Steps.{is_hop_tells}
 use Rattle.abt_model.proofs.Worlds.{lawful_at}
-use Rattle.abt_model.proofs.Reservations.{held_by-held}
+use Rattle.abt_model.proofs.Decisions.{held_by-held}
 use Rattle.abt_model.proofs.Served.{conn_within}
 use Rattle.abt_model.proofs.Tables.{tables_have_rows, tables_stay}
 use Rattle.abt_model.proofs.Serving.{arrivals_served}
