@@ -14,27 +14,31 @@ emitted_of [] = 0
 emitted_of (Emitted cell at rate ∷ facts) = emitted_of facts + 1
 emitted_of (fact ∷ facts) = emitted_of facts
 
+-- a part of the emission of a cell, of its moment and its rate; 0 where it wasn't emitted
+abbrev pub emitted_under : ((at rate : ℕ) → ℕ) → List Fact → ℕ → ℕ
+emitted_under part [] n = 0
+emitted_under part (Emitted cell at rate ∷ facts) n = if cell == n then part at rate else emitted_under part facts n
+emitted_under part (fact ∷ facts) n = emitted_under part facts n
+
 -- the moment at which a cell was emitted, and the rate at which it was shaped
 abbrev pub moment_of : List Fact → ℕ → ℕ
-moment_of [] n = 0
-moment_of (Emitted cell at rate ∷ facts) n = if cell == n then at else moment_of facts n
-moment_of (fact ∷ facts) n = moment_of facts n
+moment_of facts n = emitted_under (λ at rate. at) facts n
 
 abbrev pub cell_rate_of : List Fact → ℕ → ℕ
-cell_rate_of [] n = 0
-cell_rate_of (Emitted cell at rate ∷ facts) n = if cell == n then rate else cell_rate_of facts n
-cell_rate_of (fact ∷ facts) n = cell_rate_of facts n
+cell_rate_of facts n = emitted_under (λ at rate. rate) facts n
+
+-- a part of the last arrival, of its cell and its moment; 0 where there was none
+abbrev pub last_arrived : ((cell at : ℕ) → ℕ) → List Fact → ℕ
+last_arrived part [] = 0
+last_arrived part (Arrived cell at rate verdict ∷ facts) = part cell at
+last_arrived part (fact ∷ facts) = last_arrived part facts
 
 -- the number behind the last cell that arrived, 0 where none did, and the moment of the last arrival
 abbrev pub after_last_of : List Fact → ℕ
-after_last_of [] = 0
-after_last_of (Arrived cell at rate verdict ∷ facts) = cell + 1
-after_last_of (fact ∷ facts) = after_last_of facts
+after_last_of facts = last_arrived (λ cell at. cell + 1) facts
 
 abbrev pub last_arrival_of : List Fact → ℕ
-last_arrival_of [] = 0
-last_arrival_of (Arrived cell at rate verdict ∷ facts) = at
-last_arrival_of (fact ∷ facts) = last_arrival_of facts
+last_arrival_of facts = last_arrived (λ cell at. at) facts
 
 -- the greatest mark of a request that came to the first hop
 abbrev pub delivered_mark_of : List Fact → ℕ
