@@ -36,7 +36,14 @@ first_source = record { state = Down; rate = 0; stored = 0; last = 0; clock = 0;
 -- on a yes alone. The last number is that of the last ask, or of the store at the last start.
 abbrev pub after : List Fact → Fact → Source → Source
 after facts (Started now number) s = record {
-  state = Idle; rate = 0; stored = s.stored; last = number; clock = max now s.clock; next = now + hold_off; emission = None }
+  state = Idle;
+  rate = 0;
+  stored = s.stored;
+  last = number;
+  clock = max now s.clock;
+  next = now + hold_off;
+  emission = None;
+}
 after facts Crashed s = record s { state = Down; rate = 0 }
 after facts (Stored seq) s = record s { stored = max seq s.stored }
 after facts (Asked seq floor ask mark) s = record s { state = Asking seq; rate = floor; last = seq }

@@ -1,5 +1,5 @@
 -- What is sent after a port's reply (docs/RULES.md, "Path").
-use Rattle.std.specs.Prelude.{ℕ, ◌-◌, ◌==◌, ◌&&◌, not, Bool, true, false, List, length, slice_index, if◌then◌else◌}
+use Rattle.std.specs.Prelude.{ℕ, ◌-◌, ◌==◌, ◌&&◌, not, Bool, true, List, length, slice_index, if◌then◌else◌}
 use Rattle.abt_cell.specs.Channel.{Channel, same_channel}
 use Rattle.abt_cell.specs.Message.{Terms, Reply, answer_to}
 use Rattle.abt_cell.specs.Codec.{request_of}

@@ -6,7 +6,7 @@ ghost use Rattle.abt_net.specs.declared.conn.Conn.{Conn};
 ghost use Rattle.abt_follow.specs.Following as following;
 
 use crate::next_message::Next;
-use crate::path::{sent_after};
+use crate::path::sent_after;
 use abt_cell::Rm;
 use abt_journal::PortReply;
 use abt_net::Net;

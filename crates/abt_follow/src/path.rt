@@ -1,6 +1,5 @@
 //! Where messages go along a path.
 ghost use Rattle.std.specs.Prelude.{◌≡◌, ◌≤◌, length};
-ghost use Rattle.abt_net.specs.Paths.{hop_of};
 ghost use Rattle.abt_follow.specs.Following as following;
 
 use crate::next_message::Next;

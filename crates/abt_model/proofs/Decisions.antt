@@ -1,6 +1,6 @@
 -- What the decisions of a hop tell, by the rule of its port.
 use Rattle.std.proofs.Common.{◌≡◌, ◌≢◌, ℕ, ◌+◌, ◌-◌, ◌≤◌, ◌<◌, ◌⊎◌, inl, inr, ap, Bool, true, false, List, ◌∙◌, sym, subst, arith}
-use Rattle.std.specs.Prelude.{◌&&◌, ◌==◌, not, if◌then◌else◌}
+use Rattle.std.specs.Prelude.{◌&&◌, not, if◌then◌else◌}
 use Rattle.std.proofs.lemmas.Bool.{ne_eqb, eq-eqb, cond-false, cond-true, cases_Bool, cases_eq, and_parts, not-false, not-true}
 use Rattle.abt_facts.specs.declared.fact.Fact.{Fact}
 use Rattle.abt_node.specs.declared.reply.Onward.{Onward}

@@ -1,8 +1,7 @@
 -- No message is dropped since ports and sources disagree.
 use Rattle.std.proofs.Common.{◌≡◌, ℕ, ◌+◌, ◌-◌, ◌≤◌, ◌<◌, inl, inr, refl, ap, Bool, true, false, List, length, ◌∙◌, sym, arith}
-use Rattle.std.specs.Prelude.{◌||◌, ◌&&◌, ◌==◌, not, nat_lt, nat_le, Option}
-use Rattle.std.proofs.lemmas.Bool.{false≢true, eqb-true, eq-eqb, ne_eqb, false_from_ne_true, and_from, and_parts, cond_both, not-false, not-true, ltb-true, ltb-false, eqb-false}
-use Rattle.std.proofs.lemmas.Bool.Decides.{nat_tests}
+use Rattle.std.specs.Prelude.{◌&&◌, ◌==◌, not, nat_lt, Option}
+use Rattle.std.proofs.lemmas.Bool.{false≢true, ne_eqb, false_from_ne_true, and_from, and_parts, cond_both, not-false}
 use Rattle.abt_facts.specs.declared.fact.Fact.{Fact}
 use Rattle.abt_model.specs.declared.connection_fact.ConnectionFact.{ConnectionFact}
 use Rattle.abt_model.specs.declared.event.Event.{Event}
@@ -23,7 +22,7 @@ use Rattle.abt_model.specs.declared.outcome.Outcome.TheVariants.{Requested, Answ
 use Rattle.abt_facts.specs.Requests.{floor_of, ask_of}
 use Rattle.abt_facts.specs.Source.{SourceState, Down, Idle, Asking, state_of, rate_of, last_of, clock_of, next_of}
 use Rattle.abt_facts.specs.Sent.{was_passed, was_shut, was_turned, request_is_at, answer_is_at, answer_is_home, request_is_through}
-use Rattle.abt_facts.specs.Hop.{newest_of, held_of}
+use Rattle.abt_facts.specs.Hop.{held_of}
 use Rattle.abt_facts.specs.Cells.{emitted_of, last_arrival_of, fence_of, is_in_time}
 use Rattle.abt_cell.specs.Message.{Reply, Terms, answer_to}
 use Rattle.abt_net.specs.Topology.{Topology, conn_at}
@@ -100,10 +99,11 @@ answer_agrees conn reserved capacity fs lawful c j s granted =
     answer_agrees_by (reservation_at fs j) (answer_to (request_of conn.vc fs s) granted) (decided_back conn.vc fs j s granted)
     (answer_of-IsAnswered (reservation_at fs j) (answer_to (request_of conn.vc fs s) granted)) (passed_newest s j fs p.0)
     (λ same. (
-        record { number = same; floor = ap (floor_of fs) same; ask = ap (ask_of fs) same },
-        λ yes. (
-        let fresh : was_shut fs s j ≡ false = sym (ap (λ (b : Bool). b && was_shut fs s j) yes) ∙ p.1 in
-        and_from _ _ (ap not (ne_eqb _ _ (λ z. omega (arith, number.0, same)))) (ap not (ap (λ q. was_shut fs q j) (sym same) ∙ fresh))))))))
+      record { number = same; floor = ap (floor_of fs) same; ask = ap (ask_of fs) same },
+      λ yes. (
+          let fresh : was_shut fs s j ≡ false = sym (ap (λ (b : Bool). b && was_shut fs s j) yes) ∙ p.1 in
+          and_from _ _ (ap not (ne_eqb _ _ (λ z. omega (arith, number.0, same)))) (ap not (ap (λ q. was_shut fs q j) (sym same) ∙ fresh))),
+    )))))
 
 up_agrees : (st : SourceState) (o : Outcome) → disputes o ≡ false → disputes (if_up st o) ≡ false
 up_agrees Down o e = refl

@@ -1,7 +1,7 @@
 -- What a hop reserves follows the facts.
 use Rattle.std.proofs.Common.{◌≡◌, ◌≢◌, ℕ, ◌+◌, ◌-◌, ◌≤◌, inl, inr, refl, ap, Bool, true, false, List, [], ◌∷◌, ◌++◌, ◌∙◌, sym, arith}
 use Rattle.std.specs.Prelude.{◌&&◌, ◌==◌, not, if◌then◌else◌, nat_lt, nat_le}
-use Rattle.std.proofs.lemmas.Bool.{eqb-true, ne_eqb, eq-eqb, cond-false, cond-true, cases_Bool, cases_eq, false_from_ne_true, and_from, and_right, cond_both}
+use Rattle.std.proofs.lemmas.Bool.{ne_eqb, eq-eqb, cond-false, cond-true, false_from_ne_true, and_from, and_right, cond_both}
 use Rattle.abt_facts.specs.declared.fact.Fact.{Fact}
 use Rattle.abt_facts.specs.declared.fact.Fact.TheVariants.{Delivered, Passed, Shut}
 use Rattle.abt_node.specs.declared.reply.Onward.{Onward}
@@ -9,13 +9,13 @@ use Rattle.abt_node.specs.declared.reply.Onward.TheVariants.{Pass, Refuse, Drop}
 use Rattle.abt_node.specs.declared.reply.DropCause.TheVariants.{Stale, Conflict, FloorAbove}
 use Rattle.abt_facts.specs.Requests.{floor_of, ask_of}
 use Rattle.abt_facts.specs.Sent.{was_shut}
-use Rattle.abt_facts.specs.Hop.{newest_of, held_of, is_open_at}
-use Rattle.abt_cell.specs.Message.{Terms, answer_to}
+use Rattle.abt_facts.specs.Hop.{newest_of, is_open_at}
+use Rattle.abt_cell.specs.Message.{Terms}
 use Rattle.abt_cell.specs.Channel.{Channel}
 use Rattle.abt_source.specs.SourceFacts.{request_of}
 use Rattle.abt_model.specs.Outcomes.{delivery, request_adds}
 use Rattle.abt_model.specs.Decision.{reservation_at}
-use Rattle.abt_node.specs.Reservation.{Reservation, held_by, decided_as, no_to, pass_or_refuse, is_of, decision_of}
+use Rattle.abt_node.specs.Reservation.{Reservation, held_by, decided_as, pass_or_refuse, is_of, decision_of}
 use Rattle.abt_model.proofs.Holds.{shut_other_same, newest_above, shut_there}
 use Rattle.abt_model.proofs.Decisions.{held_by-held, closed_shut, decided, decided_pass, decided_refuse}
 use Rattle.abt_model.proofs.Lawful.{Route, IsLawful}

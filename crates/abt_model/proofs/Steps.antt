@@ -21,15 +21,13 @@ use Rattle.abt_model.specs.declared.outcome.Heard.TheVariants.{Ignored}
 use Rattle.abt_model.specs.declared.outcome.Outcome.{Outcome}
 use Rattle.abt_model.specs.declared.outcome.Cause.TheVariants.{Down as IsDown}
 use Rattle.abt_model.specs.declared.outcome.Outcome.TheVariants.{Crashed as HasCrashed, Told as HasTold, NotEnabled}
-use Rattle.abt_facts.specs.Requests.{floor_of, ask_of}
+use Rattle.abt_facts.specs.Requests.{floor_of}
 use Rattle.abt_facts.specs.Source.{SourceState, Down, Idle, Asking, state_of, rate_of, last_of, clock_of, next_of}
 use Rattle.abt_facts.specs.Sent.{was_delivered, was_shut, request_is_at, yes_is_at, answer_is_at, answer_is_home, request_is_through}
 use Rattle.abt_facts.specs.Hop.{newest_of, held_of}
 use Rattle.abt_facts.specs.Cells.{emitted_of, moment_of, last_arrival_of, fence_of, is_in_time}
-use Rattle.abt_cell.specs.Message.{Reply, answer_to}
 use Rattle.abt_cell.specs.Channel.{Channel}
 use Rattle.abt_model.specs.Events.{AsksRate}
-use Rattle.abt_source.specs.SourceFacts.{request_of}
 use Rattle.abt_rate.specs.Limits.{emit_max, number_max}
 use Rattle.abt_model.specs.Answers.{start_max, if_up, start_answer, ask_answer, emit_answer, arrive_answer, hearing, told_answer, is_hop, answer_by}
 use Rattle.abt_model.specs.Outcomes.{delivery, request_adds, answer_adds, facts_added}

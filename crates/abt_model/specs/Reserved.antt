@@ -1,5 +1,5 @@
 -- What is reserved on a port.
-use Rattle.std.specs.Prelude.{ℕ, ◌+◌, ◌==◌, List, [], ◌∷◌, if◌then◌else◌, sum_by}
+use Rattle.std.specs.Prelude.{ℕ, ◌==◌, List, if◌then◌else◌, sum_by}
 use Rattle.std.specs.List.{enumerate_from}
 use Rattle.abt_net.specs.Paths.{hop_of}
 use Rattle.abt_net.specs.Topology.{Topology}

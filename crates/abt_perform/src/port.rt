@@ -1,7 +1,6 @@
 //! The text of `abt port`.
 ghost use Rattle.std.specs.Prelude.{◌≡◌, ◌≤◌, ◌+◌, ◌++◌, IfOk, OnOk, IfErr, string_bytes};
 ghost use Rattle.abt_rate.specs.Limits.{capacity_max};
-ghost use Rattle.abt_perform.specs.Names.{cause_name};
 ghost use Rattle.abt_perform.specs.Plans.{texts_of};
 ghost use Rattle.abt_perform.specs.PortText.{port_text, line_of, table_past, served_text, table_served, table_knowing, decision_text, table_decided, onward_text, back_text, drop_text, fault_text};
 ghost use Rattle.abt_cell.specs.Codec.{request_of};

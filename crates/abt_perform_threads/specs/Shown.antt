@@ -1,5 +1,5 @@
 -- What `abt threads` shows of a run (docs/THREADS.md), line by line.
-use Rattle.std.specs.Prelude.{◌≡◌, ℕ, ◌<◌, ◌≤◌, ◌⊎◌, Bool, true, false, List, [], Option, length, take, codes}
+use Rattle.std.specs.Prelude.{◌≡◌, ℕ, ◌<◌, ◌⊎◌, true, List, [], Option, length, take, codes}
 use Rattle.std.specs.Io.KnownBytes.{Appends}
 use Rattle.abt_text.specs.Text.{Text, ◌⋅◌, newline}
 use Rattle.abt_report.specs.Report.{safe_line}

@@ -1,9 +1,7 @@
 -- States of the ports of a net (docs/RULES.md, "Journals").
-use Rattle.std.specs.Prelude.{◌≡◌, ℕ, ◌<◌, ◌==◌, List, [], map, length, Option, None, Some, slice_get, nat_lt, if◌then◌else◌}
+use Rattle.std.specs.Prelude.{◌≡◌, ℕ, ◌<◌, List, [], map, length, Option, None, Some, slice_get, nat_lt, if◌then◌else◌}
 use Rattle.abt_node.specs.Table.{Table}
-use Rattle.abt_net.specs.declared.conn.Conn.{Conn}
 use Rattle.abt_net.specs.Topology.{Topology}
-use Rattle.abt_net.specs.Paths.{hop_of}
 use Rattle.abt_model.specs.PortTable.{port_table}
 use Rattle.abt_journal.specs.declared.entry.Entry.{Entry}
 use Rattle.abt_journal.specs.Journaled.{Journaled}

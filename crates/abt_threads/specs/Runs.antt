@@ -1,5 +1,5 @@
 -- Runs of a net in threads (docs/RULES.md, "Workers").
-use Rattle.std.specs.Prelude.{◌≡◌, ◌≢◌, ℕ, ◌+◌, ◌<◌, ◌≤◌, List, [], ◌∷◌, length, map, All, slice_index}
+use Rattle.std.specs.Prelude.{◌≡◌, ◌≢◌, ℕ, ◌+◌, ◌<◌, List, [], ◌∷◌, length, map, All, slice_index}
 use Rattle.abt_rate.specs.Limits.{AreWorkers}
 use Rattle.abt_cell.specs.declared.message.Rm.{Rm}
 use Rattle.abt_net.specs.Topology.{Topology}

@@ -1,12 +1,11 @@
 //! Whether a state began as a port of a net.
-ghost use Rattle.std.specs.Prelude.{◌≡◌, ◌<◌, ◌↔◌, ◌⊎◌, ◌==◌, [], ℕ, IsTrue, IfNone, IfSome, Option, None, Some, if◌then◌else◌, length};
+ghost use Rattle.std.specs.Prelude.{◌≡◌, ◌<◌, ◌↔◌, ◌⊎◌, ◌==◌, [], ℕ, IsTrue, IfNone, IfSome, Option, None, Some, length};
 ghost use Rattle.abt_model.specs.PortTable.{port_table};
-ghost use Rattle.abt_net.specs.Paths.{hop_of, policer_at};
 ghost use Rattle.abt_net.specs.Topology.{IsWithinRules};
 ghost use Rattle.abt_ports.specs.Foreign.{IsPortOf, AreOfNet, IsFirstForeign};
 
 use abt_journal::PortState;
-use abt_net::{Conn, Net};
+use abt_net::Net;
 
 // The lowest place where a state is missing, is one too many, or isn't the net's port.
 pub(super) fn first_foreign(net: &Net, states: &[PortState]) -> Option<u16>

@@ -1,5 +1,4 @@
-use Rattle.std.proofs.Common.{rules, ◌≡◌, ◌+◌, arith, sym}
-use Rattle.abt_net.specs.Paths.{hop_of}
+use Rattle.std.proofs.Common.{rules, arith, sym}
 use Rattle.abt_net.proofs.PathLemmas.{hop_of-least, hop_of-nowhere}
 use Rattle.abt_net.proofs.path.Path.hop_of.Goals as goal
 
