@@ -1,5 +1,5 @@
 //! The command line, as `clap` is told of it.
-use abt_node::CAPACITY_MAX;
+use abt_rate::CAPACITY_MAX;
 use clap::{Arg, ArgAction, Command, value_parser};
 use std::alloc::{AllocError, Global};
 

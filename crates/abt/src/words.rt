@@ -3,8 +3,8 @@ ghost use Rattle.std.specs.Prelude.{IfOk};
 ghost use Rattle.abt_perform.specs.Plans.{IsWithinLimits};
 
 use crate::command::{CAPACITY, CODE, FILE, HEX, WORKERS, command};
-use abt_node::CAPACITY_MAX;
 use abt_perform::{Plan, WordsFault};
+use abt_rate::{CAPACITY_MAX, WORKERS_MAX};
 use clap::ArgMatches;
 use clap::error::ErrorKind;
 use std::alloc::{AllocError, Global};
@@ -14,9 +14,6 @@ const CAPACITY_RULE: &str = "a capacity is a decimal number of at most 2^60, dig
 
 // What a count of link workers has to be.
 const WORKERS_RULE: &str = "there are 1 to 64 link workers, a decimal number, digits alone";
-
-// The most link workers of a run.
-const WORKERS_MAX: u64 = 64;
 
 /// The plan that the words behind the program's name ask for.
 ///
@@ -65,7 +62,7 @@ fn threads_plan(alloc: Global, found: &ArgMatches<'_>) -> Result<Plan, WordsFaul
     let Some(workers) = found.get_one::<u64>(WORKERS) else {
         return no_plan(alloc, WORKERS_RULE);
     };
-    if workers == 0 || workers > WORKERS_MAX || !is_digits(digits) {
+    if workers == 0 || workers > u64::from(WORKERS_MAX) || !is_digits(digits) {
         return no_plan(alloc, WORKERS_RULE);
     }
     let file = file_of(alloc, found)?;

@@ -14,7 +14,7 @@ use Rattle.abt_model.specs.declared.outcome.Heard.{Heard}
 use Rattle.abt_model.specs.declared.outcome.Heard.TheVariants.{Ignored}
 use Rattle.abt_model.specs.declared.outcome.Outcome.{Outcome}
 use Rattle.abt_model.specs.declared.outcome.Outcome.TheVariants.{Crashed, Told as HasTold}
-use Rattle.abt_model.specs.Decision.{request_of}
+use Rattle.abt_source.specs.SourceFacts.{request_of}
 use Rattle.abt_model.specs.Answers.{if_up, start_answer, ask_answer, again_answer, emit_answer, hearing}
 use Rattle.abt_model.specs.Outcomes.{facts_added}
 

@@ -13,3 +13,7 @@ pub record Terms : Type 0 where
 pub record Reply : Type 0 where
   pub terms : Terms
   pub granted : Bool
+
+-- the yes or the no to a request
+abbrev pub answer_to : Terms → Bool → Reply
+answer_to request granted = record { terms = request; granted = granted }

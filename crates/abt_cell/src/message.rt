@@ -175,8 +175,8 @@ pub enum Rm {
 impl Rm {
     ghost use Rattle.abt_cell.specs.Codec.{request_of, flags_of};
 
-    // The request that is made or answered.
-    pub(crate) fn request(&self) -> Request
+    /// The request that is made or answered.
+    pub fn request(&self) -> Request
         ensures { result ≡ request_of self.now }
     {
         match self {

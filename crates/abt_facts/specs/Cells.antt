@@ -1,9 +1,9 @@
 -- The cells of a connection, by the connection's facts, the newest first (docs/RULES.md, "Cells"). They are numbered from 0.
-use Rattle.std.specs.Prelude.{ℕ, ◌+◌, ◌==◌, ◌&&◌, nat_le, Bool, true, List, [], ◌∷◌, if◌then◌else◌, max}
+use Rattle.std.specs.Prelude.{ℕ, ◌+◌, ◌==◌, ◌&&◌, nat_le, Bool, List, [], ◌∷◌, if◌then◌else◌, max}
 use Rattle.abt_rate.specs.Rate.{spacing_of}
 use Rattle.abt_gcra.specs.declared.verdict.Verdict.{Verdict}
-use Rattle.abt_gcra.specs.declared.verdict.Verdict.TheVariants.{Conforming, TooEarly, NoRate}
 use Rattle.abt_gcra.specs.Windows.{Arrival, taken_after}
+use Rattle.abt_gcra.specs.Finding as finding
 use Rattle.abt_facts.specs.declared.fact.Fact.{Fact}
 use Rattle.abt_facts.specs.declared.fact.Fact.TheVariants.{Delivered, Emitted, Arrived}
 use Rattle.abt_facts.specs.Requests.{mark_of}
@@ -14,27 +14,31 @@ emitted_of [] = 0
 emitted_of (Emitted cell at rate ∷ facts) = emitted_of facts + 1
 emitted_of (fact ∷ facts) = emitted_of facts
 
+-- a part of the emission of a cell, of its moment and its rate; 0 where it wasn't emitted
+abbrev pub emitted_under : ((at rate : ℕ) → ℕ) → List Fact → ℕ → ℕ
+emitted_under part [] n = 0
+emitted_under part (Emitted cell at rate ∷ facts) n = if cell == n then part at rate else emitted_under part facts n
+emitted_under part (fact ∷ facts) n = emitted_under part facts n
+
 -- the moment at which a cell was emitted, and the rate at which it was shaped
 abbrev pub moment_of : List Fact → ℕ → ℕ
-moment_of [] n = 0
-moment_of (Emitted cell at rate ∷ facts) n = if cell == n then at else moment_of facts n
-moment_of (fact ∷ facts) n = moment_of facts n
+moment_of facts n = emitted_under (λ at rate. at) facts n
 
 abbrev pub cell_rate_of : List Fact → ℕ → ℕ
-cell_rate_of [] n = 0
-cell_rate_of (Emitted cell at rate ∷ facts) n = if cell == n then rate else cell_rate_of facts n
-cell_rate_of (fact ∷ facts) n = cell_rate_of facts n
+cell_rate_of facts n = emitted_under (λ at rate. rate) facts n
+
+-- a part of the last arrival, of its cell and its moment; 0 where there was none
+abbrev pub last_arrived : ((cell at : ℕ) → ℕ) → List Fact → ℕ
+last_arrived part [] = 0
+last_arrived part (Arrived cell at rate verdict ∷ facts) = part cell at
+last_arrived part (fact ∷ facts) = last_arrived part facts
 
 -- the number behind the last cell that arrived, 0 where none did, and the moment of the last arrival
 abbrev pub after_last_of : List Fact → ℕ
-after_last_of [] = 0
-after_last_of (Arrived cell at rate verdict ∷ facts) = cell + 1
-after_last_of (fact ∷ facts) = after_last_of facts
+after_last_of facts = last_arrived (λ cell at. cell + 1) facts
 
 abbrev pub last_arrival_of : List Fact → ℕ
-last_arrival_of [] = 0
-last_arrival_of (Arrived cell at rate verdict ∷ facts) = at
-last_arrival_of (fact ∷ facts) = last_arrival_of facts
+last_arrival_of facts = last_arrived (λ cell at. at) facts
 
 -- the greatest mark of a request that came to the first hop
 abbrev pub delivered_mark_of : List Fact → ℕ
@@ -57,20 +61,6 @@ taken_of [] = []
 taken_of (Arrived cell at rate verdict ∷ facts) = taken_after (taken_of facts) (record { at = at; spacing = spacing_of rate }) verdict
 taken_of (fact ∷ facts) = taken_of facts
 
--- Whether a cell at a moment keeps the window to each cell of a list that was taken before it. Between those and it lie
--- spacings that are counted already.
-abbrev pub keeps_windows : (tau at counted : ℕ) → List Arrival → Bool
-keeps_windows tau at counted [] = true
-keeps_windows tau at counted (earlier ∷ older) =
-    nat_le (earlier.at + (earlier.spacing + counted)) (at + tau) && keeps_windows tau at (earlier.spacing + counted) older
-
--- whether all windows between cells are kept, the last cell first
-abbrev pub all_windows_kept : ℕ → List Arrival → Bool
-all_windows_kept tau [] = true
-all_windows_kept tau (later ∷ older) = keeps_windows tau later.at 0 older && all_windows_kept tau older
-
 -- the verdict on a cell that comes at a moment where a rate is held: conforming exactly if it keeps all windows with the cells taken
 abbrev pub verdict_at : ℕ → List Fact → (at held : ℕ) → Verdict
-verdict_at tau facts at held =
-    if held == 0 then NoRate
-    else (if all_windows_kept tau (record { at = at; spacing = spacing_of held } ∷ taken_of facts) then Conforming else TooEarly)
+verdict_at tau facts at held = finding.verdict_at tau (taken_of facts) at held

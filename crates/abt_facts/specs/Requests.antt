@@ -12,18 +12,18 @@ is_ask_of s other = false
 abbrev pub was_asked : List Fact → ℕ → Bool
 was_asked facts s = list_any (is_ask_of s) facts
 
--- The floor and the asked rate of a number, 0 where it was not asked, and how many cells were emitted before the ask.
+-- a part of what was asked under a number: of its floor, its asked rate and its mark; 0 where it was not asked
+abbrev pub asked_under : ((floor ask mark : ℕ) → ℕ) → List Fact → ℕ → ℕ
+asked_under part [] s = 0
+asked_under part (Asked seq floor ask mark ∷ facts) s = if seq == s then part floor ask mark else asked_under part facts s
+asked_under part (fact ∷ facts) s = asked_under part facts s
+
+-- The floor and the asked rate of a number, and how many cells were emitted before the ask.
 abbrev pub floor_of : List Fact → ℕ → ℕ
-floor_of [] s = 0
-floor_of (Asked seq floor ask mark ∷ facts) s = if seq == s then floor else floor_of facts s
-floor_of (fact ∷ facts) s = floor_of facts s
+floor_of facts s = asked_under (λ floor ask mark. floor) facts s
 
 abbrev pub ask_of : List Fact → ℕ → ℕ
-ask_of [] s = 0
-ask_of (Asked seq floor ask mark ∷ facts) s = if seq == s then ask else ask_of facts s
-ask_of (fact ∷ facts) s = ask_of facts s
+ask_of facts s = asked_under (λ floor ask mark. ask) facts s
 
 abbrev pub mark_of : List Fact → ℕ → ℕ
-mark_of [] s = 0
-mark_of (Asked seq floor ask mark ∷ facts) s = if seq == s then mark else mark_of facts s
-mark_of (fact ∷ facts) s = mark_of facts s
+mark_of facts s = asked_under (λ floor ask mark. mark) facts s

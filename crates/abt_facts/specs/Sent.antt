@@ -6,42 +6,35 @@ use Rattle.abt_facts.specs.declared.fact.Fact.{Fact}
 use Rattle.abt_facts.specs.declared.fact.Fact.TheVariants.{Delivered, Passed, Shut, Turned, Back}
 use Rattle.abt_facts.specs.Requests.{was_asked}
 
-abbrev pub is_delivery_of : ℕ → Fact → Bool
-is_delivery_of s (Delivered seq) = seq == s
-is_delivery_of s other = false
+-- whether a fact is this one, that a message was sent
+abbrev pub is_sending : Fact → Fact → Bool
+is_sending (Delivered s) (Delivered seq) = seq == s
+is_sending (Passed s j) (Passed seq hop) = seq == s && hop == j
+is_sending (Shut s j) (Shut seq hop) = seq == s && hop == j
+is_sending (Turned s) (Turned seq) = seq == s
+is_sending (Back s j) (Back seq hop) = seq == s && hop == j
+is_sending sent other = false
 
-abbrev pub is_pass_of : ℕ → ℕ → Fact → Bool
-is_pass_of s j (Passed seq hop) = seq == s && hop == j
-is_pass_of s j other = false
-
-abbrev pub is_shut_of : ℕ → ℕ → Fact → Bool
-is_shut_of s j (Shut seq hop) = seq == s && hop == j
-is_shut_of s j other = false
-
-abbrev pub is_turn_of : ℕ → Fact → Bool
-is_turn_of s (Turned seq) = seq == s
-is_turn_of s other = false
-
-abbrev pub is_back_of : ℕ → ℕ → Fact → Bool
-is_back_of s j (Back seq hop) = seq == s && hop == j
-is_back_of s j other = false
+-- whether a message was sent
+abbrev pub was : List Fact → Fact → Bool
+was facts sent = list_any (is_sending sent) facts
 
 -- whether request s came to the first hop, was passed or shut at hop j, was turned into a yes, and whether that yes was passed
 -- back at hop j
 abbrev pub was_delivered : List Fact → ℕ → Bool
-was_delivered facts s = list_any (is_delivery_of s) facts
+was_delivered facts s = was facts (Delivered s)
 
 abbrev pub was_passed : List Fact → ℕ → ℕ → Bool
-was_passed facts s j = list_any (is_pass_of s j) facts
+was_passed facts s j = was facts (Passed s j)
 
 abbrev pub was_shut : List Fact → ℕ → ℕ → Bool
-was_shut facts s j = list_any (is_shut_of s j) facts
+was_shut facts s j = was facts (Shut s j)
 
 abbrev pub was_turned : List Fact → ℕ → Bool
-was_turned facts s = list_any (is_turn_of s) facts
+was_turned facts s = was facts (Turned s)
 
 abbrev pub was_back : List Fact → ℕ → ℕ → Bool
-was_back facts s j = list_any (is_back_of s j) facts
+was_back facts s j = was facts (Back s j)
 
 -- whether request s lies at hop j: it was asked, or the hop before passed it
 abbrev pub request_is_at : List Fact → ℕ → ℕ → Bool

@@ -12,60 +12,69 @@ pub data SourceState : Type 0 where
   Idle : SourceState
   Asking : (seq : ℕ) → SourceState
 
-abbrev pub state_of : List Fact → SourceState
-state_of [] = Down
-state_of (Started now number ∷ facts) = Idle
-state_of (Crashed ∷ facts) = Down
-state_of (Asked seq floor ask mark ∷ facts) = Asking seq
-state_of (Heard seq granted ∷ facts) = Idle
-state_of (fact ∷ facts) = state_of facts
-
--- the rate at which the source shapes: nothing after a start or a crash, the floor of what it asked for, and more on a yes alone
-abbrev pub rate_of : List Fact → ℕ
-rate_of [] = 0
-rate_of (Started now number ∷ facts) = 0
-rate_of (Crashed ∷ facts) = 0
-rate_of (Asked seq floor ask mark ∷ facts) = floor
-rate_of (Heard seq granted ∷ facts) = if granted then ask_of facts seq else floor_of facts seq
-rate_of (fact ∷ facts) = rate_of facts
-
--- the number in the store, which outlives a crash
-abbrev pub stored_of : List Fact → ℕ
-stored_of [] = 0
-stored_of (Stored seq ∷ facts) = max seq (stored_of facts)
-stored_of (fact ∷ facts) = stored_of facts
-
--- the last number used: that of the last ask, or of the store at the last start
-abbrev pub last_of : List Fact → ℕ
-last_of [] = 0
-last_of (Started now number ∷ facts) = number
-last_of (Asked seq floor ask mark ∷ facts) = seq
-last_of (fact ∷ facts) = last_of facts
-
--- the greatest moment of a start or an emission, which outlives a crash
-abbrev pub clock_of : List Fact → ℕ
-clock_of [] = 0
-clock_of (Started now number ∷ facts) = max now (clock_of facts)
-clock_of (Emitted cell at rate ∷ facts) = max at (clock_of facts)
-clock_of (fact ∷ facts) = clock_of facts
-
 -- for how long no cell leaves after a start: one second, the greatest spacing that a rate has
 abbrev pub hold_off : ℕ
 hold_off = 10 ^ 12
 
--- the first moment at which the next cell may leave
-abbrev pub next_of : List Fact → ℕ
-next_of [] = 0
-next_of (Started now number ∷ facts) = now + hold_off
-next_of (Emitted cell at rate ∷ facts) = at + spacing_of rate
-next_of (fact ∷ facts) = next_of facts
+-- What the facts say of a source: its state; the rate at which it shapes; the number in its store, which outlives a crash; the
+-- last number that it used; its clock, the greatest moment of a start or an emission, which outlives a crash too; the first moment
+-- at which its next cell may leave; and the moment of its last emission since the last start.
+pub record Source : Type 0 where
+  pub state : SourceState
+  pub rate : ℕ
+  pub stored : ℕ
+  pub last : ℕ
+  pub clock : ℕ
+  pub next : ℕ
+  pub emission : Option ℕ
 
--- the moment of the last emission since the last start
+-- before the first fact
+abbrev pub first_source : Source
+first_source = record { state = Down; rate = 0; stored = 0; last = 0; clock = 0; next = 0; emission = None }
+
+-- The source after one more fact, which follows these: no rate after a start or a crash, the floor of what it asked for, and more
+-- on a yes alone. The last number is that of the last ask, or of the store at the last start.
+abbrev pub after : List Fact → Fact → Source → Source
+after facts (Started now number) s = record {
+  state = Idle;
+  rate = 0;
+  stored = s.stored;
+  last = number;
+  clock = max now s.clock;
+  next = now + hold_off;
+  emission = None;
+}
+after facts Crashed s = record s { state = Down; rate = 0 }
+after facts (Stored seq) s = record s { stored = max seq s.stored }
+after facts (Asked seq floor ask mark) s = record s { state = Asking seq; rate = floor; last = seq }
+after facts (Heard seq granted) s = record s { state = Idle; rate = if granted then ask_of facts seq else floor_of facts seq }
+after facts (Emitted cell at rate) s = record s { clock = max at s.clock; next = at + spacing_of rate; emission = Some at }
+after facts fact s = s
+
+abbrev pub source_of : List Fact → Source
+source_of [] = first_source
+source_of (fact ∷ facts) = after facts fact (source_of facts)
+
+abbrev pub state_of : List Fact → SourceState
+state_of facts = (source_of facts).state
+
+abbrev pub rate_of : List Fact → ℕ
+rate_of facts = (source_of facts).rate
+
+abbrev pub stored_of : List Fact → ℕ
+stored_of facts = (source_of facts).stored
+
+abbrev pub last_of : List Fact → ℕ
+last_of facts = (source_of facts).last
+
+abbrev pub clock_of : List Fact → ℕ
+clock_of facts = (source_of facts).clock
+
+abbrev pub next_of : List Fact → ℕ
+next_of facts = (source_of facts).next
+
 abbrev pub emission_of : List Fact → Option ℕ
-emission_of [] = None
-emission_of (Started now number ∷ facts) = None
-emission_of (Emitted cell at rate ∷ facts) = Some at
-emission_of (fact ∷ facts) = emission_of facts
+emission_of facts = (source_of facts).emission
 
 abbrev pub is_yes_to : ℕ → Fact → Bool
 is_yes_to s (Heard seq true) = seq == s

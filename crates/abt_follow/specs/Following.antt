@@ -1,12 +1,12 @@
 -- What is sent after a port's reply (docs/RULES.md, "Path").
-use Rattle.std.specs.Prelude.{ℕ, ◌-◌, ◌==◌, ◌&&◌, not, Bool, true, false, List, length, slice_index, if◌then◌else◌}
+use Rattle.std.specs.Prelude.{ℕ, ◌-◌, ◌==◌, ◌&&◌, not, Bool, true, List, length, slice_index, if◌then◌else◌}
 use Rattle.abt_cell.specs.Channel.{Channel, same_channel}
-use Rattle.abt_cell.specs.Message.{Terms, Reply}
+use Rattle.abt_cell.specs.Message.{Terms, Reply, answer_to}
+use Rattle.abt_cell.specs.Codec.{request_of}
 use Rattle.abt_cell.specs.declared.message.Rm.{Rm}
 use Rattle.abt_cell.specs.declared.message.Rm.TheVariants.{Request, Answer}
 use Rattle.abt_node.specs.declared.reply.Onward.TheVariants.{Pass, Refuse}
 use Rattle.abt_node.specs.declared.reply.Back.TheVariants.{Pass as PassBack}
-use Rattle.abt_model.specs.Decision.{answer_to}
 use Rattle.abt_journal.specs.declared.input.PortReply.{PortReply}
 use Rattle.abt_journal.specs.declared.input.PortReply.TheVariants.{Requested, Answered}
 use Rattle.abt_follow.specs.declared.next_message.Next.{Next}
@@ -14,8 +14,7 @@ use Rattle.abt_follow.specs.declared.next_message.Next.TheVariants.{Send, Tell, 
 
 -- the channel of a message
 abbrev pub channel_of : Rm → Channel
-channel_of (Request request) = request.vc
-channel_of (Answer answer) = answer.terms.vc
+channel_of rm = (request_of rm).vc
 
 -- an answer goes back from hop j to the hop before, and from the first hop to the source of its connection c
 abbrev pub back_from : List ℕ → (c j : ℕ) → Reply → Next

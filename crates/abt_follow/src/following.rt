@@ -1,13 +1,13 @@
 //! The rule that workers go by.
 ghost use Rattle.std.specs.Prelude.{◌≡◌, ◌≢◌, ℕ, Some};
-ghost use Rattle.abt_model.specs.Reserved.{hop_of};
+ghost use Rattle.abt_net.specs.Paths.{hop_of};
 ghost use Rattle.abt_net.specs.Topology.{conn_at, channel_at};
 ghost use Rattle.abt_net.specs.declared.conn.Conn.{Conn};
 ghost use Rattle.abt_follow.specs.Following as following;
 
 use crate::next_message::Next;
-use crate::path::{hop_at, sent_after};
-use abt_cell::{Rm, Vc};
+use crate::path::sent_after;
+use abt_cell::Rm;
 use abt_journal::PortReply;
 use abt_net::Net;
 
@@ -24,23 +24,12 @@ pub fn follow(net: &Net, port: u16, rm: &Rm, reply: &PortReply) -> Next
         hop_of conn.path port ≡ 0 → result ≡ Next.Nothing }
     ensures unknown { ((c : ℕ) → channel_at net.now.conns c ≢ Some (following.channel_of rm.now)) → result ≡ Next.Nothing }
 {
-    let Some(number) = net.find(channel_of(rm)) else {
+    let Some(number) = net.find(rm.request().vc()) else {
         return Next::Nothing;
     };
-    let conn = &net.conns()[usize::from(number)];
-    let path = conn.path.as_slice();
-    match hop_at(path, port) {
-        0 => Next::Nothing,
-        hop => sent_after(path, number, hop, rm, reply),
-    }
-}
-
-// The channel of a message.
-fn channel_of(rm: &Rm) -> Vc
-    ensures { result ≡ following.channel_of rm.now }
-{
-    match rm {
-        Rm::Request(request) => request.vc(),
-        Rm::Answer(answer) => answer.vc(),
+    let path = &net.conns()[usize::from(number)].path;
+    match path.hop_of(port) {
+        Some(hop) => sent_after(path.as_slice(), number, hop, rm, reply),
+        None => Next::Nothing,
     }
 }

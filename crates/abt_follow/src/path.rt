@@ -1,29 +1,11 @@
 //! Where messages go along a path.
 ghost use Rattle.std.specs.Prelude.{◌≡◌, ◌≤◌, length};
-ghost use Rattle.abt_model.specs.Reserved.{hop_of};
 ghost use Rattle.abt_follow.specs.Following as following;
 
 use crate::next_message::Next;
 use abt_cell::{Answer, Request, Rm};
 use abt_journal::PortReply;
 use abt_node::{Back, Onward};
-
-// The hop of a path, from 1, at which a port lies, and 0 where it lies at none.
-pub(crate) fn hop_at(path: &[u16], port: u16) -> usize
-    ensures value { result ≡ hop_of path.now port }
-    ensures within { result ≤ length path.now }
-{
-    let Some((first, rest)) = path.split_first() else {
-        return 0;
-    };
-    if *first == port {
-        return 1;
-    }
-    match hop_at(rest, port) {
-        0 => 0,
-        hop => hop + 1,
-    }
-}
 
 // What goes back from a hop.
 fn back_from(path: &[u16], conn: u16, hop: usize, answer: Answer) -> Next

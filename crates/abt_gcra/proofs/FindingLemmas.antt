@@ -70,11 +70,9 @@ conforms_found tau (cell ∷ cells) conform =
 -- ---- verdicts
 
 verdict_conforming : (tau : ℕ) (taken : List Arrival) (cell : Arrival) → Conforms tau (cell ∷ taken) → verdict_of tau taken cell ≡ Conforming
-unfolding verdict_of
 verdict_conforming tau taken cell conform = rw (conforms_found tau (cell ∷ taken) conform)
 
 verdict_early : (tau : ℕ) (taken : List Arrival) (cell : Arrival) → conforms tau (cell ∷ taken) ≡ false → verdict_of tau taken cell ≡ TooEarly
-unfolding verdict_of
 verdict_early tau taken cell early = rw early
 
 pub verdict-is : (tau : ℕ) (taken : List Arrival) (cell : Arrival) → IsVerdict tau taken cell (verdict_of tau taken cell)
@@ -106,7 +104,6 @@ at_rate tau taken at held TooEarly some is = (some, is)
 at_rate tau taken at held NoRate some is = absurd is
 
 pub verdict_at-is : (tau : ℕ) (taken : List Arrival) (at held : ℕ) → IsVerdictAt tau taken at held (verdict_at tau taken at held)
-unfolding verdict_at
 verdict_at-is tau taken at held =
     elim (cases_eq held 0) as (λ _. IsVerdictAt tau taken at held (verdict_at tau taken at held)) [
       | inl none ↦ rw none refl
@@ -115,7 +112,6 @@ verdict_at-is tau taken at held =
     ]
 
 pub verdict_at_only : (tau : ℕ) (taken : List Arrival) (at held : ℕ) (verdict : Verdict) → IsVerdictAt tau taken at held verdict → verdict ≡ verdict_at tau taken at held
-unfolding verdict_at
 verdict_at_only tau taken at held NoRate none = rw none
 verdict_at_only tau taken at held Conforming (some, conform) = rw (ne_eqb held 0 some) (verdict_only tau taken _ Conforming conform)
 verdict_at_only tau taken at held TooEarly (some, early) = rw (ne_eqb held 0 some) (verdict_only tau taken _ TooEarly early)

@@ -18,10 +18,10 @@ conforms tau [] = true
 conforms tau (cell ∷ older) = keeps (cell.at + tau) 0 older && conforms tau older
 
 -- the verdict on a cell, after those that were taken
-unfoldable pub verdict_of : (tau : ℕ) (taken : List Arrival) → Arrival → Verdict
+abbrev pub verdict_of : (tau : ℕ) (taken : List Arrival) → Arrival → Verdict
 verdict_of tau taken cell = if conforms tau (cell ∷ taken) then Conforming else TooEarly
 
 -- the verdict on a cell at a moment, where a rate is held
-unfoldable pub verdict_at : (tau : ℕ) (taken : List Arrival) (at held : ℕ) → Verdict
+abbrev pub verdict_at : (tau : ℕ) (taken : List Arrival) (at held : ℕ) → Verdict
 verdict_at tau taken at held =
     if held == 0 then NoRate else verdict_of tau taken (arrival at (spacing_of held))

@@ -15,7 +15,7 @@ pub use bucket::Bucket;
 pub use fault::{GcraFault, PoliceFault};
 pub use gcra::Gcra;
 pub use law::{conforming_cells_are_taken, shaped_cells_conform, verdict_is_found};
-pub use limits::{ARRIVE_MAX, SPACING_MAX, TAU_MAX, limits_are_kept};
+pub use limits::{ARRIVE_MAX, SPACING_MAX, limits_are_kept};
 pub use list::police;
 pub use policer::Policer;
 pub use verdict::Verdict;

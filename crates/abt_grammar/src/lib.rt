@@ -7,6 +7,7 @@ mod value;
 
 pub use command::command_of;
 pub use event::event_of;
+pub use value::rate_of;
 
 #[cfg(test)]
 mod tests;

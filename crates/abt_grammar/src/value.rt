@@ -6,8 +6,9 @@ use abt_keep::StorePlan;
 use abt_rate::Rate;
 use hex::FromHex;
 
-// The rate of a code of four hexadecimal digits.
-pub(crate) fn rate_of(word: &str) -> Option<Rate>
+/// The rate of a rate code, which is written as four hexadecimal digits of either case (docs/FORMATS.md, "Scenario"); no
+/// rate where the text is anything else.
+pub fn rate_of(word: &str) -> Option<Rate>
     ensures { result ≡ rate_of word.now }
 {
     match <[u8; 2] as FromHex>::from_hex(word) {

@@ -8,4 +8,4 @@ pub use abt_ports::{Gate, GatherFault, Journals, OpenGate, PortCell, gather};
 pub use abt_relay::{AnswerBox, Parcel, ThreadPlan, link_worker};
 pub use abt_script::{Command, Script};
 pub use abt_source_journal::{SourceEntry, SourceJournal};
-pub use abt_threads::{Gathered, RunFault, WORKERS_MAX, run_threads};
+pub use abt_threads::{Gathered, RunFault, run_threads};

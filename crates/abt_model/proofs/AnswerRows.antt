@@ -26,17 +26,20 @@ use Rattle.abt_facts.specs.Sent.{was_shut, request_is_at, answer_is_at, answer_i
 use Rattle.abt_facts.specs.Hop.{newest_of, held_of, is_open_at}
 use Rattle.abt_facts.specs.Cells.{emitted_of, last_arrival_of, fence_of, verdict_at, is_in_time}
 use Rattle.abt_cell.specs.Channel.{Channel}
-use Rattle.abt_model.specs.Decision.{request_of, answer_to}
+use Rattle.abt_cell.specs.Message.{answer_to}
+use Rattle.abt_source.specs.SourceFacts.{request_of}
 use Rattle.abt_rate.specs.Limits.{emit_max, number_max}
 use Rattle.abt_model.specs.Answers.{start_max, if_up, start_answer, ask_answer, emit_answer, arrive_answer, told_answer, is_hop, answer_by}
 use Rattle.abt_model.specs.Outcomes.{delivery, request_adds, answer_adds, facts_added}
-use Rattle.abt_model.specs.PortTable.{reservation_at, policing_by, kept_at, hop_visited}
+use Rattle.abt_model.specs.PortTable.{policing_by, kept_at, hop_visited}
+use Rattle.abt_model.specs.Decision.{reservation_at}
 use Rattle.abt_node.specs.Reservation.{Reservation, is_of, answer_of}
 use Rattle.abt_model.proofs.Chain.{passed_asked, asked_last, newest_asked}
 use Rattle.abt_model.proofs.Holds.{newest_above, shut_there}
 use Rattle.abt_model.proofs.Lawful.{Route, route_of, IsLawful}
 use Rattle.abt_model.proofs.Drops.{answer_passed}
-use Rattle.abt_model.proofs.Steps.{decided, decided_back, down_adds}
+use Rattle.abt_model.proofs.Decisions.{decided, decided_back}
+use Rattle.abt_model.proofs.Steps.{down_adds}
 use Rattle.abt_model.proofs.Cases.{passed_newest}
 use Rattle.abt_model.proofs.Reservations.{shut_as, shut_elsewhere, reservation_other}
 
@@ -49,9 +52,6 @@ answer_tests : (below equal same fits : Bool) (granted : Bool) (r : Reservation)
     let passed : Returned × Reservation = (PassBack, record r { is_open = r.is_open && granted }) in
     out ≡ passed)
 answer_tests below equal same fits granted r b e s f = rw (b, e, s, f) refl
-
-shut_test : (not_same shut_too : Bool) → not_same ≡ false → shut_too ≡ false → (if false || not_same || shut_too then DropBack Conflict else PassBack) ≡ PassBack
-shut_test not_same shut_too a b = rw (a, b) refl
 
 same_again : (fs : List Fact) (j s : ℕ) → s ≡ newest_of fs j → ((floor_of fs s == floor_of fs (newest_of fs j)) && (ask_of fs s == ask_of fs (newest_of fs j))) ≡ true
 same_again fs j s e = and_from _ _ (eq-eqb _ _ (ap (floor_of fs) e)) (eq-eqb _ _ (ap (ask_of fs) e))
@@ -82,7 +82,7 @@ answer_leaves fs j s false some equal =
 
 -- the reply to an answer that was sent, and what is reserved then, are those of the node
 pub answer_reserved : (l : Route) (vc : Channel) (fs : List Fact) → IsLawful l fs → (s j : ℕ) (granted : Bool) → (1 ≤ j) × (j ≤ l.hops) → answer_is_at l.hops fs s j granted ≡ true →
-    answer_of (reservation_at fs j) (answer_to (request_of vc fs s) granted) ≡ (decided_back fs j s granted, reservation_at (answer_adds j s granted (decided_back fs j s granted) ++ fs) j)
+    answer_of (reservation_at fs j) (answer_to (request_of vc fs s) granted) ≡ (decided_back vc fs j s granted, reservation_at (answer_adds j s granted (decided_back vc fs j s granted) ++ fs) j)
 answer_reserved l vc fs lawful s j granted hop at =
     let p = answer_passed l fs lawful s j granted hop at in
     let low : s ≤ newest_of fs j = passed_newest s j fs p.0 in
@@ -91,21 +91,20 @@ answer_reserved l vc fs lawful s j granted hop at =
       | inl equal ↦ (
           let m = newest_of fs j in
           let below : nat_lt s m ≡ false = le-ltb s m (omega arith) in
-          let above : nat_lt m s ≡ false = le-ltb m s (omega arith) in
           let same = same_again fs j s equal in
           let unshut : (granted && was_shut fs m j) ≡ false = ap (λ q. granted && was_shut fs q j) (sym equal) ∙ p.1 in
-          let said : decided_back fs j s granted ≡ PassBack = rw (below, above) (shut_test _ _ (ap not same) unshut) in
           let fits : (is_open_at fs j || not granted) ≡ true = granted_open (is_open_at fs j) granted (λ yes. (
           let fresh : was_shut fs m j ≡ false = sym (ap (λ (b : Bool). b && was_shut fs m j) yes) ∙ unshut in
           and_from _ _ (ap not (ne_eqb m 0 (λ z. omega arith))) (ap not fresh))) in
           let node = answer_tests (nat_lt s m) (s == m) (is_of (reservation_at fs j) (request_of vc fs s)) (is_open_at fs j || not granted) granted (reservation_at fs j) below (eq-eqb s m equal) same fits in
+          let said : decided_back vc fs j s granted ≡ PassBack = ap (λ (x : Returned × Reservation). x.0) node in
           let left = answer_leaves fs j s granted number.0 equal in
           node ∙ ap (λ (r : Reservation). (PassBack, r)) left ∙ ap (λ (d : Returned). (d, reservation_at (answer_adds j s granted d ++ fs) j)) (sym said))
       | inr differ ↦ (
           let m = newest_of fs j in
           let below : nat_lt s m ≡ true = lt-ltb s m (omega arith) in
-          let said : decided_back fs j s granted ≡ DropBack Stale = rw (below) refl in
           let node : answer_of (reservation_at fs j) (answer_to (request_of vc fs s) granted) ≡ (DropBack Stale, reservation_at fs j) = rw (below) refl in
+          let said : decided_back vc fs j s granted ≡ DropBack Stale = ap (λ (x : Returned × Reservation). x.0) node in
           let left : reservation_at (answer_adds j s granted (DropBack Stale) ++ fs) j ≡ reservation_at fs j = stale_leaves fs j s granted in
           node ∙ ap (λ (r : Reservation). (DropBack Stale, r)) (sym left) ∙ ap (λ (d : Returned). (d, reservation_at (answer_adds j s granted d ++ fs) j)) (sym said))
     ]
@@ -223,6 +222,6 @@ step_stays conn reserved capacity fs lawful (Answer c j s granted) i low differ 
     let P = Stays conn fs (Answer c j s granted) i in
     cond_both (not (is_hop (length conn.path) j)) _ _ P (λ e. refl)
     (λ e. cond_both (not (answer_is_at (length conn.path) fs s j granted)) _ _ P (λ e2. refl)
-    (λ e2. with_reservation conn fs (answer_adds j s granted (decided_back fs j s granted) ++ fs) i (answer_other fs s j i granted (decided_back fs j s granted) differ) (answer_polices conn s j fs granted (decided_back fs j s granted))))
+    (λ e2. with_reservation conn fs (answer_adds j s granted (decided_back conn.vc fs j s granted) ++ fs) i (answer_other fs s j i granted (decided_back conn.vc fs j s granted) differ) (answer_polices conn s j fs granted (decided_back conn.vc fs j s granted))))
 step_stays conn reserved capacity fs lawful (Told c s granted) i low differ =
     cond_both (not (answer_is_home fs s granted)) _ _ (Stays conn fs (Told c s granted) i) (λ e. refl) (λ e. told_stays conn fs c s i granted (told_answer (state_of fs) s granted))

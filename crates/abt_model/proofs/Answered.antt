@@ -16,8 +16,7 @@ use Rattle.abt_facts.specs.Requests.{was_asked, floor_of}
 use Rattle.abt_facts.specs.Source.{SourceState, Down, Idle, Asking, state_of, rate_of, last_of, yes_was_heard}
 use Rattle.abt_facts.specs.Sent.{was_shut, was_back, answer_is_home}
 use Rattle.abt_facts.specs.Hop.{newest_of, is_open_at}
-use Rattle.abt_net.specs.Topology.{Topology}
-use Rattle.abt_model.specs.Conns.{conn_at}
+use Rattle.abt_net.specs.Topology.{Topology, conn_at}
 use Rattle.abt_model.specs.Past.{facts_of}
 use Rattle.abt_model.specs.Answers.{hearing, told_answer}
 use Rattle.abt_model.specs.Promises.{YesWasSent, NoWasSent, OneAnswerEach, RatesWait, YesStandsEverywhere}

@@ -6,9 +6,10 @@ use Rattle.abt_rate.specs.Rate.{spacing_of}
 use Rattle.abt_gcra.specs.declared.verdict.Verdict.{Verdict}
 use Rattle.abt_gcra.specs.declared.verdict.Verdict.TheVariants.{Conforming}
 use Rattle.abt_gcra.specs.Windows.{Arrival, taken_after}
+use Rattle.abt_gcra.specs.Finding.{keeps, conforms}
 use Rattle.abt_facts.specs.declared.fact.Fact.{Fact}
 use Rattle.abt_facts.specs.declared.fact.Fact.TheVariants.{Arrived}
-use Rattle.abt_facts.specs.Cells.{emitted_of, moment_of, cell_rate_of, after_last_of, taken_of, verdict_at, keeps_windows, all_windows_kept}
+use Rattle.abt_facts.specs.Cells.{emitted_of, moment_of, cell_rate_of, after_last_of, taken_of, verdict_at}
 use Rattle.abt_model.specs.Safe.{AllConform}
 use Rattle.abt_model.proofs.Spacings.{spacing_antitone}
 use Rattle.abt_model.proofs.Lawful.{Route, MayFollow, IsLawful}
@@ -20,17 +21,17 @@ abbrev pub tat : List Arrival → ℕ
 tat [] = 0
 tat (cell ∷ cells) = max cell.at (tat cells) + cell.spacing
 
-tat_follows : (tau a counted : ℕ) (cells : List Arrival) → tat cells + counted ≤ a + tau → keeps_windows tau a counted cells ≡ true
-tat_follows tau a counted [] le = refl
-tat_follows tau a counted (cell ∷ cells) le =
-    and_from _ _ (le-leb _ _ (omega arith)) (tat_follows tau a (cell.spacing + counted) cells (omega arith))
+tat_follows : (limit owed : ℕ) (cells : List Arrival) → tat cells + owed ≤ limit → keeps limit owed cells ≡ true
+tat_follows limit owed [] le = refl
+tat_follows limit owed (cell ∷ cells) le =
+    and_from _ _ (le-leb _ _ (omega arith)) (tat_follows limit (cell.spacing + owed) cells (omega arith))
 
 -- after each arrival the theoretical arrival time is at most that cell's emission, the greatest delay and its spacing
 pub record IsTimely (l : Route) (fs : List Fact) : Type 0 where
   pub low : after_last_of fs ≤ emitted_of fs
   pub bound : (n : ℕ) → after_last_of fs ≡ n + 1 → tat (taken_of fs) ≤ moment_of fs n + l.delay + l.tau + spacing_of (cell_rate_of fs n)
   pub none : after_last_of fs ≡ 0 → tat (taken_of fs) ≡ 0
-  pub kept : all_windows_kept l.tau (taken_of fs) ≡ true
+  pub kept : conforms l.tau (taken_of fs) ≡ true
 
 IsTimely-more : (l : Route) (f : Fact) (fs : List Fact) → MayFollow l fs f → IsTimely l fs → after_last_of (f ∷ fs) ≡ after_last_of fs → taken_of (f ∷ fs) ≡ taken_of fs → IsTimely l (f ∷ fs)
 IsTimely-more l f fs may old same cells = record {
@@ -41,12 +42,12 @@ IsTimely-more l f fs may old same cells = record {
       let b = old.bound n (sym same ∙ e) in
       omega (arith, ap tat cells, kept.0, ap spacing_of kept.1, b));
   none = λ z. ap tat cells ∙ old.none (sym same ∙ z);
-  kept = ap (all_windows_kept l.tau) cells ∙ old.kept;
+  kept = ap (conforms l.tau) cells ∙ old.kept;
 }
 
 -- what an arrival finds
 pub arrival : (l : Route) (fs : List Fact) → IsLawful l fs → 1 ≤ l.hops → IsTimely l fs → (n a r : ℕ) (v : Verdict) → MayFollow l fs (Arrived n a r v) →
-    (v ≡ Conforming) × (tat (taken_of fs) ≤ moment_of fs n + l.delay + l.tau) × (spacing_of r ≤ spacing_of (cell_rate_of fs n)) × (keeps_windows l.tau a 0 (taken_of fs) ≡ true) × (0 < r)
+    (v ≡ Conforming) × (tat (taken_of fs) ≤ moment_of fs n + l.delay + l.tau) × (spacing_of r ≤ spacing_of (cell_rate_of fs n)) × (keeps (a + l.tau) 0 (taken_of fs) ≡ true) × (0 < r)
 arrival l fs lawful some old n a r v may =
     let cell = sent_facts l fs lawful n may.0 in
     let holds : cell_rate_of fs n ≤ r = omega (arith, cell_held l fs lawful some n may.0 may.1, may.5) in
@@ -59,9 +60,9 @@ arrival l fs lawful some old n a r v may =
           let order = sent_order l fs lawful m n (omega (arith, may.1)) may.0 in
           omega (arith, b, order))
     ] in
-    let fits : keeps_windows l.tau a 0 (taken_of fs) ≡ true = tat_follows l.tau a 0 (taken_of fs) (omega (arith, early, may.2)) in
+    let fits : keeps (a + l.tau) 0 (taken_of fs) ≡ true = tat_follows (a + l.tau) 0 (taken_of fs) (omega (arith, early, may.2)) in
     let some_rate : r ≢ 0 = λ z. omega (arith, cell.some, holds) in
-    let all : all_windows_kept l.tau (record { at = a; spacing = spacing_of r } ∷ taken_of fs) ≡ true = and_from _ _ fits old.kept in
+    let all : conforms l.tau (record { at = a; spacing = spacing_of r } ∷ taken_of fs) ≡ true = and_from _ _ fits old.kept in
     let conforming : verdict_at l.tau fs a r ≡ Conforming = cond-false _ _ _ (ne_eqb r 0 some_rate) ∙ cond-true _ _ _ all in
     (may.6 ∙ conforming, early, spacing_antitone (cell_rate_of fs n) r cell.some holds, fits, omega (arith, cell.some, holds))
 
@@ -75,7 +76,7 @@ timely l (Arrived n a r v ∷ fs) lawful some =
       low = omega (arith, lawful.0.0);
       bound = λ m e. (let same : m ≡ n = omega arith in rw same (omega (arith, ap tat cells, finds.1, finds.2, lawful.0.3)));
       none = λ z. absurd (omega arith);
-      kept = ap (all_windows_kept l.tau) cells ∙ and_from _ _ finds.3 old.kept;
+      kept = ap (conforms l.tau) cells ∙ and_from _ _ finds.3 old.kept;
     }
 timely l (f ∷ fs) lawful some = IsTimely-more l f fs lawful.0 (timely l fs lawful.1 some) refl refl
 

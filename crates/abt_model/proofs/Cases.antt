@@ -7,36 +7,27 @@ use Rattle.abt_facts.specs.declared.fact.Fact.{Fact}
 use Rattle.abt_facts.specs.declared.fact.Fact.TheVariants.{Asked, Heard, Delivered, Passed, Shut, Turned, Back}
 use Rattle.abt_facts.specs.Requests.{is_ask_of, was_asked}
 use Rattle.abt_facts.specs.Source.{is_yes_to, yes_was_heard}
-use Rattle.abt_facts.specs.Sent.{is_delivery_of, is_pass_of, is_shut_of, is_turn_of, is_back_of, was_delivered, was_passed, was_shut, was_turned, was_back}
+use Rattle.abt_facts.specs.Sent.{is_sending, was, was_delivered, was_passed, was_shut, was_turned, was_back}
 use Rattle.abt_facts.specs.Hop.{newest_of}
 
 or_left' : (x y : Bool) → x ≡ true → (x || y) ≡ true
 or_left' x y h = rw h refl
 
-pub is_passed-true : (s j : ℕ) (f : Fact) → is_pass_of s j f ≡ true → f ≡ Passed s j
-is_passed-true s j (Passed t i) h =
+at_hop-true : (fact : ℕ → ℕ → Fact) (s j t i : ℕ) → (t == s && i == j) ≡ true → fact t i ≡ fact s j
+at_hop-true fact s j t i h =
     let both = and_parts _ _ h in
     let e : t ≡ s = eqb-true t s both.0 in
-    let d : i ≡ j = eqb-true i j both.1 in cc
-is_passed-true s j other h = absurd (false≢true h)
+    let d : i ≡ j = eqb-true i j both.1 in
+    cc
 
-pub is_shut-true : (s j : ℕ) (f : Fact) → is_shut_of s j f ≡ true → f ≡ Shut s j
-is_shut-true s j (Shut t i) h =
-    let both = and_parts _ _ h in
-    let e : t ≡ s = eqb-true t s both.0 in
-    let d : i ≡ j = eqb-true i j both.1 in cc
-is_shut-true s j other h = absurd (false≢true h)
-
-pub is_back-true : (s j : ℕ) (f : Fact) → is_back_of s j f ≡ true → f ≡ Back s j
-is_back-true s j (Back t i) h =
-    let both = and_parts _ _ h in
-    let e : t ≡ s = eqb-true t s both.0 in
-    let d : i ≡ j = eqb-true i j both.1 in cc
-is_back-true s j other h = absurd (false≢true h)
-
-pub is_turned-true : (s : ℕ) (f : Fact) → is_turn_of s f ≡ true → f ≡ Turned s
-is_turned-true s (Turned t) h = let e : t ≡ s = eqb-true t s h in cc
-is_turned-true s other h = absurd (false≢true h)
+-- a fact that is a sending is the one that was asked for
+is_sending-true : (sent f : Fact) → is_sending sent f ≡ true → f ≡ sent
+is_sending-true (Delivered s) (Delivered t) h = let e : t ≡ s = eqb-true t s h in cc
+is_sending-true (Passed s j) (Passed t i) h = at_hop-true Passed s j t i h
+is_sending-true (Shut s j) (Shut t i) h = at_hop-true Shut s j t i h
+is_sending-true (Turned s) (Turned t) h = let e : t ≡ s = eqb-true t s h in cc
+is_sending-true (Back s j) (Back t i) h = at_hop-true Back s j t i h
+is_sending-true sent other h = absurd (false≢true h)
 
 pub is_yes_heard-true : (s : ℕ) (f : Fact) → is_yes_to s f ≡ true → f ≡ Heard s true
 is_yes_heard-true s (Heard t true) h = let e : t ≡ s = eqb-true t s h in cc
@@ -53,17 +44,20 @@ is_asked-true s (Asked t floor ask mark) h = let e : t ≡ s = eqb-true t s h in
 is_asked-true s other h = absurd (false≢true h)
 
 -- the test that passes of the list, of the newest fact or of the others
+pub sent_cases : (sent f : Fact) (fs : List Fact) → was (f ∷ fs) sent ≡ true → (f ≡ sent) ⊎ (was fs sent ≡ true)
+sent_cases sent f fs h = elim (or_cases (is_sending sent f) (was fs sent) h) [ inl t ↦ inl (is_sending-true sent f t) | inr t ↦ inr t ]
+
 pub passed_cases : (s j : ℕ) (f : Fact) (fs : List Fact) → was_passed (f ∷ fs) s j ≡ true → (f ≡ Passed s j) ⊎ (was_passed fs s j ≡ true)
-passed_cases s j f fs h = elim (or_cases (is_pass_of s j f) (was_passed fs s j) h) [ inl t ↦ inl (is_passed-true s j f t) | inr t ↦ inr t ]
+passed_cases s j f fs h = sent_cases (Passed s j) f fs h
 
 pub shut_cases : (s j : ℕ) (f : Fact) (fs : List Fact) → was_shut (f ∷ fs) s j ≡ true → (f ≡ Shut s j) ⊎ (was_shut fs s j ≡ true)
-shut_cases s j f fs h = elim (or_cases (is_shut_of s j f) (was_shut fs s j) h) [ inl t ↦ inl (is_shut-true s j f t) | inr t ↦ inr t ]
+shut_cases s j f fs h = sent_cases (Shut s j) f fs h
 
 pub back_cases : (s j : ℕ) (f : Fact) (fs : List Fact) → was_back (f ∷ fs) s j ≡ true → (f ≡ Back s j) ⊎ (was_back fs s j ≡ true)
-back_cases s j f fs h = elim (or_cases (is_back_of s j f) (was_back fs s j) h) [ inl t ↦ inl (is_back-true s j f t) | inr t ↦ inr t ]
+back_cases s j f fs h = sent_cases (Back s j) f fs h
 
 pub turned_cases : (s : ℕ) (f : Fact) (fs : List Fact) → was_turned (f ∷ fs) s ≡ true → (f ≡ Turned s) ⊎ (was_turned fs s ≡ true)
-turned_cases s f fs h = elim (or_cases (is_turn_of s f) (was_turned fs s) h) [ inl t ↦ inl (is_turned-true s f t) | inr t ↦ inr t ]
+turned_cases s f fs h = sent_cases (Turned s) f fs h
 
 pub yes_heard_cases : (s : ℕ) (f : Fact) (fs : List Fact) → yes_was_heard (f ∷ fs) s ≡ true → (f ≡ Heard s true) ⊎ (yes_was_heard fs s ≡ true)
 yes_heard_cases s f fs h = elim (or_cases (is_yes_to s f) (yes_was_heard fs s) h) [ inl t ↦ inl (is_yes_heard-true s f t) | inr t ↦ inr t ]
@@ -72,17 +66,20 @@ pub asked_cases : (s : ℕ) (f : Fact) (fs : List Fact) → was_asked (f ∷ fs)
 asked_cases s f fs h = elim (or_cases (is_ask_of s f) (was_asked fs s) h) [ inl t ↦ inl (is_asked-true s f t) | inr t ↦ inr t ]
 
 -- what was true of the others stays true
+pub sent_more : (sent f : Fact) (fs : List Fact) → was fs sent ≡ true → was (f ∷ fs) sent ≡ true
+sent_more sent f fs h = or_right (is_sending sent f) (was fs sent) h
+
 pub passed_more : (s j : ℕ) (f : Fact) (fs : List Fact) → was_passed fs s j ≡ true → was_passed (f ∷ fs) s j ≡ true
-passed_more s j f fs h = or_right (is_pass_of s j f) (was_passed fs s j) h
+passed_more s j f fs h = sent_more (Passed s j) f fs h
 
 pub shut_more : (s j : ℕ) (f : Fact) (fs : List Fact) → was_shut fs s j ≡ true → was_shut (f ∷ fs) s j ≡ true
-shut_more s j f fs h = or_right (is_shut_of s j f) (was_shut fs s j) h
+shut_more s j f fs h = sent_more (Shut s j) f fs h
 
 pub back_more : (s j : ℕ) (f : Fact) (fs : List Fact) → was_back fs s j ≡ true → was_back (f ∷ fs) s j ≡ true
-back_more s j f fs h = or_right (is_back_of s j f) (was_back fs s j) h
+back_more s j f fs h = sent_more (Back s j) f fs h
 
 pub turned_more : (s : ℕ) (f : Fact) (fs : List Fact) → was_turned fs s ≡ true → was_turned (f ∷ fs) s ≡ true
-turned_more s f fs h = or_right (is_turn_of s f) (was_turned fs s) h
+turned_more s f fs h = sent_more (Turned s) f fs h
 
 pub yes_heard_more : (s : ℕ) (f : Fact) (fs : List Fact) → yes_was_heard fs s ≡ true → yes_was_heard (f ∷ fs) s ≡ true
 yes_heard_more s f fs h = or_right (is_yes_to s f) (yes_was_heard fs s) h
@@ -149,12 +146,8 @@ newest_kept (Shut s i ∷ fs) j = elim (newest_shut_cases s i j fs) [
 ]
 newest_kept (f ∷ fs) j = newest_kept fs j
 
-pub is_delivered-true : (s : ℕ) (f : Fact) → is_delivery_of s f ≡ true → f ≡ Delivered s
-is_delivered-true s (Delivered t) h = let e : t ≡ s = eqb-true t s h in cc
-is_delivered-true s other h = absurd (false≢true h)
-
 pub delivered_cases : (s : ℕ) (f : Fact) (fs : List Fact) → was_delivered (f ∷ fs) s ≡ true → (f ≡ Delivered s) ⊎ (was_delivered fs s ≡ true)
-delivered_cases s f fs h = elim (or_cases (is_delivery_of s f) (was_delivered fs s) h) [ inl t ↦ inl (is_delivered-true s f t) | inr t ↦ inr t ]
+delivered_cases s f fs h = sent_cases (Delivered s) f fs h
 
 pub delivered_more : (s : ℕ) (f : Fact) (fs : List Fact) → was_delivered fs s ≡ true → was_delivered (f ∷ fs) s ≡ true
-delivered_more s f fs h = or_right (is_delivery_of s f) (was_delivered fs s) h
+delivered_more s f fs h = sent_more (Delivered s) f fs h

@@ -1,8 +1,7 @@
 -- No message is dropped since ports and sources disagree.
 use Rattle.std.proofs.Common.{◌≡◌, ℕ, ◌+◌, ◌-◌, ◌≤◌, ◌<◌, inl, inr, refl, ap, Bool, true, false, List, length, ◌∙◌, sym, arith}
-use Rattle.std.specs.Prelude.{◌||◌, ◌&&◌, ◌==◌, not, nat_lt, nat_le, Option}
-use Rattle.std.proofs.lemmas.Bool.{false≢true, eqb-true, eq-eqb, false_from_ne_true, and_from, and_parts, cond_both, not-false, not-true, ltb-true, ltb-false, eqb-false}
-use Rattle.std.proofs.lemmas.Bool.Decides.{nat_tests}
+use Rattle.std.specs.Prelude.{◌&&◌, ◌==◌, not, nat_lt, Option}
+use Rattle.std.proofs.lemmas.Bool.{false≢true, ne_eqb, false_from_ne_true, and_from, and_parts, cond_both, not-false}
 use Rattle.abt_facts.specs.declared.fact.Fact.{Fact}
 use Rattle.abt_model.specs.declared.connection_fact.ConnectionFact.{ConnectionFact}
 use Rattle.abt_model.specs.declared.event.Event.{Event}
@@ -12,57 +11,57 @@ use Rattle.abt_net.specs.declared.conn.Conn.{Conn}
 use Rattle.abt_keep.specs.declared.plan.StorePlan.{StorePlan}
 use Rattle.abt_keep.specs.declared.plan.StorePlan.TheVariants.{Works, FailsBefore, FailsAfter}
 use Rattle.abt_node.specs.declared.reply.Onward.{Onward}
+use Rattle.abt_node.specs.declared.reply.Onward.TheVariants as onward
 use Rattle.abt_node.specs.declared.reply.Back.{Back as Returned}
+use Rattle.abt_node.specs.declared.reply.Back.TheVariants as back
+use Rattle.abt_node.specs.declared.reply.DropCause.TheVariants.{UnknownVc, Stale, Conflict, FloorAbove}
+use Rattle.abt_node.specs.Reservation.{Reservation, held_by}
+use Rattle.abt_node.specs.Rule.{IsRepeat, IsDecision, IsAnswered}
+use Rattle.abt_node.proofs.RuleLemmas.{decision_of-IsDecision, answer_of-IsAnswered}
 use Rattle.abt_model.specs.declared.outcome.Outcome.TheVariants.{Requested, Answered}
 use Rattle.abt_facts.specs.Requests.{floor_of, ask_of}
 use Rattle.abt_facts.specs.Source.{SourceState, Down, Idle, Asking, state_of, rate_of, last_of, clock_of, next_of}
 use Rattle.abt_facts.specs.Sent.{was_passed, was_shut, was_turned, request_is_at, answer_is_at, answer_is_home, request_is_through}
-use Rattle.abt_facts.specs.Hop.{newest_of, held_of}
+use Rattle.abt_facts.specs.Hop.{held_of}
 use Rattle.abt_facts.specs.Cells.{emitted_of, last_arrival_of, fence_of, is_in_time}
-use Rattle.abt_cell.specs.Message.{Reply, Terms}
-use Rattle.abt_net.specs.Topology.{Topology}
-use Rattle.abt_model.specs.Conns.{conn_at}
+use Rattle.abt_cell.specs.Message.{Reply, Terms, answer_to}
+use Rattle.abt_net.specs.Topology.{Topology, conn_at}
 use Rattle.abt_cell.specs.Channel.{Channel}
 use Rattle.abt_model.specs.Past.{facts_of}
-use Rattle.abt_model.specs.Decision.{request_of, answer_to}
+use Rattle.abt_source.specs.SourceFacts.{request_of}
 use Rattle.abt_rate.specs.Limits.{emit_max, number_max}
 use Rattle.abt_model.specs.Answers.{start_max, if_up, start_answer, next_request, stored_answer, again_answer, emit_answer, arrive_answer, is_hop, answer_by}
 use Rattle.abt_model.specs.Outcomes.{conn_of, outcome_at}
 use Rattle.abt_model.specs.Promises.{disputes, NeverDisputes}
-use Rattle.abt_model.proofs.Chain.{passed_all, at_asked, shut_next_passed, turned_passed, back_turned, turned_open}
+use Rattle.abt_model.proofs.Chain.{passed_all, passed_asked, at_asked, asked_last, shut_next_passed, turned_passed, back_turned, turned_open}
 use Rattle.abt_model.proofs.Worlds.{cases_option, outcome_of-known, AllLawful, lawful_at}
-use Rattle.abt_model.proofs.Decisions.{decide, decide_back}
+use Rattle.abt_model.proofs.Decisions.{held_by-held, decided, decided_back}
+use Rattle.abt_model.specs.Decision.{reservation_at}
 use Rattle.abt_model.proofs.Lawful.{Route, route_of, IsYesAtHop, IsLawful}
 use Rattle.abt_model.proofs.Steps.{is_hop_tells, request_at_tells, yes_at_tells}
 use Rattle.abt_model.proofs.Cases.{passed_newest}
 use Rattle.abt_model.proofs.Backed.{floor_held}
 
-decide_agrees : (n nf na : ℕ) (is_shut_there : Bool) (holds reserved capacity s floor ask : ℕ) (refusal : Reply) →
-    (s ≡ n → (floor ≡ nf) × (ask ≡ na)) → (n < s → floor ≤ holds) →
-    disputes (Requested (decide n nf na is_shut_there holds reserved capacity s floor ask refusal)) ≡ false
-decide_agrees n nf na is_shut_there holds reserved capacity s floor ask refusal same low =
-    let P : Onward → Type 0 = λ o. disputes (Requested o) ≡ false in
-    cond_both (nat_lt s n) _ _ P (λ e. refl)
-    (λ e. cond_both (s == n) _ _ P
-    (λ e2. (let eq = same (eqb-true s n e2) in
-    cond_both (not (floor == nf && ask == na)) _ _ P
-    (λ e3. absurd (false≢true (sym (not-true _ e3) ∙ and_from _ _ (eq-eqb _ _ eq.0) (eq-eqb _ _ eq.1))))
-    (λ e3. cond_both is_shut_there _ _ P (λ e4. refl) (λ e4. refl))))
-    (λ e2. cond_both (nat_lt holds floor) _ _ P
-    (λ e3. absurd (let l = low (let ge = ltb-false s n e in let ne = eqb-false s n e2 in omega arith) in let lt = ltb-true holds floor e3 in omega arith))
-    (λ e3. cond_both (nat_le (reserved - holds + ask) capacity) _ _ P (λ e4. refl) (λ e4. refl))))
+-- the rule drops no request for disagreement whose number is of one request, and whose floor is held
+agrees_by : (capacity others : ℕ) (r : Reservation) (q : Terms) (o : Onward) → IsDecision capacity others r q o →
+    (q.seq ≡ r.newest → IsRepeat r q) → (r.newest < q.seq → q.floor ≤ held_by r) → disputes (Requested o) ≡ false
+agrees_by capacity others r q onward.Pass is same low = refl
+agrees_by capacity others r q (onward.Refuse answer) is same low = refl
+agrees_by capacity others r q (onward.Drop UnknownVc) is same low = absurd is
+agrees_by capacity others r q (onward.Drop Stale) is same low = refl
+agrees_by capacity others r q (onward.Drop Conflict) is same low = absurd (is.1 (same is.0))
+agrees_by capacity others r q (onward.Drop FloorAbove) is same low = absurd (let held = low is.0 in omega (arith, is.1))
 
-decide_back_agrees : (n nf na : ℕ) (is_shut_there : Bool) (s floor ask : ℕ) (granted : Bool) →
-    s ≤ n → (s ≡ n → (floor ≡ nf) × (ask ≡ na) × ((granted && is_shut_there) ≡ false)) →
-    disputes (Answered (decide_back n nf na is_shut_there s floor ask granted)) ≡ false
-decide_back_agrees n nf na is_shut_there s floor ask granted low same =
-    let P : Returned → Type 0 = λ o. disputes (Answered o) ≡ false in
-    cond_both (nat_lt s n) _ _ P (λ e. refl)
-    (λ e. (
-    let equal : s ≡ n = (let ge = ltb-false s n e in omega arith) in
-    let eq = same equal in
-    let none : (nat_lt n s || not (floor == nf && ask == na) || (granted && is_shut_there)) ≡ false = grind (arith, nat_tests) in
-    rw none refl))
+-- nor an answer to the newest request or to an older one
+answer_agrees_by : (r : Reservation) (a : Reply) (o : Returned) → IsAnswered r a o → a.terms.seq ≤ r.newest →
+    (a.terms.seq ≡ r.newest → IsRepeat r a.terms × (a.granted ≡ true → r.is_open ≡ true)) → disputes (Answered o) ≡ false
+answer_agrees_by r a back.Pass is low same = refl
+answer_agrees_by r a (back.Drop UnknownVc) is low same = absurd is
+answer_agrees_by r a (back.Drop Stale) is low same = refl
+answer_agrees_by r a (back.Drop Conflict) is low same =
+    let stands = same (omega (arith, is.0)) in
+    elim is.1 [ inl other ↦ absurd (other stands.0) | inr closed ↦ absurd (false≢true (sym closed.1 ∙ stands.1 closed.0)) ]
+answer_agrees_by r a (back.Drop FloorAbove) is low same = absurd is
 
 -- a yes that was sent passed each hop, and is shut nowhere
 pub yes_sent : (l : Route) (fs : List Fact) → IsLawful l fs → (s j : ℕ) → IsYesAtHop l.hops fs s j → was_turned fs s ≡ true
@@ -83,8 +82,10 @@ request_agrees conn reserved capacity fs lawful c j s =
     (λ e2. (
     let hop = is_hop_tells (length conn.path) j (not-false _ e) in
     let a = at_asked (route_of conn) fs lawful s j (request_at_tells fs s j hop.0 (not-false _ e2)) in
-    decide_agrees (newest_of fs j) (floor_of fs (newest_of fs j)) (ask_of fs (newest_of fs j)) (was_shut fs (newest_of fs j) j) (held_of fs j) reserved capacity s (floor_of fs s) (ask_of fs s) (answer_to (request_of conn.vc fs s) false)
-    (λ same. (ap (floor_of fs) same, ap (ask_of fs) same)) (λ above. floor_held (route_of conn) fs lawful s j a above hop.0 hop.1))))
+    agrees_by capacity (reserved - held_of fs j) (reservation_at fs j) (request_of conn.vc fs s) (decided conn.vc fs reserved capacity j s)
+    (decision_of-IsDecision capacity (reserved - held_of fs j) (reservation_at fs j) (request_of conn.vc fs s))
+    (λ same. record { number = same; floor = ap (floor_of fs) same; ask = ap (ask_of fs) same })
+    (λ above. omega (arith, floor_held (route_of conn) fs lawful s j a above hop.0 hop.1, held_by-held (route_of conn) fs lawful j)))))
 
 answer_agrees : (conn : Conn) (reserved capacity : ℕ) (fs : List Fact) → IsLawful (route_of conn) fs → (c j s : ℕ) (granted : Bool) → disputes (answer_by conn reserved capacity fs (Answer c j s granted)) ≡ false
 answer_agrees conn reserved capacity fs lawful c j s granted =
@@ -94,9 +95,15 @@ answer_agrees conn reserved capacity fs lawful c j s granted =
     (λ e2. (
     let hop = is_hop_tells (length conn.path) j (not-false _ e) in
     let p = answer_passed (route_of conn) fs lawful s j granted hop (not-false _ e2) in
-    decide_back_agrees (newest_of fs j) (floor_of fs (newest_of fs j)) (ask_of fs (newest_of fs j)) (was_shut fs (newest_of fs j) j) s (floor_of fs s) (ask_of fs s) granted
-    (passed_newest s j fs p.0)
-    (λ same. (ap (floor_of fs) same, ap (ask_of fs) same, ap (λ q. granted && was_shut fs q j) (sym same) ∙ p.1)))))
+    let number = (asked_last (route_of conn) fs lawful).1 s (passed_asked (route_of conn) fs lawful s j p.0) in
+    answer_agrees_by (reservation_at fs j) (answer_to (request_of conn.vc fs s) granted) (decided_back conn.vc fs j s granted)
+    (answer_of-IsAnswered (reservation_at fs j) (answer_to (request_of conn.vc fs s) granted)) (passed_newest s j fs p.0)
+    (λ same. (
+      record { number = same; floor = ap (floor_of fs) same; ask = ap (ask_of fs) same },
+      λ yes. (
+          let fresh : was_shut fs s j ≡ false = sym (ap (λ (b : Bool). b && was_shut fs s j) yes) ∙ p.1 in
+          and_from _ _ (ap not (ne_eqb _ _ (λ z. omega (arith, number.0, same)))) (ap not (ap (λ q. was_shut fs q j) (sym same) ∙ fresh))),
+    )))))
 
 up_agrees : (st : SourceState) (o : Outcome) → disputes o ≡ false → disputes (if_up st o) ≡ false
 up_agrees Down o e = refl

@@ -2,8 +2,7 @@
 use Rattle.std.proofs.Common.{◌≡◌, ℕ, zero, suc, inl, inr, List, [], ◌∷◌, sym, subst, arith}
 use Rattle.std.specs.Prelude.{slice_index, slice_get, Some}
 use Rattle.abt_model.specs.declared.connection_fact.ConnectionFact.{ConnectionFact}
-use Rattle.abt_net.specs.Topology.{Topology, IsWithinRules}
-use Rattle.abt_model.specs.Conns.{conn_at}
+use Rattle.abt_net.specs.Topology.{Topology, IsWithinRules, conn_at}
 use Rattle.abt_model.specs.Past.{facts_of}
 use Rattle.abt_model.specs.Run.{facts_after}
 use Rattle.abt_model.specs.Safe.{AllConform, IsSafe}

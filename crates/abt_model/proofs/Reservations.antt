@@ -1,7 +1,7 @@
 -- What a hop reserves follows the facts.
 use Rattle.std.proofs.Common.{◌≡◌, ◌≢◌, ℕ, ◌+◌, ◌-◌, ◌≤◌, inl, inr, refl, ap, Bool, true, false, List, [], ◌∷◌, ◌++◌, ◌∙◌, sym, arith}
 use Rattle.std.specs.Prelude.{◌&&◌, ◌==◌, not, if◌then◌else◌, nat_lt, nat_le}
-use Rattle.std.proofs.lemmas.Bool.{eqb-true, ne_eqb, eq-eqb, cond-false, cond-true, cases_Bool, cases_eq, false_from_ne_true, and_from, and_right, cond_both}
+use Rattle.std.proofs.lemmas.Bool.{ne_eqb, eq-eqb, cond-false, cond-true, false_from_ne_true, and_from, and_right, cond_both}
 use Rattle.abt_facts.specs.declared.fact.Fact.{Fact}
 use Rattle.abt_facts.specs.declared.fact.Fact.TheVariants.{Delivered, Passed, Shut}
 use Rattle.abt_node.specs.declared.reply.Onward.{Onward}
@@ -9,58 +9,19 @@ use Rattle.abt_node.specs.declared.reply.Onward.TheVariants.{Pass, Refuse, Drop}
 use Rattle.abt_node.specs.declared.reply.DropCause.TheVariants.{Stale, Conflict, FloorAbove}
 use Rattle.abt_facts.specs.Requests.{floor_of, ask_of}
 use Rattle.abt_facts.specs.Sent.{was_shut}
-use Rattle.abt_facts.specs.Hop.{newest_of, held_of, is_open_at}
+use Rattle.abt_facts.specs.Hop.{newest_of, is_open_at}
 use Rattle.abt_cell.specs.Message.{Terms}
 use Rattle.abt_cell.specs.Channel.{Channel}
-use Rattle.abt_model.specs.Decision.{request_of, answer_to}
+use Rattle.abt_source.specs.SourceFacts.{request_of}
 use Rattle.abt_model.specs.Outcomes.{delivery, request_adds}
-use Rattle.abt_model.specs.PortTable.{reservation_at}
-use Rattle.abt_node.specs.Reservation.{Reservation, held_by, decided_as, no_to, pass_or_refuse, is_of, decision_of}
-use Rattle.abt_model.proofs.Chain.{ask_zero, floor_low}
+use Rattle.abt_model.specs.Decision.{reservation_at}
+use Rattle.abt_node.specs.Reservation.{Reservation, held_by, decided_as, pass_or_refuse, is_of, decision_of}
 use Rattle.abt_model.proofs.Holds.{shut_other_same, newest_above, shut_there}
-use Rattle.abt_model.proofs.Decisions.{decide}
+use Rattle.abt_model.proofs.Decisions.{held_by-held, closed_shut, decided, decided_pass, decided_refuse}
 use Rattle.abt_model.proofs.Lawful.{Route, IsLawful}
-use Rattle.abt_model.proofs.Steps.{decided, decided_pass, decided_refuse}
 use Rattle.abt_model.proofs.Cases.{shut_more, shut_newest}
 
-pub held_by-held : (l : Route) (fs : List Fact) → IsLawful l fs → (j : ℕ) → held_by (reservation_at fs j) ≡ held_of fs j
-held_by-held l fs lawful j = elim (cases_eq (newest_of fs j) 0) [
-  | inl z ↦ (
-      let closed : is_open_at fs j ≡ false = ap (λ (b : Bool). not b && not (was_shut fs (newest_of fs j) j)) (eq-eqb _ _ z) in
-      let a : held_by (reservation_at fs j) ≡ floor_of fs (newest_of fs j) = cond-false _ _ _ closed in
-      let b : floor_of fs (newest_of fs j) ≡ floor_of fs 0 = ap (floor_of fs) z in
-      let c : held_of fs j ≡ 0 = cond-true _ _ _ (eq-eqb _ _ z) in
-      omega (arith, a, b, c, floor_low l fs lawful 0, ask_zero l fs lawful))
-  | inr some ↦ (
-      let m = newest_of fs j in
-      let is : held_of fs j ≡ (if was_shut fs m j then floor_of fs m else ask_of fs m) = cond-false _ _ _ (ne_eqb _ _ some) in
-      let op : is_open_at fs j ≡ not (was_shut fs m j) = ap (λ (b : Bool). not b && not (was_shut fs m j)) (ne_eqb _ _ some) in
-      elim (cases_Bool (was_shut fs m j)) [
-        | inl t ↦ cond-false _ _ _ (op ∙ ap not t) ∙ sym (is ∙ cond-true _ _ _ t)
-        | inr f ↦ cond-true _ _ _ (op ∙ ap not f) ∙ sym (is ∙ cond-false _ _ _ f)
-      ])
-]
-
 -- ---- the decision of a port is that by the facts
-
--- both by the same tests: below, equal, the same message, floor above, fits
-node_tests : (below equal same above fits : Bool) (open_there is_shut : Bool) (r : Reservation) (q : Terms) → (equal ≡ true → open_there ≡ not is_shut) →
-    (let out : Onward × Reservation =
-    if below then (Drop Stale, r)
-    else if equal then (if same then (pass_or_refuse open_there q, r) else (Drop Conflict, r))
-    else if above then (Drop FloorAbove, r)
-    else (pass_or_refuse fits q, decided_as fits q) in
-    out.0)
-    ≡ (if below then Drop Stale
-    else (if equal then (if not same then Drop Conflict else (if is_shut then Refuse (no_to q) else Pass))
-    else (if above then Drop FloorAbove else (if fits then Pass else Refuse (no_to q)))))
-node_tests true equal same above fits open_there is_shut r q is = refl
-node_tests false true true above fits open_there true r q is = rw (is refl) refl
-node_tests false true true above fits open_there false r q is = rw (is refl) refl
-node_tests false true false above fits open_there is_shut r q is = refl
-node_tests false false same true fits open_there is_shut r q is = refl
-node_tests false false same false true open_there is_shut r q is = refl
-node_tests false false same false false open_there is_shut r q is = refl
 
 -- what is reserved after an answer to a request; `equal`: its number was the newest already
 abbrev pub reserved_after : Bool → Reservation → Terms → Onward → Reservation
@@ -83,25 +44,15 @@ node_leaves false false same true fits open_there r q = refl
 node_leaves false false same false true open_there r q = refl
 node_leaves false false same false false open_there r q = refl
 
-open_unshut : (fs : List Fact) (j s : ℕ) → 1 ≤ s → (s == newest_of fs j) ≡ true → is_open_at fs j ≡ not (was_shut fs (newest_of fs j) j)
-open_unshut fs j s some equal =
-    let e : s ≡ newest_of fs j = eqb-true s (newest_of fs j) equal in
-    ap (λ (b : Bool). not b && not (was_shut fs (newest_of fs j) j)) (ne_eqb (newest_of fs j) 0 (λ z. omega arith))
-
 -- the node's decision at a hop
 abbrev pub hop_decision : Channel → List Fact → (reserved capacity j s : ℕ) → Onward × Reservation
 hop_decision vc fs reserved capacity j s =
     decision_of capacity (reserved - held_by (reservation_at fs j)) (reservation_at fs j) (request_of vc fs s)
 
-pub hop_decision-decided : (l : Route) (vc : Channel) (fs : List Fact) → IsLawful l fs → (reserved capacity j s : ℕ) → 1 ≤ s →
+pub hop_decision-decided : (l : Route) (vc : Channel) (fs : List Fact) → IsLawful l fs → (reserved capacity j s : ℕ) →
     (hop_decision vc fs reserved capacity j s).0 ≡ decided vc fs reserved capacity j s
-hop_decision-decided l vc fs lawful reserved capacity j s some =
-    let r = reservation_at fs j in
-    let q = request_of vc fs s in
-    let m = newest_of fs j in
-    node_tests (nat_lt s m) (s == m) (is_of (reservation_at fs j) (request_of vc fs s)) (nat_lt (held_by (reservation_at fs j)) (floor_of fs s))
-    (nat_le (reserved - held_by (reservation_at fs j) + ask_of fs s) capacity) (is_open_at fs j) (was_shut fs m j) (reservation_at fs j) (request_of vc fs s) (open_unshut fs j s some)
-    ∙ ap (λ (h : ℕ). decide m (floor_of fs m) (ask_of fs m) (was_shut fs m j) h reserved capacity s (floor_of fs s) (ask_of fs s) (answer_to (request_of vc fs s) false)) (held_by-held l fs lawful j)
+hop_decision-decided l vc fs lawful reserved capacity j s =
+    ap (λ (h : ℕ). (decision_of capacity (reserved - h) (reservation_at fs j) (request_of vc fs s)).0) (held_by-held l fs lawful j)
 
 hop_decision-leaves : (vc : Channel) (fs : List Fact) (reserved capacity j s : ℕ) →
     (hop_decision vc fs reserved capacity j s).1 ≡ reserved_after (s == newest_of fs j) (reservation_at fs j) (request_of vc fs s) (hop_decision vc fs reserved capacity j s).0
@@ -144,7 +95,7 @@ reservation_other fs s j i differ (Drop cause) = delivered_as s j fs i (reservat
 reservation_request : (l : Route) (vc : Channel) (fs : List Fact) → IsLawful l fs → (reserved capacity j s : ℕ) → 1 ≤ s → (d : Onward) → decided vc fs reserved capacity j s ≡ d →
     reservation_at (request_adds j s d ++ fs) j ≡ reserved_after (s == newest_of fs j) (reservation_at fs j) (request_of vc fs s) d
 reservation_request l vc fs lawful reserved capacity j s some Pass e =
-    elim (decided_pass vc fs reserved capacity j s e) [
+    elim (decided_pass l vc fs lawful reserved capacity j s e) [
       | inl above ↦ (
           let fresh : was_shut fs s j ≡ false = false_from_ne_true _ (λ t. (let low = shut_newest s j fs t in omega arith)) in
           let opened : (not (s == 0) && not (was_shut fs s j)) ≡ true = and_from _ _ (ap not (ne_eqb s 0 (λ z. omega arith))) (ap not fresh) in
@@ -158,7 +109,7 @@ reservation_request l vc fs lawful reserved capacity j s some Pass e =
           delivered_as s j fs j _ (Passed s j ∷ []) w w)
     ]
 reservation_request l vc fs lawful reserved capacity j s some (Refuse answer) e =
-    elim (decided_refuse vc fs reserved capacity j s answer e) [
+    elim (decided_refuse l vc fs lawful reserved capacity j s answer e) [
       | inl above ↦ (
           let closed : (not (s == 0) && not (was_shut (Shut s j ∷ fs) s j)) ≡ false = and_right _ _ (ap not (shut_there fs s j)) in
           let r : reservation_at (Shut s j ∷ fs) j ≡ decided_as false (request_of vc fs s) =
@@ -168,7 +119,8 @@ reservation_request l vc fs lawful reserved capacity j s some (Refuse answer) e 
       | inr equal ↦ (
           let m = newest_of fs j in
           let n : newest_of (Shut s j ∷ fs) j ≡ m = newest_above fs s j (omega arith) ∙ sym equal.0 in
-          let both : was_shut (Shut s j ∷ fs) m j ≡ was_shut fs m j = shut_more m j (Shut s j) fs equal.1 ∙ sym equal.1 in
+          let shut : was_shut fs m j ≡ true = closed_shut fs j (λ z. omega (arith, equal.0)) equal.1 in
+          let both : was_shut (Shut s j ∷ fs) m j ≡ was_shut fs m j = shut_more m j (Shut s j) fs shut ∙ sym shut in
           let r : reservation_at (Shut s j ∷ fs) j ≡ reservation_at fs j = shut_as fs s j j m n ∙ ap (λ (b : Bool). reserved_as fs b m) both in
           let w = r ∙ sym (cond-true _ _ _ (eq-eqb s m (sym equal.0))) in
           delivered_as s j fs j _ (Shut s j ∷ []) w w)
@@ -180,5 +132,5 @@ pub request_reserved : (l : Route) (vc : Channel) (fs : List Fact) → IsLawful 
     (hop_decision vc fs reserved capacity j s).1 ≡ reservation_at (request_adds j s (decided vc fs reserved capacity j s) ++ fs) j
 request_reserved l vc fs lawful reserved capacity j s some =
     hop_decision-leaves vc fs reserved capacity j s
-    ∙ ap (reserved_after (s == newest_of fs j) (reservation_at fs j) (request_of vc fs s)) (hop_decision-decided l vc fs lawful reserved capacity j s some)
+    ∙ ap (reserved_after (s == newest_of fs j) (reservation_at fs j) (request_of vc fs s)) (hop_decision-decided l vc fs lawful reserved capacity j s)
     ∙ sym (reservation_request l vc fs lawful reserved capacity j s some _ refl)

@@ -18,8 +18,7 @@ use Rattle.abt_model.specs.declared.outcome.Outcome.TheVariants.{Arrived as HasA
 use Rattle.abt_facts.specs.Source.{clock_of, hold_off, next_of}
 use Rattle.abt_facts.specs.Hop.{held_of}
 use Rattle.abt_facts.specs.Cells.{emitted_of, moment_of, last_arrival_of, fence_of, taken_of, verdict_at, is_in_time}
-use Rattle.abt_net.specs.Topology.{Topology, IsWithinRules, IsConnWithin}
-use Rattle.abt_model.specs.Conns.{conn_at}
+use Rattle.abt_net.specs.Topology.{Topology, IsWithinRules, IsConnWithin, conn_at}
 use Rattle.abt_model.specs.Past.{facts_of}
 use Rattle.abt_rate.specs.Limits.{emit_max}
 use Rattle.abt_model.specs.Answers.{arrive_answer}
@@ -31,7 +30,7 @@ use Rattle.abt_model.proofs.Lawful.{Route, route_of, MayFollow, IsLawful}
 use Rattle.abt_model.proofs.Arrivals.{tat, arrival, timely}
 use Rattle.abt_model.proofs.Steps.{in_time_tells}
 use Rattle.abt_model.proofs.Emissions.{are_rates}
-use Rattle.abt_facts.proofs.WindowTests.{windows_conform}
+use Rattle.abt_gcra.proofs.FindingLemmas.{conforms_holds}
 
 -- the law of an arrival that is enabled
 pub arrive_tells : (conn : Conn) (fs : List Fact) (n a : ℕ) (v : Verdict) → arrive_answer conn fs n a ≡ HasArrived v → MayFollow (route_of conn) fs (Arrived n a (held_of fs 1) v)
@@ -105,7 +104,7 @@ arrivals_conform net past rules lawful c cell at conn v known arrived =
     let times = timely (route_of conn) fs law some in
     let finds = arrival (route_of conn) fs law some times cell at (held_of fs 1) v may in
     let nonzero : held_of fs 1 ≢ 0 = λ z. (let positive = finds.4 in omega arith) in
-    let windows = windows_conform conn.tau (record { at = at; spacing = spacing_of (held_of fs 1) } ∷ taken_of fs) (and_from _ _ finds.3 times.kept) in
+    let windows = conforms_holds conn.tau (record { at = at; spacing = spacing_of (held_of fs 1) } ∷ taken_of fs) (and_from _ _ finds.3 times.kept) in
     (finds.0, subst (IsVerdictAt conn.tau (taken_of fs) at (held_of fs 1)) (sym finds.0) (nonzero, windows))
 
 -- the theoretical arrival time that stands for cells

@@ -22,23 +22,27 @@ use Rattle.abt_facts.specs.Hop.{held_of}
 use Rattle.abt_facts.specs.Cells.{taken_of}
 use Rattle.abt_net.specs.Topology.{Topology, IsWithinRules}
 use Rattle.abt_model.specs.Past.{facts_of}
-use Rattle.abt_model.specs.Reserved.{hop_of, reserved_on}
-use Rattle.abt_model.specs.Decision.{request_of, answer_to}
+use Rattle.abt_model.specs.Reserved.{reserved_on}
+use Rattle.abt_net.specs.Paths.{hop_of}
+use Rattle.abt_cell.specs.Message.{answer_to}
+use Rattle.abt_source.specs.SourceFacts.{request_of}
 use Rattle.abt_model.specs.Answers.{is_hop, answer_by}
 use Rattle.abt_model.specs.Outcomes.{request_adds, answer_adds, facts_added, after_event}
-use Rattle.abt_model.specs.PortTable.{reservation_at, due_after, policing_by, kept_at, port_table, RequestsServed, AnswersServed, ArrivalsServed}
+use Rattle.abt_model.specs.PortTable.{due_after, policing_by, kept_at, port_table, RequestsServed, AnswersServed, ArrivalsServed}
+use Rattle.abt_model.specs.Decision.{reservation_at}
 use Rattle.abt_node.specs.Reservation.{Reservation, held_by, decision_of, answer_of}
 use Rattle.abt_node.specs.Table.{sum_of, connection_at, reply_by, table_by, reply_to, answer_by as answer_kept, table_by_answer, arrival_by, arrival_of, policing_after, table_by_arrival}
 use Rattle.abt_model.proofs.Chain.{at_asked, asked_last}
-use Rattle.abt_model.proofs.Sums.{hop_of-port}
+use Rattle.abt_net.proofs.PathLemmas.{hop_of-port}
 use Rattle.abt_model.proofs.Worlds.{facts_of-own, facts_of-other, outcome_of-known, AllLawful, lawful_at}
 use Rattle.abt_model.proofs.AnswerRows.{answer_reserved, request_polices, answer_polices}
 use Rattle.abt_model.proofs.Lawful.{route_of, IsAtHop}
 use Rattle.abt_model.proofs.Tables.{tables_have_rows, table_with, totals_reserved}
 use Rattle.abt_model.proofs.Served.{arrive_tells, conn_within, arrivals_in_range}
 use Rattle.abt_model.proofs.Arrivals.{tat, arrival, timely}
-use Rattle.abt_model.proofs.Steps.{is_hop_tells, request_at_tells, decided, decided_back}
-use Rattle.abt_model.proofs.Reservations.{held_by-held, hop_decision-decided, request_reserved}
+use Rattle.abt_model.proofs.Decisions.{held_by-held, decided, decided_back}
+use Rattle.abt_model.proofs.Steps.{is_hop_tells, request_at_tells}
+use Rattle.abt_model.proofs.Reservations.{hop_decision-decided, request_reserved}
 
 -- what an enabled request tells
 request_tells : (conn : Conn) (fs : List Fact) (reserved capacity c j s : ℕ) (o : Onward) → answer_by conn reserved capacity fs (Request c j s) ≡ Requested o →
@@ -53,14 +57,14 @@ request_tells conn fs reserved capacity c j s o =
     (hop.0, hop.1, request_at_tells fs s j hop.0 (not-false _ e2), is))))
 
 answered_tells : (conn : Conn) (fs : List Fact) (reserved capacity c j s : ℕ) (granted : Bool) (o : Returned) → answer_by conn reserved capacity fs (Answer c j s granted) ≡ Answered o →
-    (1 ≤ j) × (j ≤ length conn.path) × (answer_is_at (length conn.path) fs s j granted ≡ true) × (decided_back fs j s granted ≡ o)
+    (1 ≤ j) × (j ≤ length conn.path) × (answer_is_at (length conn.path) fs s j granted ≡ true) × (decided_back conn.vc fs j s granted ≡ o)
 answered_tells conn fs reserved capacity c j s granted o =
-    let P : Outcome → Type 0 = λ out. out ≡ Answered o → (1 ≤ j) × (j ≤ length conn.path) × (answer_is_at (length conn.path) fs s j granted ≡ true) × (decided_back fs j s granted ≡ o) in
+    let P : Outcome → Type 0 = λ out. out ≡ Answered o → (1 ≤ j) × (j ≤ length conn.path) × (answer_is_at (length conn.path) fs s j granted ≡ true) × (decided_back conn.vc fs j s granted ≡ o) in
     cond_both (not (is_hop (length conn.path) j)) _ _ P (λ e h. absurd (cc))
     (λ e. cond_both (not (answer_is_at (length conn.path) fs s j granted)) _ _ P (λ e2 h. absurd (cc))
     (λ e2 h. (
     let hop = is_hop_tells (length conn.path) j (not-false _ e) in
-    let is : decided_back fs j s granted ≡ o = cc in
+    let is : decided_back conn.vc fs j s granted ≡ o = cc in
     (hop.0, hop.1, not-false _ e2, is))))
 
 -- a hop that a port has is its hop
@@ -96,7 +100,7 @@ requests_served net past rules lawful c hop seq p conn onward known at_hop said 
     let reply : reply_to (port_table net past p) (request_of conn.vc (facts_of c past) seq) ≡ onward =
     ap (reply_by (port_table net past p) (request_of conn.vc (facts_of c past) seq)) row
     ∙ ap (λ sum. (decision_of (slice_index net.capacities p) (sum - held_by (reservation_at (facts_of c past) hop)) (reservation_at (facts_of c past) hop) (request_of conn.vc (facts_of c past) seq)).0) total
-    ∙ hop_decision-decided (route_of conn) conn.vc (facts_of c past) law (reserved_on net past p) (slice_index net.capacities p) hop seq number.0
+    ∙ hop_decision-decided (route_of conn) conn.vc (facts_of c past) law (reserved_on net past p) (slice_index net.capacities p) hop seq
     ∙ decided_is in
     let now_is : facts_of c after ≡ request_adds hop seq onward ++ facts_of c past =
     facts_of-own net past (Request c hop seq) ∙ ap (λ (o : Outcome). facts_added (facts_of c past) (Request c hop seq) o ++ facts_of c past) said in

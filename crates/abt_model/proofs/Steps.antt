@@ -21,20 +21,18 @@ use Rattle.abt_model.specs.declared.outcome.Heard.TheVariants.{Ignored}
 use Rattle.abt_model.specs.declared.outcome.Outcome.{Outcome}
 use Rattle.abt_model.specs.declared.outcome.Cause.TheVariants.{Down as IsDown}
 use Rattle.abt_model.specs.declared.outcome.Outcome.TheVariants.{Crashed as HasCrashed, Told as HasTold, NotEnabled}
-use Rattle.abt_facts.specs.Requests.{floor_of, ask_of}
+use Rattle.abt_facts.specs.Requests.{floor_of}
 use Rattle.abt_facts.specs.Source.{SourceState, Down, Idle, Asking, state_of, rate_of, last_of, clock_of, next_of}
 use Rattle.abt_facts.specs.Sent.{was_delivered, was_shut, request_is_at, yes_is_at, answer_is_at, answer_is_home, request_is_through}
 use Rattle.abt_facts.specs.Hop.{newest_of, held_of}
 use Rattle.abt_facts.specs.Cells.{emitted_of, moment_of, last_arrival_of, fence_of, is_in_time}
-use Rattle.abt_cell.specs.Message.{Reply}
 use Rattle.abt_cell.specs.Channel.{Channel}
 use Rattle.abt_model.specs.Events.{AsksRate}
-use Rattle.abt_model.specs.Decision.{request_of, answer_to}
 use Rattle.abt_rate.specs.Limits.{emit_max, number_max}
 use Rattle.abt_model.specs.Answers.{start_max, if_up, start_answer, ask_answer, emit_answer, arrive_answer, hearing, told_answer, is_hop, answer_by}
 use Rattle.abt_model.specs.Outcomes.{delivery, request_adds, answer_adds, facts_added}
 use Rattle.abt_model.proofs.Chain.{at_asked, asked_last, stored_within}
-use Rattle.abt_model.proofs.Decisions.{decide, decide_back, decide_pass, decide_refuse, decide_back_pass}
+use Rattle.abt_model.proofs.Decisions.{closed_shut, decided, decided_back, decided_pass, decided_refuse, decided_back_pass}
 use Rattle.abt_model.proofs.Lawful.{Route, route_of, IsAtHop, IsYesAtHop, MayFollow, IsLawful}
 
 pub is_hop_tells : (k j : ℕ) → is_hop k j ≡ true → (1 ≤ j) × (j ≤ k)
@@ -63,51 +61,33 @@ delivered_may s j fs P without with =
     (λ e. with (λ d. or_left _ _ (eq-eqb s s refl)))
     (λ e. without (λ d. absurd (false≢true (sym e ∙ eq-eqb j 1 d))))
 
--- the decision on request s at hop j, by the facts
-abbrev pub decided : Channel → List Fact → (reserved capacity j s : ℕ) → Onward
-decided vc fs reserved capacity j s =
-    decide (newest_of fs j) (floor_of fs (newest_of fs j)) (ask_of fs (newest_of fs j)) (was_shut fs (newest_of fs j) j) (held_of fs j) reserved capacity s (floor_of fs s) (ask_of fs s) (answer_to (request_of vc fs s) false)
-
-abbrev pub decided_back : List Fact → (j s : ℕ) → Bool → Returned
-decided_back fs j s granted =
-    decide_back (newest_of fs j) (floor_of fs (newest_of fs j)) (ask_of fs (newest_of fs j)) (was_shut fs (newest_of fs j) j) s (floor_of fs s) (ask_of fs s) granted
-
-pub decided_pass : (vc : Channel) (fs : List Fact) (reserved capacity j s : ℕ) → decided vc fs reserved capacity j s ≡ Pass →
-    ((newest_of fs j < s) × (floor_of fs s ≤ held_of fs j) × (reserved - held_of fs j + ask_of fs s ≤ capacity)) ⊎ ((newest_of fs j ≡ s) × (was_shut fs (newest_of fs j) j ≡ false))
-decided_pass vc fs reserved capacity j s e =
-    decide_pass (newest_of fs j) (floor_of fs (newest_of fs j)) (ask_of fs (newest_of fs j)) (was_shut fs (newest_of fs j) j) (held_of fs j) reserved capacity s (floor_of fs s) (ask_of fs s) (answer_to (request_of vc fs s) false) e
-
-pub decided_refuse : (vc : Channel) (fs : List Fact) (reserved capacity j s : ℕ) (answer : Reply) → decided vc fs reserved capacity j s ≡ Refuse answer →
-    ((newest_of fs j < s) × (floor_of fs s ≤ held_of fs j)) ⊎ ((newest_of fs j ≡ s) × (was_shut fs (newest_of fs j) j ≡ true))
-decided_refuse vc fs reserved capacity j s answer e =
-    decide_refuse (newest_of fs j) (floor_of fs (newest_of fs j)) (ask_of fs (newest_of fs j)) (was_shut fs (newest_of fs j) j) (held_of fs j) reserved capacity s (floor_of fs s) (ask_of fs s) (answer_to (request_of vc fs s) false) answer e
-
-pub decided_back_pass : (fs : List Fact) (j s : ℕ) (granted : Bool) → decided_back fs j s granted ≡ PassBack → newest_of fs j ≡ s
-decided_back_pass fs j s granted e =
-    decide_back_pass (newest_of fs j) (floor_of fs (newest_of fs j)) (ask_of fs (newest_of fs j)) (was_shut fs (newest_of fs j) j) s (floor_of fs s) (ask_of fs s) granted e
-
 request_lawful : (k : Route) (vc : Channel) (reserved capacity : ℕ) (fs : List Fact) → IsLawful k fs → (s j : ℕ) → (1 ≤ j) × (j ≤ k.hops) → IsAtHop fs s j → (d : Onward) →
     decided vc fs reserved capacity j s ≡ d → IsLawful k (request_adds j s d ++ fs)
 request_lawful k vc reserved capacity fs lawful s j hop at Pass e =
-    let tells = decided_pass vc fs reserved capacity j s e in
+    let tells = decided_pass k vc fs lawful reserved capacity j s e in
     let fresh : (newest_of fs j < s) ⊎ ((newest_of fs j ≡ s) × (was_shut fs s j ≡ false)) =
     elim tells [ inl above ↦ inl above.0 | inr equal ↦ inr (equal.0, subst (λ n. was_shut fs n j ≡ false) equal.0 equal.1) ] in
     (delivered_may s j fs (λ (gs : List Fact). MayFollow k gs (Passed s j)) (λ first. (at, hop.0, hop.1, fresh, first)) (λ there. (at, hop.0, hop.1, fresh, there)), delivered_lawful k fs s j at hop.0 lawful)
 request_lawful k vc reserved capacity fs lawful s j hop at (Refuse answer) e =
-    let tells = decided_refuse vc fs reserved capacity j s answer e in (
-      delivered_may s j fs (λ (gs : List Fact). MayFollow k gs (Shut s j)) (λ first. (hop.0, hop.1, elim tells [ inl above ↦ inl (at, above.0, above.1, first) | inr equal ↦ inr (inl (subst (λ n. was_shut fs n j ≡ true) equal.0 equal.1)) ]))
-          (λ there. (hop.0, hop.1, elim tells [ inl above ↦ inl (at, above.0, above.1, there) | inr equal ↦ inr (inl (subst (λ n. was_shut fs n j ≡ true) equal.0 equal.1)) ])),
+    let number = (asked_last k fs lawful).1 s (at_asked k fs lawful s j at) in
+    let tells : ((newest_of fs j < s) × (floor_of fs s ≤ held_of fs j)) ⊎ (was_shut fs s j ≡ true) =
+    elim (decided_refuse k vc fs lawful reserved capacity j s answer e) [
+      | inl above ↦ inl above
+      | inr equal ↦ inr (subst (λ n. was_shut fs n j ≡ true) equal.0 (closed_shut fs j (λ z. omega (arith, number.0, equal.0)) equal.1))
+    ] in (
+      delivered_may s j fs (λ (gs : List Fact). MayFollow k gs (Shut s j)) (λ first. (hop.0, hop.1, elim tells [ inl above ↦ inl (at, above.0, above.1, first) | inr shut ↦ inr (inl shut) ]))
+          (λ there. (hop.0, hop.1, elim tells [ inl above ↦ inl (at, above.0, above.1, there) | inr shut ↦ inr (inl shut) ])),
       delivered_lawful k fs s j at hop.0 lawful,
     )
 request_lawful k vc reserved capacity fs lawful s j hop at (Drop cause) e = delivered_lawful k fs s j at hop.0 lawful
 
-answer_lawful : (k : Route) (fs : List Fact) → IsLawful k fs → (s j : ℕ) (granted : Bool) → (1 ≤ j) × (j ≤ k.hops) → answer_is_at k.hops fs s j granted ≡ true → (d : Returned) →
-    decided_back fs j s granted ≡ d → IsLawful k (answer_adds j s granted d ++ fs)
-answer_lawful k fs lawful s j true hop at PassBack e = ((yes_at_tells k.hops fs s j at, hop.0, hop.1), lawful)
-answer_lawful k fs lawful s j false hop at PassBack e =
-    ((hop.0, hop.1, inr (inr ((and_parts _ _ at).1, decided_back_pass fs j s false e))), lawful)
-answer_lawful k fs lawful s j true hop at (DropBack cause) e = lawful
-answer_lawful k fs lawful s j false hop at (DropBack cause) e = lawful
+answer_lawful : (k : Route) (vc : Channel) (fs : List Fact) → IsLawful k fs → (s j : ℕ) (granted : Bool) → (1 ≤ j) × (j ≤ k.hops) → answer_is_at k.hops fs s j granted ≡ true → (d : Returned) →
+    decided_back vc fs j s granted ≡ d → IsLawful k (answer_adds j s granted d ++ fs)
+answer_lawful k vc fs lawful s j true hop at PassBack e = ((yes_at_tells k.hops fs s j at, hop.0, hop.1), lawful)
+answer_lawful k vc fs lawful s j false hop at PassBack e =
+    ((hop.0, hop.1, inr (inr ((and_parts _ _ at).1, decided_back_pass vc fs j s false e))), lawful)
+answer_lawful k vc fs lawful s j true hop at (DropBack cause) e = lawful
+answer_lawful k vc fs lawful s j false hop at (DropBack cause) e = lawful
 
 told_lawful : (k : Route) (fs : List Fact) → IsLawful k fs → (c s : ℕ) (granted : Bool) → answer_is_home fs s granted ≡ true → (st : SourceState) → state_of fs ≡ st →
     IsLawful k (facts_added fs (Told c s granted) (HasTold (told_answer st s granted)) ++ fs)
@@ -204,7 +184,7 @@ step_lawful conn reserved capacity fs lawful (Answer c j s granted) rate =
     (λ e. (
     let hop = is_hop_tells (length conn.path) j (not-false _ e) in
     cond_both (not (answer_is_at (length conn.path) fs s j granted)) _ _ P (λ e2. lawful)
-    (λ e2. answer_lawful (route_of conn) fs lawful s j granted hop (not-false _ e2) _ refl)))
+    (λ e2. answer_lawful (route_of conn) conn.vc fs lawful s j granted hop (not-false _ e2) _ refl)))
 step_lawful conn reserved capacity fs lawful (Told c s granted) rate =
     cond_both (not (answer_is_home fs s granted)) _ _ (λ (o : Outcome). IsLawful (route_of conn) (facts_added fs (Told c s granted) o ++ fs)) (λ e. lawful)
     (λ e. told_lawful (route_of conn) fs lawful c s granted (not-false _ e) (state_of fs) refl)

@@ -1,6 +1,6 @@
 -- What is reserved on each port stays within its capacity.
 use Rattle.std.proofs.Common.{◌≡◌, ◌≢◌, ℕ, zero, suc, ◌+◌, ◌-◌, ◌≤◌, ◌⊎◌, inl, inr, refl, ap, List, [], ◌∷◌, ◌++◌, ◌∙◌, sym, subst, arith}
-use Rattle.std.specs.Prelude.{◌==◌, if◌then◌else◌, slice_index, slice_get, sum_by, All, Some}
+use Rattle.std.specs.Prelude.{◌==◌, slice_index, slice_get, sum_by, All, Some}
 use Rattle.std.proofs.lemmas.Bool.{ne_eqb, eq-eqb, cond-false, cond-true, cases_eq, cond_both}
 use Rattle.std.proofs.lemmas.List.Sums.{sum_by-cons}
 use Rattle.std.specs.List.{enumerate_from}
@@ -12,12 +12,13 @@ use Rattle.abt_model.specs.declared.target.Target.TheVariants.{Hop}
 use Rattle.abt_model.specs.declared.outcome.Outcome.{Outcome}
 use Rattle.abt_net.specs.declared.conn.Conn.{Conn}
 use Rattle.abt_facts.specs.Hop.{held_of}
-use Rattle.abt_net.specs.Topology.{Topology}
-use Rattle.abt_model.specs.Conns.{conn_at}
+use Rattle.abt_net.specs.Topology.{Topology, conn_at}
 use Rattle.abt_model.specs.Events.{AsksRate}
 use Rattle.abt_model.specs.Targets.{target_of, hop_in, port_in}
 use Rattle.abt_model.specs.Past.{facts_of}
-use Rattle.abt_model.specs.Reserved.{hop_of, held_on, reserved_on}
+use Rattle.abt_model.specs.Reserved.{held_on, reserved_on}
+use Rattle.abt_net.specs.Paths.{hop_of}
+use Rattle.abt_net.proofs.PathLemmas.{hop_of-port}
 use Rattle.abt_model.specs.Answers.{answer_by}
 use Rattle.abt_model.specs.Outcomes.{conn_of, port_of, facts_added, after_event}
 use Rattle.abt_model.specs.Run.{facts_from, facts_after}
@@ -66,25 +67,6 @@ numbered_least f c n (suc i) (first ∷ conns) conn place at =
 pub numbered_zero : (f : ℕ × Conn → ℕ) (n : ℕ) (conns : List Conn) → ((d : ℕ) (conn : Conn) → f (d, conn) ≡ 0) → numbered_sum f n conns ≡ 0
 numbered_zero f n [] none = refl
 numbered_zero f n (conn ∷ conns) none = omega (arith, numbered_cons f n conn conns, none n conn, numbered_zero f (n + 1) conns none)
-
--- a port stands at its hop
-pub hop_of-port : (path : List ℕ) (p : ℕ) → hop_of path p ≢ 0 → slice_index path (hop_of path p - 1) ≡ p
-hop_of-port [] p some = absurd (some refl)
-hop_of-port (q ∷ path) p some = elim (cases_eq q p) [
-  | inl same ↦ (
-      let one : hop_of (q ∷ path) p ≡ 1 = cond-true _ _ _ (eq-eqb q p same) in
-      let at : hop_of (q ∷ path) p - 1 ≡ 0 = omega arith in
-      ap (slice_index (q ∷ path)) at ∙ same)
-  | inr differ ↦ (
-      let rest : hop_of (q ∷ path) p ≡ (if hop_of path p == 0 then 0 else hop_of path p + 1) = cond-false _ _ _ (ne_eqb q p differ) in
-      elim (cases_eq (hop_of path p) 0) [
-        | inl z ↦ absurd (some (rest ∙ cond-true _ _ _ (eq-eqb _ _ z)))
-        | inr more ↦ (
-            let e : hop_of (q ∷ path) p ≡ hop_of path p + 1 = rest ∙ cond-false _ _ _ (ne_eqb _ _ more) in
-            let at : hop_of (q ∷ path) p - 1 ≡ suc (hop_of path p - 1) = omega arith in
-            ap (slice_index (q ∷ path)) at ∙ hop_of-port path p more)
-      ])
-]
 
 port_in-hop : (path : List ℕ) (t : Target) → hop_in t ≢ 0 → port_in path t ≡ slice_index path (hop_in t - 1)
 port_in-hop path (Hop c x) some = refl

@@ -14,11 +14,10 @@ use Rattle.abt_model.specs.declared.connection_fact.ConnectionFact.{ConnectionFa
 use Rattle.abt_model.specs.declared.outcome.Outcome.{Outcome}
 use Rattle.abt_net.specs.declared.conn.Conn.{Conn}
 use Rattle.abt_facts.specs.Hop.{held_of}
-use Rattle.abt_net.specs.Topology.{Topology, IsWithinRules}
-use Rattle.abt_model.specs.Conns.{conn_at}
+use Rattle.abt_net.specs.Topology.{Topology, IsWithinRules, conn_at}
 use Rattle.abt_cell.specs.Channel.{Channel, channel_cmp, same_channel}
 use Rattle.abt_model.specs.Past.{facts_of}
-use Rattle.abt_model.specs.Reserved.{hop_of}
+use Rattle.abt_net.specs.Paths.{hop_of}
 use Rattle.abt_model.specs.Outcomes.{conn_of, facts_added, after_event}
 use Rattle.abt_model.specs.PortTable.{kept_at, kept_from, port_table, hop_visited, TotalsAreReserved, TablesHaveRows, TablesStay}
 use Rattle.abt_node.specs.Table.{Connection, held_at, connection_at, with_connection}
@@ -26,7 +25,7 @@ use Rattle.abt_model.proofs.Sums.{numbered_sum, holding}
 use Rattle.abt_model.proofs.Worlds.{facts_of-own, facts_of-other, outcome_of-known, AllLawful, lawful_at}
 use Rattle.abt_model.proofs.AnswerRows.{step_stays}
 use Rattle.abt_model.proofs.Lawful.{route_of}
-use Rattle.abt_model.proofs.Reservations.{held_by-held}
+use Rattle.abt_model.proofs.Decisions.{held_by-held}
 use Rattle.abt_cell.proofs.ChannelLemmas.{channel_cmp_total, channel_cmp-IsAntisymmetric, same_channel_tied, same_channel-is, same_channel-refl}
 
 -- the connection of a channel among those through a port, from number c on

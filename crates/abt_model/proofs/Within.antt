@@ -31,7 +31,8 @@ use Rattle.abt_model.specs.Outcomes.{delivery, request_adds, answer_adds, facts_
 use Rattle.abt_model.proofs.Chain.{asked_last, newest_asked}
 use Rattle.abt_model.proofs.Holds.{passed_other, shut_other, passed_above, passed_again, shut_now, shut_again}
 use Rattle.abt_model.proofs.Lawful.{Route, route_of, IsLawful}
-use Rattle.abt_model.proofs.Steps.{decided, decided_back, decided_pass, decided_refuse, decided_back_pass, down_adds}
+use Rattle.abt_model.proofs.Decisions.{decided, decided_back, decided_pass, decided_refuse, decided_back_pass}
+use Rattle.abt_model.proofs.Steps.{down_adds}
 
 -- after a step each hop holds no more than before, but for the one that the event comes to, and what it holds more fits
 abbrev pub IsWithin : (sum capacity hop : ℕ) → (old new : List Fact) → ℕ → Type 0
@@ -54,7 +55,7 @@ request_within : (k : Route) (vc : Channel) (reserved capacity : ℕ) (fs : List
 request_within k vc reserved capacity fs lawful s j i Pass e = elim (cases_eq j i) [
   | inr differ ↦ inl (omega (arith, held_passed_delivered fs s j i, passed_other fs s j i differ))
   | inl same ↦ subst (λ q. IsWithin reserved capacity j fs (Passed s j ∷ (delivery j s ++ fs)) q) same (
-      elim (decided_pass vc fs reserved capacity j s e) [
+      elim (decided_pass k vc fs lawful reserved capacity j s e) [
         | inl above ↦ inr (refl, (let a = passed_above fs s j above.0 in let b = held_passed_delivered fs s j j in omega (arith, a, b, above.2)))
         | inr equal ↦ inl (omega (arith, held_passed_delivered fs s j j, passed_again fs s j equal.0))
       ])
@@ -62,23 +63,23 @@ request_within k vc reserved capacity fs lawful s j i Pass e = elim (cases_eq j 
 request_within k vc reserved capacity fs lawful s j i (Refuse answer) e = elim (cases_eq j i) [
   | inr differ ↦ inl (omega (arith, held_shut_delivered fs s j i, shut_other fs s j i differ))
   | inl same ↦ subst (λ q. IsWithin reserved capacity j fs (Shut s j ∷ (delivery j s ++ fs)) q) same (
-      elim (decided_refuse vc fs reserved capacity j s answer e) [
+      elim (decided_refuse k vc fs lawful reserved capacity j s answer e) [
         | inl above ↦ inl (omega (arith, held_shut_delivered fs s j j, shut_now fs s j (omega arith) (λ z. omega arith), above.1))
         | inr equal ↦ inl (omega (arith, held_shut_delivered fs s j j, shut_again k fs lawful s j equal.0))
       ])
 ]
 request_within k vc reserved capacity fs lawful s j i (Drop cause) e = inl (omega (arith, held_delivered fs s j i))
 
-answer_within : (k : Route) (reserved capacity : ℕ) (fs : List Fact) → IsLawful k fs → (s j i : ℕ) (granted : Bool) → (d : Returned) →
-    decided_back fs j s granted ≡ d → IsWithin reserved capacity j fs (answer_adds j s granted d ++ fs) i
-answer_within k reserved capacity fs lawful s j i true PassBack e = inl (omega arith)
-answer_within k reserved capacity fs lawful s j i false PassBack e = elim (cases_eq j i) [
+answer_within : (k : Route) (vc : Channel) (reserved capacity : ℕ) (fs : List Fact) → IsLawful k fs → (s j i : ℕ) (granted : Bool) → (d : Returned) →
+    decided_back vc fs j s granted ≡ d → IsWithin reserved capacity j fs (answer_adds j s granted d ++ fs) i
+answer_within k vc reserved capacity fs lawful s j i true PassBack e = inl (omega arith)
+answer_within k vc reserved capacity fs lawful s j i false PassBack e = elim (cases_eq j i) [
   | inr differ ↦ inl (omega (arith, shut_other fs s j i differ))
   | inl same ↦ subst (λ q. IsWithin reserved capacity j fs (Shut s j ∷ fs) q) same (
-      inl (shut_again k fs lawful s j (decided_back_pass fs j s false e)))
+      inl (shut_again k fs lawful s j (decided_back_pass vc fs j s false e)))
 ]
-answer_within k reserved capacity fs lawful s j i true (DropBack cause) e = inl (omega arith)
-answer_within k reserved capacity fs lawful s j i false (DropBack cause) e = inl (omega arith)
+answer_within k vc reserved capacity fs lawful s j i true (DropBack cause) e = inl (omega arith)
+answer_within k vc reserved capacity fs lawful s j i false (DropBack cause) e = inl (omega arith)
 
 told_within : (reserved capacity : ℕ) (fs : List Fact) (c s i : ℕ) (granted : Bool) (o : Hearing) → IsWithin reserved capacity 0 fs (facts_added fs (Told c s granted) (HasTold o) ++ fs) i
 told_within reserved capacity fs c s i granted Raised = inl (omega arith)
@@ -152,6 +153,6 @@ step_within conn reserved capacity fs lawful (Turn c s) i =
 step_within conn reserved capacity fs lawful (Answer c j s granted) i =
     let P : Outcome → Type 0 = λ o. IsWithin reserved capacity j fs (facts_added fs (Answer c j s granted) o ++ fs) i in
     cond_both (not (is_hop (length conn.path) j)) _ _ P (λ e. inl (omega arith))
-    (λ e. cond_both (not (answer_is_at (length conn.path) fs s j granted)) _ _ P (λ e2. inl (omega arith)) (λ e2. answer_within (route_of conn) reserved capacity fs lawful s j i granted _ refl))
+    (λ e. cond_both (not (answer_is_at (length conn.path) fs s j granted)) _ _ P (λ e2. inl (omega arith)) (λ e2. answer_within (route_of conn) conn.vc reserved capacity fs lawful s j i granted _ refl))
 step_within conn reserved capacity fs lawful (Told c s granted) i =
     cond_both (not (answer_is_home fs s granted)) _ _ (λ (o : Outcome). IsWithin reserved capacity 0 fs (facts_added fs (Told c s granted) o ++ fs) i) (λ e. inl (omega arith)) (λ e. told_within reserved capacity fs c s i granted (told_answer (state_of fs) s granted))

@@ -4,7 +4,7 @@ use Rattle.std.specs.Prelude.{ℕ, ◌+◌, ◌-◌, ◌^◌, ◌==◌, ◌&&◌
 use Rattle.abt_rate.specs.Limits.{emit_max, number_max}
 use Rattle.abt_rate.specs.Rate.{spacing_of}
 use Rattle.abt_cell.specs.Channel.{Channel}
-use Rattle.abt_cell.specs.Message.{Terms}
+use Rattle.abt_cell.specs.Message.{Terms, answer_to}
 use Rattle.abt_keep.specs.declared.plan.StorePlan.{StorePlan}
 use Rattle.abt_keep.specs.declared.plan.StorePlan.TheVariants.{Works, FailsBefore, FailsAfter}
 use Rattle.abt_shaper.specs.declared.fault.ShapeFault.TheVariants.{TimeRange, Zero, TooSoon}
@@ -23,7 +23,8 @@ use Rattle.abt_model.specs.declared.outcome.Heard.{Heard}
 use Rattle.abt_model.specs.declared.outcome.Heard.TheVariants.{Raised, Refused, Ignored}
 use Rattle.abt_model.specs.declared.outcome.Outcome.{Outcome}
 use Rattle.abt_model.specs.declared.outcome.Outcome.TheVariants.{Started, StartRefused, Asked, AskRefused, Repeated, Crashed, Emitted, EmitRefused, Arrived, Requested, Turned, Answered, Told as HasTold, NotEnabled}
-use Rattle.abt_model.specs.Decision.{request_of, answer_to, request_decision, answer_decision}
+use Rattle.abt_model.specs.Decision.{request_decision, answer_decision}
+use Rattle.abt_source.specs.SourceFacts.{request_of}
 
 -- the greatest moment of a start: the hold-off then ends at the last moment at which a cell may leave
 abbrev pub start_max : ℕ

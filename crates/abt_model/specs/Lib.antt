@@ -1,4 +1,3 @@
-pub mod Conns
 pub mod Events
 pub mod Targets
 pub mod Past

@@ -6,17 +6,13 @@ use Rattle.abt_cell.specs.Channel.{Channel}
 use Rattle.abt_gcra.specs.declared.verdict.Verdict.{Verdict}
 use Rattle.abt_gcra.specs.Windows.{Arrival}
 use Rattle.abt_gcra.specs.Policing.{Policing}
-use Rattle.abt_node.specs.Reservation.{Reservation}
 use Rattle.abt_node.specs.declared.reply.Onward.{Onward}
 use Rattle.abt_node.specs.declared.reply.Back.{Back}
 use Rattle.abt_node.specs.Table as table
 use Rattle.abt_node.specs.Table.{Connection, Table, connection_at, sum_of, reply_to, table_after, table_after_answer, arrival_at, table_after_arrival}
 use Rattle.abt_net.specs.declared.conn.Conn.{Conn}
-use Rattle.abt_net.specs.Topology.{Topology}
-use Rattle.abt_model.specs.Conns.{conn_at}
+use Rattle.abt_net.specs.Topology.{Topology, conn_at}
 use Rattle.abt_facts.specs.declared.fact.Fact.{Fact}
-use Rattle.abt_facts.specs.Requests.{floor_of, ask_of}
-use Rattle.abt_facts.specs.Hop.{newest_of, is_open_at}
 use Rattle.abt_facts.specs.Cells.{taken_of, last_arrival_of}
 use Rattle.abt_model.specs.declared.connection_fact.ConnectionFact.{ConnectionFact}
 use Rattle.abt_model.specs.declared.event.Event.{Event}
@@ -25,18 +21,12 @@ use Rattle.abt_model.specs.declared.outcome.Outcome.TheVariants.{Arrived, Reques
 use Rattle.abt_model.specs.Targets.{target_of, hop_in}
 use Rattle.abt_model.specs.Events.{AsksRate}
 use Rattle.abt_model.specs.Past.{facts_of}
-use Rattle.abt_model.specs.Reserved.{hop_of, reserved_on}
-use Rattle.abt_model.specs.Decision.{request_of, answer_to}
+use Rattle.abt_model.specs.Reserved.{reserved_on}
+use Rattle.abt_net.specs.Paths.{hop_of}
+use Rattle.abt_cell.specs.Message.{answer_to}
+use Rattle.abt_source.specs.SourceFacts.{request_of}
+use Rattle.abt_model.specs.Decision.{reservation_at}
 use Rattle.abt_model.specs.Outcomes.{conn_of, outcome_of, after_event}
-
--- what hop j reserves for a connection
-abbrev pub reservation_at : List Fact → ℕ → Reservation
-reservation_at facts j = record {
-  newest = newest_of facts j;
-  floor = floor_of facts (newest_of facts j);
-  ask = ask_of facts (newest_of facts j);
-  is_open = is_open_at facts j;
-}
 
 -- the theoretical arrival time after cells that were taken, the last first
 abbrev pub due_after : List Arrival → Option ℕ

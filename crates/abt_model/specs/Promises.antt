@@ -11,8 +11,7 @@ use Rattle.abt_node.specs.declared.reply.DropCause.TheVariants.{UnknownVc, Stale
 use Rattle.abt_node.specs.declared.reply.Onward.TheVariants.{Drop}
 use Rattle.abt_node.specs.declared.reply.Back.TheVariants.{Drop as DropBack}
 use Rattle.abt_net.specs.declared.conn.Conn.{Conn}
-use Rattle.abt_net.specs.Topology.{Topology, IsWithinRules}
-use Rattle.abt_model.specs.Conns.{conn_at}
+use Rattle.abt_net.specs.Topology.{Topology, IsWithinRules, conn_at}
 use Rattle.abt_facts.specs.declared.fact.Fact.{Fact}
 use Rattle.abt_facts.specs.Requests.{was_asked, floor_of}
 use Rattle.abt_facts.specs.Source.{rate_of, next_of, yes_was_heard}

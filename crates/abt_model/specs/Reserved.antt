@@ -1,16 +1,12 @@
 -- What is reserved on a port.
-use Rattle.std.specs.Prelude.{ℕ, ◌+◌, ◌==◌, List, [], ◌∷◌, if◌then◌else◌, sum_by}
+use Rattle.std.specs.Prelude.{ℕ, ◌==◌, List, if◌then◌else◌, sum_by}
 use Rattle.std.specs.List.{enumerate_from}
+use Rattle.abt_net.specs.Paths.{hop_of}
 use Rattle.abt_net.specs.Topology.{Topology}
 use Rattle.abt_facts.specs.declared.fact.Fact.{Fact}
 use Rattle.abt_facts.specs.Hop.{held_of}
 use Rattle.abt_model.specs.declared.connection_fact.ConnectionFact.{ConnectionFact}
 use Rattle.abt_model.specs.Past.{facts_of}
-
--- the hop of a path, from 1, that is a port, and 0 where none is
-abbrev pub hop_of : List ℕ → ℕ → ℕ
-hop_of [] p = 0
-hop_of (port ∷ path) p = if port == p then 1 else (if hop_of path p == 0 then 0 else hop_of path p + 1)
 
 -- what a connection holds on a port: nothing where its path doesn't go through it
 abbrev pub held_on : List Fact → List ℕ → ℕ → ℕ

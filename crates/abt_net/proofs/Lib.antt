@@ -2,3 +2,4 @@ pub mod ChannelLemmas
 pub mod FaultLemmas
 pub mod RuleLemmas
 pub mod BuildLemmas
+pub mod PathLemmas

@@ -1,3 +1,4 @@
 pub mod Topology
+pub mod Paths
 pub mod Faults
 pub mod Search

@@ -20,6 +20,16 @@ pub struct Conn {
 impl Conn {
     ghost use Rattle.std.specs.Prelude.{◌≡◌, ◌<◌, ◌≤◌, ◌↔◌, ◌⊎◌, IsTrue, length};
     ghost use Rattle.abt_net.specs.Faults.{LeavesNet, HasWrongLength, VisitsTwice};
+    ghost use Rattle.abt_net.specs.Paths.{policer_at};
+
+    /// What the policer at a port of the path is given, if the path goes through the port: the tolerance at the first port,
+    /// which polices the connection's cells, and nothing at the others (docs/RULES.md, "Node").
+    pub fn policer_at(&self, port: u16) -> Option<Option<u64>>
+        ensures { result ≡ policer_at self.now port }
+    {
+        let hop = self.path.hop_of(port)?;
+        Some(if hop == 1 { Some(self.tau) } else { None })
+    }
 
     // Whether the path names a port that a net of so many ports doesn't have.
     pub(crate) fn leaves_net(&self, ports: usize) -> bool

@@ -11,6 +11,6 @@ mod rules;
 
 pub use conn::Conn;
 pub use fault::NetFault;
-pub use limits::{CAPACITY_MAX, CONNECTIONS_MAX, DELAY_MAX, HOPS_MAX, PORTS_MAX, TAU_MAX};
+pub use limits::{DELAY_MAX, HOPS_MAX, PORTS_MAX};
 pub use net::Net;
 pub use path::Path;

@@ -8,7 +8,8 @@ ghost use Rattle.abt_net.specs.Topology.{Topology, IsWithinRules};
 use crate::channels::first_repeat;
 use crate::conn::Conn;
 use crate::fault::NetFault;
-use crate::limits::{CAPACITY_MAX, CONNECTIONS_MAX, DELAY_MAX, PORTS_MAX, TAU_MAX};
+use crate::limits::{DELAY_MAX, PORTS_MAX};
+use abt_rate::{CAPACITY_MAX, CONNECTIONS_MAX, TAU_MAX};
 use std::alloc::Global;
 
 // The first fault of these ports and connections, if there is one. Without memory the repeats of

@@ -6,3 +6,4 @@ pub mod Rule
 pub mod Laws
 pub mod Faults
 pub mod Rows
+pub mod Names

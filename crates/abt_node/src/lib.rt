@@ -15,5 +15,5 @@ pub use laws::{
     answers_change_their_connection, answers_follow_the_rule, requests_change_their_connection,
     requests_follow_the_rule,
 };
-pub use port::{CAPACITY_MAX, CONNECTIONS_MAX, Port, limits_are_kept};
+pub use port::Port;
 pub use reply::{Back, DropCause, Onward};

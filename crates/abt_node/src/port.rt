@@ -16,22 +16,10 @@ use crate::row::Row;
 use abt_cell::{Answer, Request, Vc};
 use abt_gcra::Verdict;
 use abt_ledger::Ledger;
-use abt_rate::Rate;
+use abt_rate::{CONNECTIONS_MAX, Rate};
 use indexmap::IndexMap;
 use std::alloc::{AllocError, Global};
 use std::marker::Model;
-
-/// The most connections of a port.
-pub const CONNECTIONS_MAX: usize = 1024;
-
-/// The greatest capacity of a port's link, in units: 2^60.
-pub const CAPACITY_MAX: u64 = 1152921504606846976;
-
-/// The constants are the limits that contracts name.
-pub fn limits_are_kept()
-    ensures connections { CONNECTIONS_MAX ≡ port_connections_max }
-    ensures capacity { CAPACITY_MAX ≡ capacity_max }
-{}
 
 /// The connections for which a new port has room.
 const ROWS_AT_FIRST: usize = 4;

@@ -14,6 +14,23 @@ pub enum DropCause {
     FloorAbove,
 }
 
+impl DropCause {
+    ghost use Rattle.std.specs.Prelude.{◌≡◌};
+    ghost use Rattle.abt_node.specs.Names.{drop_name};
+
+    /// The cause's name, which reports and `abt port` print (docs/FORMATS.md, "Report").
+    pub fn name(self) -> &'static str
+        ensures { result.now ≡ drop_name self }
+    {
+        match self {
+            DropCause::UnknownVc => "UnknownVc",
+            DropCause::Stale => "Stale",
+            DropCause::Conflict => "Conflict",
+            DropCause::FloorAbove => "FloorAbove",
+        }
+    }
+}
+
 /// What becomes of a request at a port.
 #[derive(Clone, Copy, Debug, PartialEq, Eq)]
 pub enum Onward {

@@ -3,7 +3,7 @@ use Rattle.std.specs.Prelude.{ℕ, List, length, Result, Ok, Err, codes, ◌==�
 use Rattle.hex.specs.Hex.{decode_of, encode_lower}
 use Rattle.hex.specs.declared.error.FromHexError.{FromHexError}
 use Rattle.abt_rate.specs.Code.{code_of}
-use Rattle.abt_cell.specs.Codec.{read_of, written_of}
+use Rattle.abt_cell.specs.Codec.{read_of, written_of, request_of}
 use Rattle.abt_cell.specs.Channel.{Channel}
 use Rattle.abt_cell.specs.Message.{Terms}
 use Rattle.abt_cell.specs.declared.message.Rm.{Rm}
@@ -39,18 +39,13 @@ rates_text floor ask = codes "floor " ⋅ code_text (code_of floor) ⋅ codes " 
 unfoldable pub terms_text : Terms → Text
 terms_text terms = vc_text terms.vc ⋅ codes " seq " ⋅ decimal terms.seq ⋅ codes " " ⋅ rates_text terms.floor terms.ask
 
--- the terms of a request, or of the request that is answered
-abbrev pub terms_of : Rm → Terms
-terms_of (Request terms) = terms
-terms_of (Answer reply) = reply.terms
-
 -- which message it is
 abbrev pub kind_text : Rm → Text
 kind_text (Request terms) = codes "request"
 kind_text (Answer reply) = if reply.granted then codes "answer yes" else codes "answer no"
 
 abbrev pub cell_line : Rm → Text
-cell_line rm = kind_text rm ⋅ codes " " ⋅ terms_text (terms_of rm) ⋅ newline
+cell_line rm = kind_text rm ⋅ codes " " ⋅ terms_text (request_of rm) ⋅ newline
 
 abbrev pub cell_text_of : Result Rm Fault → Result Text Fault
 cell_text_of (Ok rm) = Ok (cell_line rm)

@@ -3,8 +3,6 @@ use Rattle.std.specs.Prelude.{codes}
 use Rattle.abt_text.specs.Text.{Text, ◌⋅◌, newline, decimal}
 use Rattle.abt_cell.specs.declared.fault.RmFault.{RmFault}
 use Rattle.abt_cell.specs.declared.fault.RmFault.TheVariants.{NotRm, Crc, Protocol, Maintenance, Elastic, Direction, SeqZero, RateOrder}
-use Rattle.abt_node.specs.declared.reply.DropCause.{DropCause}
-use Rattle.abt_node.specs.declared.reply.DropCause.TheVariants.{UnknownVc, Stale, Conflict, FloorAbove}
 use Rattle.abt_net.specs.declared.fault.NetFault.{NetFault}
 use Rattle.abt_net.specs.declared.fault.NetFault.TheVariants as net
 use Rattle.abt_scenario.specs.Keys.{key_name}
@@ -72,12 +70,6 @@ fault_name NoOrder = codes "NoOrder"
 fault_name Mismatch = codes "Mismatch"
 fault_name Write = codes "write"
 fault_name Memory = codes "memory"
-
-abbrev pub cause_name : DropCause → Text
-cause_name UnknownVc = codes "UnknownVc"
-cause_name Stale = codes "Stale"
-cause_name Conflict = codes "Conflict"
-cause_name FloorAbove = codes "FloorAbove"
 
 -- the line on standard error that tells why a plan isn't done
 abbrev pub fault_line : Fault → Text

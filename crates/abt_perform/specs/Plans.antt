@@ -2,7 +2,7 @@
 use Rattle.std.specs.Prelude.{◌≡◌, ℕ, ◌+◌, ◌≤◌, ◌⊎◌, ⊤, List, map, Option, Result, Ok, Err, IsOkAnd, String, string_bytes}
 use Rattle.std.specs.Io.KnownBytes.{Appends, Keeps}
 use Rattle.std.specs.declared.alloc.Global.{Global}
-use Rattle.abt_rate.specs.Limits.{capacity_max, workers_max}
+use Rattle.abt_rate.specs.Limits.{capacity_max, AreWorkers}
 use Rattle.abt_text.specs.Text.{Text}
 use Rattle.abt_text.specs.Streams.{AppendsPrefix, ConsumesAtMost, text_max}
 use Rattle.abt_scenario.specs.Engine.{Reports, Leaves}
@@ -21,7 +21,7 @@ use Rattle.abt_perform.specs.declared.plan.Plan.TheVariants.{Rate, Cell, Port, R
 
 abbrev pub IsWithinLimits : Plan → Type 0
 IsWithinLimits (Port capacity cells) = capacity ≤ capacity_max
-IsWithinLimits (Threads file workers) = (1 ≤ workers) × (workers ≤ workers_max)
+IsWithinLimits (Threads file workers) = AreWorkers workers
 IsWithinLimits _ = ⊤
 
 -- a plan for threads, and one that needs none

@@ -3,8 +3,10 @@ use Rattle.std.specs.Prelude.{ℕ, ◌+◌, List, [], ◌∷◌, Option, Some, N
 use Rattle.std.specs.FinMap as map
 use Rattle.abt_rate.specs.Limits.{port_connections_max}
 use Rattle.abt_cell.specs.Channel.{Channel}
+use Rattle.abt_cell.specs.Codec.{request_of}
 use Rattle.abt_cell.specs.declared.message.Rm.{Rm}
 use Rattle.abt_cell.specs.declared.message.Rm.TheVariants.{Request, Answer}
+use Rattle.abt_node.specs.Names.{drop_name}
 use Rattle.abt_node.specs.Table.{Table, new_table, opening, with_connection, sum_of, reply_to, table_after, answer_to, table_after_answer}
 use Rattle.abt_node.specs.declared.reply.Onward.{Onward}
 use Rattle.abt_node.specs.declared.reply.Onward.TheVariants as onward
@@ -12,8 +14,8 @@ use Rattle.abt_node.specs.declared.reply.Back.{Back}
 use Rattle.abt_node.specs.declared.reply.Back.TheVariants as back
 use Rattle.abt_node.specs.declared.reply.DropCause.{DropCause}
 use Rattle.abt_text.specs.Text.{Text, ◌⋅◌, newline, decimal}
-use Rattle.abt_perform.specs.Names.{fault_name, cause_name}
-use Rattle.abt_perform.specs.CellText.{message_of, message_hex, terms_of}
+use Rattle.abt_perform.specs.Names.{fault_name}
+use Rattle.abt_perform.specs.CellText.{message_of, message_hex}
 use Rattle.abt_perform.specs.declared.fault.Fault.{Fault}
 use Rattle.abt_perform.specs.declared.fault.Fault.TheVariants.{Full}
 
@@ -25,7 +27,7 @@ table_knowing table vc =
     else Some (with_connection table vc (opening None))
 
 abbrev pub drop_text : DropCause → Text
-drop_text cause = codes "drop " ⋅ cause_name cause
+drop_text cause = codes "drop " ⋅ drop_name cause
 
 abbrev pub onward_text : Rm → Onward → Text
 onward_text rm onward.Pass = codes "pass " ⋅ message_hex rm
@@ -58,11 +60,11 @@ table_served old None rm = old
 
 -- what a port does with a cell, and its table then; what is no RM cell changes nothing
 abbrev pub answer_text : Table → Result Rm Fault → Text
-answer_text table (Ok rm) = served_text (table_knowing table (terms_of rm).vc) rm
+answer_text table (Ok rm) = served_text (table_knowing table (request_of rm).vc) rm
 answer_text table (Err fault) = fault_text fault
 
 abbrev pub table_past : Table → Result Rm Fault → Table
-table_past table (Ok rm) = table_served table (table_knowing table (terms_of rm).vc) rm
+table_past table (Ok rm) = table_served table (table_knowing table (request_of rm).vc) rm
 table_past table (Err fault) = table
 
 abbrev pub line_of : Table → ℕ → Text → Text

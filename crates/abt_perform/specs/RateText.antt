@@ -1,21 +1,11 @@
 -- What `abt rate` prints (docs/FORMATS.md, "The program").
-use Rattle.std.specs.Prelude.{ℕ, List, Option, Some, None, Result, Ok, Err, codes, ◌==◌, if◌then◌else◌}
-use Rattle.std.specs.Int.{w16, from_be_bytes}
-use Rattle.hex.specs.Hex.{decode_sized}
-use Rattle.hex.specs.declared.error.FromHexError.{FromHexError}
-use Rattle.abt_rate.specs.Rate.{units_of, spacing_of}
+use Rattle.std.specs.Prelude.{ℕ, Option, Some, None, Result, Ok, Err, codes, ◌==◌, if◌then◌else◌}
+use Rattle.abt_rate.specs.Rate.{spacing_of}
 use Rattle.abt_rate.specs.Code.{code_of}
 use Rattle.abt_text.specs.Text.{Text, ◌⋅◌, newline, decimal, code_text}
+use Rattle.abt_grammar.specs.Values.{rate_of}
 use Rattle.abt_perform.specs.declared.fault.Fault.{Fault}
 use Rattle.abt_perform.specs.declared.fault.Fault.TheVariants.{Code}
-
-abbrev pub rate_in : Result (List ℕ) FromHexError → Option ℕ
-rate_in (Ok octets) = Some (units_of (from_be_bytes w16 octets))
-rate_in (Err fault) = None
-
--- the rate of a code of four hexadecimal digits, which are two octets, the higher first
-abbrev pub rate_of : Text → Option ℕ
-rate_of text = rate_in (decode_sized text 2)
 
 abbrev pub spacing_text : ℕ → Text
 spacing_text units = if units == 0 then codes "none" else decimal (spacing_of units)

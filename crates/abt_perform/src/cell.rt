@@ -1,6 +1,7 @@
 //! Cells as hexadecimal text, and the text of `abt cell`.
 ghost use Rattle.std.specs.Prelude.{◌≡◌, ◌⊎◌, Ok, Err, IfOk, IfErr, string_bytes};
-ghost use Rattle.abt_perform.specs.CellText.{message_of, message_hex, vc_text, rates_text, terms_text, terms_of, cell_line, cell_text};
+ghost use Rattle.abt_cell.specs.Codec.{request_of};
+ghost use Rattle.abt_perform.specs.CellText.{message_of, message_hex, vc_text, rates_text, terms_text, cell_line, cell_text};
 ghost use Rattle.abt_perform.specs.declared.fault.Fault.TheVariants.{Memory};
 
 use crate::fault::Fault;
@@ -57,12 +58,16 @@ fn cell_line(alloc: Global, rm: &Rm) -> Result<String, AllocError>
 
 // The terms of a request, or of the request that is answered.
 fn message_terms(alloc: Global, rm: &Rm) -> Result<String, AllocError>
-    ensures { IfOk result (λ text. string_bytes text ≡ terms_text (terms_of rm.now)) }
+    ensures { IfOk result (λ text. string_bytes text ≡ terms_text (request_of rm.now)) }
 {
-    match rm {
-        Rm::Request(q) => terms_text(alloc, q.vc(), q.seq(), q.floor(), q.ask()),
-        Rm::Answer(a) => terms_text(alloc, a.vc(), a.seq(), a.floor(), a.ask()),
-    }
+    let request = rm.request();
+    terms_text(
+        alloc,
+        request.vc(),
+        request.seq(),
+        request.floor(),
+        request.ask(),
+    )
 }
 
 #[tactic(auto, unfolding(crate::specs::CellText::terms_text))]

@@ -1,14 +1,14 @@
 //! The text of `abt port`.
 ghost use Rattle.std.specs.Prelude.{◌≡◌, ◌≤◌, ◌+◌, ◌++◌, IfOk, OnOk, IfErr, string_bytes};
 ghost use Rattle.abt_rate.specs.Limits.{capacity_max};
-ghost use Rattle.abt_perform.specs.Names.{cause_name};
 ghost use Rattle.abt_perform.specs.Plans.{texts_of};
 ghost use Rattle.abt_perform.specs.PortText.{port_text, line_of, table_past, served_text, table_served, table_knowing, decision_text, table_decided, onward_text, back_text, drop_text, fault_text};
-ghost use Rattle.abt_perform.specs.CellText.{message_of, terms_of};
+ghost use Rattle.abt_cell.specs.Codec.{request_of};
+ghost use Rattle.abt_perform.specs.CellText.{message_of};
 
 use crate::cell::{message_hex, message_of};
 use crate::fault::Fault;
-use abt_cell::{Rm, Vc};
+use abt_cell::Rm;
 use abt_node::{AddFault, Back, DropCause, Onward, Port};
 use std::alloc::{AllocError, Global};
 
@@ -47,11 +47,11 @@ fn line_of(alloc: Global, port: &mut Port, number: u64, hex: &str) -> Result<Str
 // What the port does with a message, whose connection it adds if it is new.
 fn served_text(alloc: Global, port: &mut Port, rm: &Rm) -> Result<String, AllocError>
     ensures text { IfOk result (λ text. string_bytes text
-        ≡ served_text (table_knowing port.old (terms_of rm.now).vc) rm.now) }
+        ≡ served_text (table_knowing port.old (request_of rm.now).vc) rm.now) }
     ensures table { OnOk result (port.new
-        ≡ table_served port.old (table_knowing port.old (terms_of rm.now).vc) rm.now) }
+        ≡ table_served port.old (table_knowing port.old (request_of rm.now).vc) rm.now) }
 {
-    match port.add(vc_of(rm), None) {
+    match port.add(rm.request().vc(), None) {
         Ok(()) | Err(AddFault::Known) => decision_text(alloc, port, rm),
         Err(AddFault::Full) => fault_text(alloc, Fault::Full),
         Err(AddFault::Memory) => Err(AllocError),
@@ -100,7 +100,7 @@ fn back_text(alloc: Global, rm: &Rm, reply: Back) -> Result<String, AllocError>
 fn drop_text(alloc: Global, cause: DropCause) -> Result<String, AllocError>
     ensures { IfOk result (λ text. string_bytes text ≡ drop_text cause) }
 {
-    let name = cause_name(cause);
+    let name = cause.name();
     format!(in alloc; "drop {name}")
 }
 
@@ -108,24 +108,4 @@ fn fault_text(alloc: Global, fault: Fault) -> Result<String, AllocError>
     ensures { IfOk result (λ text. string_bytes text ≡ fault_text fault) }
 {
     format!(in alloc; "fault {fault}")
-}
-
-fn cause_name(cause: DropCause) -> &'static str
-    ensures { result.now ≡ cause_name cause }
-{
-    match cause {
-        DropCause::UnknownVc => "UnknownVc",
-        DropCause::Stale => "Stale",
-        DropCause::Conflict => "Conflict",
-        DropCause::FloorAbove => "FloorAbove",
-    }
-}
-
-fn vc_of(rm: &Rm) -> Vc
-    ensures { result ≡ (terms_of rm.now).vc }
-{
-    match rm {
-        Rm::Request(request) => request.vc(),
-        Rm::Answer(answer) => answer.vc(),
-    }
 }

@@ -1,13 +1,13 @@
 //! The text of `abt rate`.
 ghost use Rattle.std.specs.Prelude.{◌≡◌, ◌⊎◌, Ok, Err, IfOk, IfErr, string_bytes};
 ghost use Rattle.std.specs.Option.{option_map};
-ghost use Rattle.abt_perform.specs.RateText.{rate_of, rate_line, rate_text};
+ghost use Rattle.abt_perform.specs.RateText.{rate_line, rate_text};
 ghost use Rattle.abt_perform.specs.declared.fault.Fault.TheVariants.{Memory};
 
 use crate::fault::Fault;
+use abt_grammar::rate_of;
 use abt_rate::Rate;
 use abt_text::HexCode;
-use hex::FromHex;
 use std::alloc::{AllocError, Global};
 
 /// What a rate code means: its canonical form, its units of 1/512 cell/s and its spacing in picoseconds.
@@ -18,16 +18,6 @@ pub fn rate_text(alloc: Global, code: &str) -> Result<String, Fault>
     match rate_of(code) {
         Some(rate) => Ok(rate_line(alloc, rate)?),
         None => Err(Fault::Code),
-    }
-}
-
-// The rate of a code, if the text is one.
-fn rate_of(text: &str) -> Option<Rate>
-    ensures { result ≡ rate_of text.now }
-{
-    match <[u8; 2] as FromHex>::from_hex(text) {
-        Ok(octets) => Some(Rate::from_code(u16::from_be_bytes(octets))),
-        Err(_) => None,
     }
 }
 

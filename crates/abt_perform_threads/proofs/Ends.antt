@@ -7,7 +7,7 @@ use Rattle.abt_threads.specs.declared.fault.RunFault.TheVariants as run
 use Rattle.abt_perform.specs.declared.fault.Fault.{Fault}
 use Rattle.abt_perform.specs.declared.fault.Fault.TheVariants.{Code, Hex, Length, Rm, Full, Read, TooLong, NotUtf8, Scenario as Text, Workers, Scripts, Thread, Wound, Gather, NoOrder, Mismatch, Write, Memory}
 use Rattle.abt_perform_threads.specs.Faults.{fault_of_run}
-use Rattle.abt_perform_threads.specs.Shown.{AreWorkers}
+use Rattle.abt_rate.specs.Limits.{AreWorkers}
 use Rattle.abt_perform_threads.specs.Performing.{IsUnfit, MayRun, EndsRunBy}
 
 -- the result is refused for workers, or for scripts, exactly where these don't fit

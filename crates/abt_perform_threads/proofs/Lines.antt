@@ -9,7 +9,7 @@ use Rattle.abt_trace.specs.Traces.{IsTrace}
 use Rattle.abt_threads.specs.declared.gathered.Gathered.{Gathered}
 use Rattle.abt_woven.specs.Woven.{IsWoven}
 use Rattle.abt_perform_threads.specs.Judging.{IsJudged, IsVerdict}
-use Rattle.abt_perform_threads.specs.Shown.{BreaksOff, BreaksOffJudged, ShowsAll, ShowsUntil, gathered_line, woven_line, verdict_line}
+use Rattle.abt_perform_threads.specs.Shown.{BreaksOff, BreaksOffJudged, ShowsAll, ShowsUntil, gathered_line, woven_line, safe_line}
 use Rattle.abt_perform_threads.specs.declared.judging.Judged.{Judged}
 use Rattle.abt_perform_threads.specs.declared.ran.Ran.{Ran}
 use Rattle.abt_perform_threads.specs.declared.showing.ShowFault.TheVariants.{Trace, Write}
@@ -37,18 +37,18 @@ is_judged net run events judged woven verdict = record {
 
 -- two lines, and then the last one, or a part of it
 pub all_lines : (ran : Ran) (judged : Judged) (line : List ℕ) (a b c d : Option (List ℕ)) → IsJudged ran.net ran.gathered judged
-    → line ≡ verdict_line judged.trace.safe → Appends a b gathered_line → Appends b c woven_line → Appends c d line → ShowsAll ran judged a d
+    → line ≡ safe_line judged.trace.safe → Appends a b gathered_line → Appends b c woven_line → Appends c d line → ShowsAll ran judged a d
 all_lines ran judged line a b c d is word first second third = record {
   is_judged = is;
   lines = Appends-trans a b d gathered_line _ first (Appends-trans b c d woven_line _ second (subst (Appends c d) word third));
 }
 
 pub cut_verdict : (ran : Ran) (judged : Judged) (line : List ℕ) (a b c d : Option (List ℕ)) → IsJudged ran.net ran.gathered judged
-    → line ≡ verdict_line judged.trace.safe → Appends a b gathered_line → Appends b c woven_line → AppendsPrefix c d line → ShowsUntil ran Write a d
+    → line ≡ safe_line judged.trace.safe → Appends a b gathered_line → Appends b c woven_line → AppendsPrefix c d line → ShowsUntil ran Write a d
 cut_verdict ran judged line a b c d is word first second third = inr (inr (record {
   judged = judged;
   is_judged = is;
-  part = breaks_off_after a c d _ (verdict_line judged.trace.safe) (Appends-trans a b c gathered_line woven_line first second)
+  part = breaks_off_after a c d _ (safe_line judged.trace.safe) (Appends-trans a b c gathered_line woven_line first second)
       (subst (AppendsPrefix c d) word third);
 }))
 

@@ -14,7 +14,8 @@ use Rattle.abt_perform.specs.declared.plan.Plan.TheVariants.{Threads}
 use Rattle.abt_perform.specs.declared.fault.Fault.{Fault}
 use Rattle.abt_perform.specs.declared.fault.Fault.TheVariants.{Workers, Scripts, Thread, Wound, Gather, Memory}
 use Rattle.abt_perform_threads.specs.Faults.{fault_of_show}
-use Rattle.abt_perform_threads.specs.Shown.{AreWorkers, IsRanFrom, ShowsAll, ShowsUntil}
+use Rattle.abt_perform_threads.specs.Shown.{IsRanFrom, ShowsAll, ShowsUntil}
+use Rattle.abt_rate.specs.Limits.{AreWorkers}
 use Rattle.abt_perform_threads.specs.declared.judging.Judged.{Judged}
 use Rattle.abt_perform_threads.specs.declared.ran.Ran.{Ran}
 use Rattle.abt_perform_threads.specs.declared.showing.ShowFault.{ShowFault}

@@ -1,8 +1,8 @@
 -- What `abt threads` shows of a run (docs/THREADS.md), line by line.
-use Rattle.std.specs.Prelude.{◌≡◌, ℕ, ◌<◌, ◌≤◌, ◌⊎◌, Bool, true, false, List, [], Option, length, take, codes}
+use Rattle.std.specs.Prelude.{◌≡◌, ℕ, ◌<◌, ◌⊎◌, true, List, [], Option, length, take, codes}
 use Rattle.std.specs.Io.KnownBytes.{Appends}
-use Rattle.abt_rate.specs.Limits.{workers_max}
 use Rattle.abt_text.specs.Text.{Text, ◌⋅◌, newline}
+use Rattle.abt_report.specs.Report.{safe_line}
 use Rattle.abt_model.specs.declared.event.Event.{Event}
 use Rattle.abt_scenario.specs.declared.scenario.Scenario.{Scenario}
 use Rattle.abt_threads.specs.Runs.{IsRun}
@@ -14,10 +14,6 @@ use Rattle.abt_perform_threads.specs.declared.judging.Judged.{Judged}
 use Rattle.abt_perform_threads.specs.declared.ran.Ran.{Ran}
 use Rattle.abt_perform_threads.specs.declared.showing.ShowFault.{ShowFault}
 use Rattle.abt_perform_threads.specs.declared.showing.ShowFault.TheVariants.{Weave, Trace, Write}
-
--- There are link workers, and not too many.
-abbrev pub AreWorkers : ℕ → Type 0
-AreWorkers workers = (1 ≤ workers) × (workers ≤ workers_max)
 
 -- The scenario's scripts ran in its net, with so many link workers, and left this.
 pub record IsRanFrom (scenario : Scenario) (workers : ℕ) (ran : Ran) : Type 0 where
@@ -31,16 +27,12 @@ gathered_line = codes "gathered" ⋅ newline
 abbrev pub woven_line : Text
 woven_line = codes "woven" ⋅ newline
 
-abbrev pub verdict_line : Bool → Text
-verdict_line true = codes "safe" ⋅ newline
-verdict_line false = codes "unsafe" ⋅ newline
-
 -- all lines of a run, and what they are of each, since its trace is safe
 abbrev pub lines_of : Judged → Text
-lines_of judged = gathered_line ⋅ woven_line ⋅ verdict_line judged.trace.safe
+lines_of judged = gathered_line ⋅ woven_line ⋅ safe_line judged.trace.safe
 
 abbrev pub shown_text : Text
-shown_text = gathered_line ⋅ woven_line ⋅ verdict_line true
+shown_text = gathered_line ⋅ woven_line ⋅ safe_line true
 
 -- All lines of this run went out, which is judged to be this.
 pub record ShowsAll (ran : Ran) (judged : Judged) (old new : Option Text) : Type 0 where
@@ -66,7 +58,7 @@ pub record BreaksOff (before line : Text) (old new : Option Text) : Type 0 where
 pub record BreaksOffJudged (ran : Ran) (old new : Option Text) : Type 0 where
   pub judged : Judged
   pub is_judged : IsJudged ran.net ran.gathered judged
-  pub part : BreaksOff (gathered_line ⋅ woven_line) (verdict_line judged.trace.safe) old new
+  pub part : BreaksOff (gathered_line ⋅ woven_line) (safe_line judged.trace.safe) old new
 
 -- what each fault says of this run, and what went out before it: the lines of the steps that were done, and of the one that couldn't
 -- be written a part

@@ -5,7 +5,8 @@ ghost use Rattle.abt_scenario.specs.Engine.{Explains};
 ghost use Rattle.abt_scenario.specs.Scenarios.{Reads};
 ghost use Rattle.abt_threads.specs.declared.fault.RunFault.{RunFault};
 ghost use Rattle.abt_threads.specs.Runs.{ScriptsFit};
-ghost use Rattle.abt_perform_threads.specs.Shown.{AreWorkers, IsRanFrom};
+ghost use Rattle.abt_perform_threads.specs.Shown.{IsRanFrom};
+ghost use Rattle.abt_rate.specs.Limits.{AreWorkers};
 
 use abt_net::Net;
 use abt_ports::Gate;

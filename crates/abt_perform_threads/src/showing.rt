@@ -1,13 +1,15 @@
 //! A run, shown line by line.
 ghost use Rattle.std.specs.Prelude.{◌≡◌, ◌<◌, ◌↔◌, ℕ, length, IfOk, IfErr, IsErrOf, OnErr, OnOk, MatchResult};
 ghost use Rattle.std.specs.Io.KnownBytes.{Appends, Keeps};
+ghost use Rattle.abt_rate.specs.Limits.{AreWorkers};
 ghost use Rattle.abt_text.specs.Streams.{AppendsPrefix};
 ghost use Rattle.abt_threads.specs.Runs.{ScriptsFit};
-ghost use Rattle.abt_perform_threads.specs.Shown.{AreWorkers, IsRanFrom, ShowsAll, ShowsUntil, verdict_line};
+ghost use Rattle.abt_perform_threads.specs.Shown.{IsRanFrom, ShowsAll, ShowsUntil};
 
 use crate::judging::{Judged, judge_events};
 use crate::ran::{Ran, Unrun};
 use abt_ports::Gate;
+use abt_report::safe_line;
 use abt_text::{Unwritten, put};
 use abt_threads::RunFault;
 use abt_weave::{WeaveFault, weave};
@@ -110,13 +112,6 @@ fn show<W: Write>(alloc: Global, ran: &Ran, writer: &mut W) -> Result<Judged, Sh
     let events = weave(alloc, net, &gathered.journals, gathered.sources.as_slice())?;
     put(writer, b"woven\n")?;
     let judged = judge_events(alloc, net, events)?;
-    put(writer, verdict_line(judged.trace.safe).as_bytes())?;
+    put(writer, safe_line(judged.trace.safe).as_bytes())?;
     Ok(judged)
-}
-
-// The line of a trace's own word.
-fn verdict_line(safe: bool) -> &'static str
-    ensures { result.now ≡ verdict_line safe }
-{
-    if safe { "safe\n" } else { "unsafe\n" }
 }

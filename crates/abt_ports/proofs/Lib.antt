@@ -1,6 +1,5 @@
 pub mod Counts
 pub mod Walk
-pub mod Hops
 pub mod Rows
 pub mod Through
 pub mod Histories

@@ -10,11 +10,11 @@ use Rattle.abt_cell.specs.Channel.{Channel, channel_cmp}
 use Rattle.abt_net.specs.declared.conn.Conn.{Conn}
 use Rattle.abt_net.specs.Topology.{Topology}
 use Rattle.abt_node.specs.Table.{Connection, Table, opening, connection_at}
-use Rattle.abt_model.specs.Reserved.{hop_of}
-use Rattle.abt_model.specs.PortTable.{reservation_at, policing_by, kept_at, kept_from, port_table}
+use Rattle.abt_net.specs.Paths.{hop_of, policer_at, policer_at_hop}
+use Rattle.abt_model.specs.PortTable.{policing_by, kept_at, kept_from, port_table}
+use Rattle.abt_model.specs.Decision.{reservation_at}
 use Rattle.abt_journal.specs.Opening.{tau_of, as_added, IsOpening}
 use Rattle.abt_journal.proofs.Openings.{tau_of-opening}
-use Rattle.abt_ports.specs.Foreign.{policer_at, policer_at_hop}
 use Rattle.abt_ports.proofs.Rows.{Rows, AreApart, HasRows, map_of_rows, rows_of_map}
 
 abbrev pub with_row : Option (Option ℕ) → Channel → Rows → Rows

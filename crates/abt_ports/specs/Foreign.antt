@@ -1,9 +1,7 @@
 -- States of the ports of a net (docs/RULES.md, "Journals").
-use Rattle.std.specs.Prelude.{◌≡◌, ℕ, ◌<◌, ◌==◌, List, [], map, length, Option, None, Some, slice_get, nat_lt, if◌then◌else◌}
+use Rattle.std.specs.Prelude.{◌≡◌, ℕ, ◌<◌, List, [], map, length, Option, None, Some, slice_get, nat_lt, if◌then◌else◌}
 use Rattle.abt_node.specs.Table.{Table}
-use Rattle.abt_net.specs.declared.conn.Conn.{Conn}
 use Rattle.abt_net.specs.Topology.{Topology}
-use Rattle.abt_model.specs.Reserved.{hop_of}
 use Rattle.abt_model.specs.PortTable.{port_table}
 use Rattle.abt_journal.specs.declared.entry.Entry.{Entry}
 use Rattle.abt_journal.specs.Journaled.{Journaled}
@@ -30,13 +28,6 @@ AreOfNet net states = (p : ℕ) → IsPortOf net states p
 pub record IsFirstForeign (net : Topology) (states : List Journaled) (p : ℕ) : Type 0 where
   pub foreign : ¬ IsPortOf net states p
   pub none_before : (q : ℕ) → q < p → IsPortOf net states q
-
--- What the port at hop `hop` of a connection polices it by, if the connection goes through it: its first port has its tau.
-abbrev pub policer_at_hop : (tau hop : ℕ) → Option (Option ℕ)
-policer_at_hop tau hop = if hop == 0 then None else Some (if hop == 1 then Some tau else None)
-
-abbrev pub policer_at : Conn → ℕ → Option (Option ℕ)
-policer_at conn p = policer_at_hop conn.tau (hop_of conn.path p)
 
 -- Each port's journal is one of one thread, from the table with which the net's port begins.
 pub record AreHistories (net : Topology) (journals : List (List Entry)) : Type 0 where

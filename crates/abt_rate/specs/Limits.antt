@@ -1,6 +1,6 @@
 -- The limits, each once, as numbers (docs/RULES.md, "Limits"). Rates and capacities are units of 1/512 cell per second, moments
 -- and durations picoseconds. That the code's constants are these is proved in the crate that has the constant.
-use Rattle.std.specs.Prelude.{ℕ, ◌^◌}
+use Rattle.std.specs.Prelude.{ℕ, ◌^◌, ◌≤◌}
 
 -- the last of all numbers of requests
 abbrev pub number_max : ℕ
@@ -28,6 +28,10 @@ hops_max = 16
 -- the most link workers of a run
 abbrev pub workers_max : ℕ
 workers_max = 64
+
+-- There are link workers, and not too many.
+abbrev pub AreWorkers : ℕ → Type 0
+AreWorkers workers = (1 ≤ workers) × (workers ≤ workers_max)
 
 -- the greatest tolerance of a connection or a policer
 abbrev pub tau_max : ℕ

@@ -1,7 +1,7 @@
 //! The way of messages from one worker to another.
 ghost use Rattle.std.specs.Prelude.{◌≡◌, ◌≢◌, ℕ, Some, slice_get, option_copied};
 ghost use Rattle.abt_follow.specs.Following as following;
-ghost use Rattle.abt_model.specs.Reserved.{hop_of};
+ghost use Rattle.abt_net.specs.Paths.{hop_of};
 ghost use Rattle.abt_net.specs.Topology.{conn_at, channel_at};
 ghost use Rattle.abt_net.specs.declared.conn.Conn.{Conn};
 ghost use Rattle.abt_relay.specs.Deliveries as deliveries;

@@ -6,8 +6,6 @@ use Rattle.abt_model.specs.declared.outcome.Cause.{Cause}
 use Rattle.abt_model.specs.declared.outcome.Cause.TheVariants.{Down, Running, NotSent, Fenced, Delay, ClockBack, Unknown, NotAsking}
 use Rattle.abt_model.specs.declared.outcome.Heard.{Heard}
 use Rattle.abt_model.specs.declared.outcome.Heard.TheVariants.{Raised, Refused, Ignored}
-use Rattle.abt_node.specs.declared.reply.DropCause.{DropCause}
-use Rattle.abt_node.specs.declared.reply.DropCause.TheVariants.{UnknownVc, Stale, Conflict, FloorAbove}
 use Rattle.abt_source.specs.declared.fault.AskFault.{AskFault}
 use Rattle.abt_source.specs.declared.fault.AskFault.TheVariants as ask_fault
 use Rattle.abt_source.specs.declared.fault.StartFault.{StartFault}
@@ -23,12 +21,6 @@ cause_name Delay = codes "Delay"
 cause_name ClockBack = codes "ClockBack"
 cause_name Unknown = codes "Unknown"
 cause_name NotAsking = codes "NotAsking"
-
-abbrev pub drop_name : DropCause → Text
-drop_name UnknownVc = codes "UnknownVc"
-drop_name Stale = codes "Stale"
-drop_name Conflict = codes "Conflict"
-drop_name FloorAbove = codes "FloorAbove"
 
 abbrev pub verdict_name : Verdict → Text
 verdict_name Conforming = codes "Conforming"

@@ -4,6 +4,7 @@ use Rattle.abt_rate.specs.Code.{code_of}
 use Rattle.abt_cell.specs.Message.{Terms}
 use Rattle.abt_model.specs.declared.outcome.Outcome.{Outcome}
 use Rattle.abt_model.specs.declared.outcome.Outcome.TheVariants.{Started, StartRefused, Asked, AskRefused, Repeated, Crashed, Emitted, EmitRefused, Arrived, Requested, Turned, Answered, Told, NotEnabled}
+use Rattle.abt_node.specs.Names.{drop_name}
 use Rattle.abt_node.specs.declared.reply.Back.{Back}
 use Rattle.abt_node.specs.declared.reply.Back.TheVariants as back
 use Rattle.abt_node.specs.declared.reply.Onward.{Onward}
@@ -11,7 +12,7 @@ use Rattle.abt_node.specs.declared.reply.Onward.TheVariants as onward
 use Rattle.abt_shaper.specs.declared.fault.ShapeFault.{ShapeFault}
 use Rattle.abt_shaper.specs.declared.fault.ShapeFault.TheVariants.{ClockBack, TimeRange, Zero, TooSoon}
 use Rattle.abt_text.specs.Text.{Text, ◌⋅◌, decimal, code_text}
-use Rattle.abt_report.specs.Names.{cause_name, drop_name, verdict_name, heard_name, start_fault_name, ask_fault_name}
+use Rattle.abt_report.specs.Names.{cause_name, verdict_name, heard_name, start_fault_name, ask_fault_name}
 
 abbrev pub refused_text : Text → Text
 refused_text name = codes "refused " ⋅ name

@@ -6,6 +6,7 @@ mod names;
 mod outcome;
 mod report;
 
+pub use lines::safe_line;
 pub use report::report_text;
 
 #[cfg(test)]

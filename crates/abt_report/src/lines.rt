@@ -66,8 +66,8 @@ pub(crate) fn port_line(
     format!(in alloc; "port {port} total {total} capacity {capacity}\n")
 }
 
-// Whether a run is safe.
-pub(crate) fn safe_line(is_safe: bool) -> &'static str
+/// The line that tells whether a run is safe (docs/FORMATS.md, "Report").
+pub fn safe_line(is_safe: bool) -> &'static str
     ensures { result.now ≡ safe_line is_safe }
 {
     if is_safe { "safe\n" } else { "unsafe\n" }

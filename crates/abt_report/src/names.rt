@@ -1,10 +1,9 @@
 //! The names that reports print.
 ghost use Rattle.std.specs.Prelude.{◌≡◌};
-ghost use Rattle.abt_report.specs.Names.{cause_name, drop_name, verdict_name, heard_name, start_fault_name, ask_fault_name};
+ghost use Rattle.abt_report.specs.Names.{cause_name, verdict_name, heard_name, start_fault_name, ask_fault_name};
 
 use abt_gcra::Verdict;
 use abt_model::{Cause, Heard};
-use abt_node::DropCause;
 use abt_source::{AskFault, StartFault};
 
 // Why an event could not happen.
@@ -20,18 +19,6 @@ pub(crate) fn cause_name(cause: Cause) -> &'static str
         Cause::ClockBack => "ClockBack",
         Cause::Unknown => "Unknown",
         Cause::NotAsking => "NotAsking",
-    }
-}
-
-// Why a hop dropped a message.
-pub(crate) fn drop_name(cause: DropCause) -> &'static str
-    ensures { result.now ≡ drop_name cause }
-{
-    match cause {
-        DropCause::UnknownVc => "UnknownVc",
-        DropCause::Stale => "Stale",
-        DropCause::Conflict => "Conflict",
-        DropCause::FloorAbove => "FloorAbove",
     }
 }
 

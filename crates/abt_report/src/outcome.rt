@@ -2,9 +2,7 @@
 ghost use Rattle.std.specs.Prelude.{◌≡◌, ◌++◌, OnOk, string_bytes};
 ghost use Rattle.abt_report.specs.OutcomeText.{outcome_text, refused_text, request_text, shape_fault_text, onward_text, back_text};
 
-use crate::names::{
-    ask_fault_name, cause_name, drop_name, heard_name, start_fault_name, verdict_name,
-};
+use crate::names::{ask_fault_name, cause_name, heard_name, start_fault_name, verdict_name};
 use abt_cell::Request;
 use abt_model::Outcome;
 use abt_node::{Back, Onward};
@@ -74,7 +72,7 @@ fn push_onward(text: &mut String, reply: Onward) -> Result<(), AllocError>
     match reply {
         Onward::Pass => text.push_str("passed"),
         Onward::Refuse(_) => text.push_str("refuses"),
-        Onward::Drop(cause) => push_both(text, "dropped ", drop_name(cause)),
+        Onward::Drop(cause) => push_both(text, "dropped ", cause.name()),
     }
 }
 
@@ -83,6 +81,6 @@ fn push_back(text: &mut String, reply: Back) -> Result<(), AllocError>
 {
     match reply {
         Back::Pass => text.push_str("passed"),
-        Back::Drop(cause) => push_both(text, "dropped ", drop_name(cause)),
+        Back::Drop(cause) => push_both(text, "dropped ", cause.name()),
     }
 }

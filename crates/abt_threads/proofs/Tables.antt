@@ -5,7 +5,7 @@ use Rattle.std.proofs.lemmas.Bool.{cases_Bool, cond-true, cond-false}
 use Rattle.abt_net.specs.declared.conn.Conn.{Conn}
 use Rattle.abt_net.specs.Topology.{Topology}
 use Rattle.abt_node.specs.Table.{new_table}
-use Rattle.abt_model.specs.Reserved.{hop_of}
+use Rattle.abt_net.specs.Paths.{hop_of}
 use Rattle.abt_model.specs.PortTable.{port_table}
 use Rattle.abt_world.specs.Opening.{opening_table}
 use Rattle.abt_world.proofs.Openings.{opening_table-is}

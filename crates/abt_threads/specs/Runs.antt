@@ -1,6 +1,6 @@
 -- Runs of a net in threads (docs/RULES.md, "Workers").
-use Rattle.std.specs.Prelude.{◌≡◌, ◌≢◌, ℕ, ◌+◌, ◌<◌, ◌≤◌, List, [], ◌∷◌, length, map, All, slice_index}
-use Rattle.abt_rate.specs.Limits.{workers_max}
+use Rattle.std.specs.Prelude.{◌≡◌, ◌≢◌, ℕ, ◌+◌, ◌<◌, List, [], ◌∷◌, length, map, All, slice_index}
+use Rattle.abt_rate.specs.Limits.{AreWorkers}
 use Rattle.abt_cell.specs.declared.message.Rm.{Rm}
 use Rattle.abt_net.specs.Topology.{Topology}
 use Rattle.abt_net.specs.declared.conn.Conn.{Conn}
@@ -16,7 +16,7 @@ use Rattle.abt_threads.specs.declared.gathered.Gathered.{Gathered}
 
 -- There are link workers, and not too many.
 abbrev pub HasWorkers : ThreadPlan → Type 0
-HasWorkers plan = (1 ≤ plan.workers) × (plan.workers ≤ workers_max)
+HasWorkers plan = AreWorkers plan.workers
 
 -- There is one script for each connection, and no jitter of it is above the connection's tau.
 abbrev pub ScriptsFit : List Conn → List (List Command) → Type 0

@@ -17,4 +17,4 @@ mod workers;
 
 pub use fault::RunFault;
 pub use gathered::Gathered;
-pub use run::{WORKERS_MAX, run_threads};
+pub use run::run_threads;

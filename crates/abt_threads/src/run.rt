@@ -13,14 +13,12 @@ use crate::workers::run_workers;
 use abt_journal::{PortState, Seat};
 use abt_net::Net;
 use abt_ports::{Gate, PortCell, gather};
+use abt_rate::WORKERS_MAX;
 use abt_relay::ThreadPlan;
 use abt_script::Script;
 use std::alloc::{AllocError, Global};
 use std::sync::Wait;
 use std::thread::Threads;
-
-/// The most link workers of a run.
-pub const WORKERS_MAX: u16 = 64;
 
 /// Runs a net in threads of its own: an access worker for each connection, which carries out its script, and link workers, which
 /// carry messages between ports (docs/RULES.md, "Workers"). When all access workers have ended, each link worker is stopped; what

@@ -9,7 +9,7 @@ use Rattle.abt_keep.specs.declared.plan.StorePlan.{StorePlan}
 use Rattle.abt_shaper.specs.declared.fault.ShapeFault.TheVariants.{TimeRange, Zero, TooSoon}
 use Rattle.abt_source.specs.declared.fault.AskFault.TheVariants.{SeqExhausted}
 use Rattle.abt_net.specs.declared.conn.Conn.{Conn}
-use Rattle.abt_net.specs.Topology.{Topology, IsWithinRules}
+use Rattle.abt_net.specs.Topology.{Topology, IsWithinRules, conn_at}
 use Rattle.abt_facts.specs.declared.fact.Fact.{Fact}
 use Rattle.abt_facts.specs.Requests.{floor_of, ask_of}
 use Rattle.abt_facts.specs.Source.{SourceState, Down, Idle, Asking, state_of, rate_of, last_of, clock_of, next_of}
@@ -23,9 +23,8 @@ use Rattle.abt_model.specs.declared.outcome.Outcome.{Outcome}
 use Rattle.abt_model.specs.declared.outcome.Outcome.TheVariants.{AskRefused, Crashed, Emitted, EmitRefused, Repeated, Told as HasTold, NotEnabled}
 use Rattle.abt_rate.specs.Limits.{emit_max, number_max}
 use Rattle.abt_model.specs.Answers.{if_up, start_answer, stored_answer, ask_answer, again_answer, emit_answer, told_answer, answer_by}
-use Rattle.abt_model.specs.Conns.{conn_at}
-use Rattle.abt_model.specs.Decision.{request_of}
 use Rattle.abt_model.specs.Outcomes.{conn_of, outcome_of}
+use Rattle.abt_source.specs.SourceFacts.{request_of}
 use Rattle.abt_model.specs.Past.{facts_of}
 use Rattle.abt_model.proofs.Worlds.{outcome_of-known}
 use Rattle.abt_model.specs.Answers.{start_max}

@@ -7,15 +7,15 @@ use Rattle.std.proofs.lemmas.Option.{slice_get_within, get_or_from_slice_get}
 use Rattle.std.proofs.lemmas.List.{length-append}
 use Rattle.abt_cell.specs.Channel.{Channel}
 use Rattle.abt_net.specs.declared.conn.Conn.{Conn}
-use Rattle.abt_net.specs.Topology.{Topology, IsWithinRules}
+use Rattle.abt_net.specs.Topology.{Topology, IsWithinRules, conn_at}
 use Rattle.abt_facts.specs.declared.fact.Fact.{Fact}
 use Rattle.abt_model.specs.declared.event.Event.{Event}
 use Rattle.abt_model.specs.declared.event.Event.TheVariants.{Arrive, Request, Turn, Answer, Told}
-use Rattle.abt_model.specs.Conns.{conn_at}
 use Rattle.abt_model.specs.Outcomes.{conn_of, outcome_of}
-use Rattle.abt_model.specs.Decision.{request_of, answer_to}
+use Rattle.abt_cell.specs.Message.{answer_to}
+use Rattle.abt_source.specs.SourceFacts.{request_of}
 use Rattle.abt_model.specs.Past.{facts_of}
-use Rattle.abt_model.specs.Reserved.{hop_of}
+use Rattle.abt_net.specs.Paths.{hop_of}
 use Rattle.abt_model.proofs.Served.{conn_within}
 use Rattle.abt_model.proofs.Worlds.{cases_option}
 use Rattle.abt_model.specs.PortTable.{hop_visited}
@@ -29,7 +29,7 @@ use Rattle.abt_weave.proofs.Growth.{entries_other, entries_none, steps_none, ste
 use Rattle.abt_weave.proofs.PortEvents.{visit_is, visit_made, has_reply, reply_enabled, made_beside, some_same}
 use Rattle.abt_weave.proofs.PortLooks.{first_hop}
 use Rattle.abt_weave.proofs.Prefixes.{begins_more, get_whole, get_last, get_more}
-use Rattle.abt_world.proofs.Serving.{hop_at}
+use Rattle.abt_net.proofs.PathLemmas.{hop_at}
 use Rattle.abt_weave.proofs.Replays.{hop_here}
 use Rattle.abt_weave.specs.Comes.{entry_beside}
 

@@ -3,8 +3,9 @@ use Rattle.std.proofs.Common.{◌≡◌, ℕ, ◌-◌, inl, inr, refl, ap, Bool,
 use Rattle.std.specs.Prelude.{◌==◌, ◌&&◌, not, nat_lt, if◌then◌else◌, Ok, slice_index, option_map}
 use Rattle.std.proofs.lemmas.Bool.{false≢true, cond-false, cond-true, cases_eq, ne_eqb}
 use Rattle.abt_cell.specs.Channel.{Channel}
+use Rattle.abt_cell.specs.Message.{answer_to}
 use Rattle.abt_net.specs.declared.conn.Conn.{Conn}
-use Rattle.abt_net.specs.Topology.{Topology}
+use Rattle.abt_net.specs.Topology.{Topology, conn_at}
 use Rattle.abt_facts.specs.declared.fact.Fact.{Fact}
 use Rattle.abt_facts.specs.Requests.{ask_of}
 use Rattle.abt_facts.specs.Sent.{request_is_at, answer_is_at}
@@ -18,9 +19,9 @@ use Rattle.abt_model.specs.declared.outcome.Cause.TheVariants.{NotSent, Unknown,
 use Rattle.abt_model.specs.declared.outcome.Outcome.{Outcome}
 use Rattle.abt_model.specs.declared.outcome.Outcome.TheVariants.{Requested, Answered, Arrived, NotEnabled}
 use Rattle.abt_model.specs.Answers.{is_hop, answer_by, arrive_answer}
-use Rattle.abt_model.specs.Conns.{conn_at}
-use Rattle.abt_model.specs.Decision.{request_of, answer_to, request_decision, answer_decision}
+use Rattle.abt_model.specs.Decision.{request_decision, answer_decision}
 use Rattle.abt_model.specs.Outcomes.{conn_of, port_of, outcome_of}
+use Rattle.abt_source.specs.SourceFacts.{request_of}
 use Rattle.abt_model.specs.Past.{facts_of}
 use Rattle.abt_model.specs.Reserved.{reserved_on}
 use Rattle.abt_model.proofs.Worlds.{outcome_of-known}

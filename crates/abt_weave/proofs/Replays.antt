@@ -9,7 +9,7 @@ use Rattle.abt_node.specs.declared.reply.Onward.{Onward}
 use Rattle.abt_node.specs.declared.reply.Back.{Back}
 use Rattle.abt_node.specs.Table.{Table}
 use Rattle.abt_net.specs.declared.conn.Conn.{Conn}
-use Rattle.abt_net.specs.Topology.{Topology, IsWithinRules}
+use Rattle.abt_net.specs.Topology.{Topology, IsWithinRules, conn_at}
 use Rattle.abt_facts.specs.declared.fact.Fact.{Fact}
 use Rattle.abt_facts.specs.Sent.{request_is_at, answer_is_at}
 use Rattle.abt_facts.specs.Cells.{emitted_of, fence_of, is_in_time, last_arrival_of, verdict_at}
@@ -21,20 +21,21 @@ use Rattle.abt_model.specs.declared.outcome.Cause.TheVariants.{Unknown, NotSent,
 use Rattle.abt_model.specs.declared.outcome.Outcome.{Outcome}
 use Rattle.abt_model.specs.declared.outcome.Outcome.TheVariants.{Requested, Answered, Arrived, NotEnabled}
 use Rattle.abt_model.specs.Answers.{is_hop}
-use Rattle.abt_model.specs.Conns.{conn_at}
-use Rattle.abt_model.specs.Decision.{request_of, answer_to, request_decision, answer_decision}
+use Rattle.abt_model.specs.Decision.{request_decision, answer_decision}
+use Rattle.abt_cell.specs.Message.{answer_to}
+use Rattle.abt_source.specs.SourceFacts.{request_of}
 use Rattle.abt_model.specs.Events.{AsksRate}
 use Rattle.abt_model.specs.Outcomes.{conn_of, port_of, outcome_of, facts_added, after_event}
 use Rattle.abt_model.specs.Past.{facts_of, with_facts}
 use Rattle.abt_model.specs.PortTable.{port_table, hop_visited, Visits}
-use Rattle.abt_model.specs.Reserved.{hop_of, reserved_on}
+use Rattle.abt_model.specs.Reserved.{reserved_on}
+use Rattle.abt_net.specs.Paths.{hop_of}
 use Rattle.abt_model.proofs.Served.{conn_within}
 use Rattle.abt_model.proofs.Serving.{requests_served, answers_served, arrivals_served}
 use Rattle.abt_model.proofs.Steps.{is_hop_tells}
-use Rattle.abt_model.proofs.Sums.{hop_of-port}
+use Rattle.abt_net.proofs.PathLemmas.{hop_of-port, hop_at}
 use Rattle.abt_model.proofs.Tables.{tables_stay}
 use Rattle.abt_model.proofs.Worlds.{AllLawful, nothing_lawful, after_event_lawful, after_event-unknown, outcome_of-known, cases_option, first_asks, others_ask}
-use Rattle.abt_world.proofs.Serving.{hop_at}
 use Rattle.abt_journal.specs.declared.entry.Entry.{Entry}
 use Rattle.abt_journal.specs.declared.input.PortInput.{PortInput}
 use Rattle.abt_journal.specs.declared.input.PortReply.{PortReply}

@@ -5,7 +5,7 @@ use Rattle.std.specs.List.{list_any}
 use Rattle.std.proofs.lemmas.Bool.{false≢true, cases_eq, eq-eqb, eqb-true, or_cases}
 use Rattle.std.proofs.lemmas.List.Folds.{list_any-append}
 use Rattle.abt_cell.specs.Channel.{Channel}
-use Rattle.abt_cell.specs.Message.{Terms, Reply}
+use Rattle.abt_cell.specs.Message.{Terms, Reply, answer_to}
 use Rattle.abt_keep.specs.declared.plan.StorePlan.TheVariants.{FailsAfter}
 use Rattle.abt_node.specs.declared.reply.Onward.{Onward}
 use Rattle.abt_node.specs.declared.reply.Onward.TheVariants.{Pass, Refuse, Drop}
@@ -14,25 +14,24 @@ use Rattle.abt_node.specs.declared.reply.Back.TheVariants.{Pass as PassBack}
 use Rattle.abt_source.specs.declared.fault.AskFault.TheVariants.{Keep}
 use Rattle.abt_gcra.specs.declared.verdict.Verdict.{Verdict}
 use Rattle.abt_net.specs.declared.conn.Conn.{Conn}
-use Rattle.abt_net.specs.Topology.{Topology, IsWithinRules}
+use Rattle.abt_net.specs.Topology.{Topology, IsWithinRules, conn_at}
 use Rattle.abt_facts.specs.declared.fact.Fact.{Fact}
 use Rattle.abt_facts.specs.declared.fact.Fact.TheVariants.{Started as FactStarted, Crashed as FactCrashed, Stored, Asked as FactAsked, Heard as FactHeard, Emitted as FactEmitted, Delivered, Passed, Shut, Turned as FactTurned, Back as FactBack, Arrived as FactArrived}
-use Rattle.abt_facts.specs.Sent.{is_pass_of, is_shut_of, is_back_of, was_passed, was_shut, was_back}
+use Rattle.abt_facts.specs.Sent.{is_sending, was_passed, was_shut, was_back}
 use Rattle.abt_model.specs.declared.connection_fact.ConnectionFact.{ConnectionFact}
 use Rattle.abt_model.specs.declared.event.Event.{Event}
 use Rattle.abt_model.specs.declared.event.Event.TheVariants.{Start, Ask, Crash, Emit, Arrive, Request, Turn, Answer, Told}
 use Rattle.abt_model.specs.declared.outcome.Heard.TheVariants.{Raised, Refused}
 use Rattle.abt_model.specs.declared.outcome.Outcome.{Outcome}
 use Rattle.abt_model.specs.declared.outcome.Outcome.TheVariants.{Started, Asked, AskRefused, Crashed, Emitted, Arrived, Requested, Turned, Answered, Told as HasTold}
-use Rattle.abt_model.specs.Conns.{conn_at}
-use Rattle.abt_model.specs.Decision.{request_of, answer_to}
 use Rattle.abt_model.specs.Outcomes.{conn_of, outcome_of, facts_added, after_event}
+use Rattle.abt_source.specs.SourceFacts.{request_of}
 use Rattle.abt_model.specs.Past.{facts_of}
-use Rattle.abt_model.specs.Reserved.{hop_of}
+use Rattle.abt_net.specs.Paths.{hop_of}
 use Rattle.abt_model.proofs.Served.{conn_within}
 use Rattle.abt_model.proofs.Worlds.{cases_option, facts_of-own, facts_of-other}
 use Rattle.abt_model.specs.PortTable.{hop_visited}
-use Rattle.abt_world.proofs.Serving.{hop_at}
+use Rattle.abt_net.proofs.PathLemmas.{hop_at}
 use Rattle.abt_journal.specs.declared.input.PortInput.{PortInput}
 use Rattle.abt_journal.specs.declared.input.PortInput.TheVariants.{Request as RequestIn, Answer as AnswerIn}
 use Rattle.abt_journal.specs.declared.input.PortReply.{PortReply}
@@ -298,22 +297,22 @@ answer_visit net past c conn event d hop seq granted back known whose is said =
     (ap (input_of conn.vc (facts_of (conn_of event) past)) is) (ap reply_of said)
     ∙ ap (λ e. Some (let w : Visit = record { port = slice_index conn.path (hop_visited e - 1); input = AnswerIn (answer_to (request_of conn.vc (facts_of (conn_of event) past) seq) granted); reply = AnsweredOut back } in w)) is
 
-quiet_passes : (s j : ℕ) → IsHopTest (is_pass_of s j)
+quiet_passes : (s j : ℕ) → IsHopTest (is_sending (Passed s j))
 quiet_passes s j = record { started = λ a b. refl; crashed = refl; stored = λ a. refl; asked = λ a b c d. refl; heard = λ a b. refl; emitted = λ a b c. refl; delivered = λ a. refl; turned = λ a. refl; arrived = λ a b c d. refl }
 
-quiet_shuts : (s j : ℕ) → IsHopTest (is_shut_of s j)
+quiet_shuts : (s j : ℕ) → IsHopTest (is_sending (Shut s j))
 quiet_shuts s j = record { started = λ a b. refl; crashed = refl; stored = λ a. refl; asked = λ a b c d. refl; heard = λ a b. refl; emitted = λ a b c. refl; delivered = λ a. refl; turned = λ a. refl; arrived = λ a b c d. refl }
 
-quiet_backs : (s j : ℕ) → IsHopTest (is_back_of s j)
+quiet_backs : (s j : ℕ) → IsHopTest (is_sending (FactBack s j))
 quiet_backs s j = record { started = λ a b. refl; crashed = refl; stored = λ a. refl; asked = λ a b c d. refl; heard = λ a b. refl; emitted = λ a b c. refl; delivered = λ a. refl; turned = λ a. refl; arrived = λ a b c d. refl }
 
 -- what was passed
-pass_left : (net : Topology) (c : ℕ) (conn : Conn) (s j : ℕ) → IsHopOf net c conn j → IsLeft net c (slice_index conn.path (j - 1)) (is_pass_of s j) (Passing conn.vc s)
+pass_left : (net : Topology) (c : ℕ) (conn : Conn) (s j : ℕ) → IsHopOf net c conn j → IsLeft net c (slice_index conn.path (j - 1)) (is_sending (Passed s j)) (Passing conn.vc s)
 pass_left net c conn s j its = record {
   makes = λ past event whose h.
       (let facts = facts_of c past in
       let outcome = outcome_of net past event in
-      elim (done_by (is_pass_of s j) (quiet_passes s j) facts event outcome h) [
+      elim (done_by (is_sending (Passed s j)) (quiet_passes s j) facts event outcome h) [
         | inl did ↦ (
             let both = and_both (did.seq == s) (did.hop == j) did.passes in (
               _,
@@ -332,22 +331,22 @@ pass_left net c conn s j its = record {
       let said = requested_is (outcome_of net past event) Pass (parts.reply ∙ ap (λ (r : PortReply). Some r) m.4) in
       let hop : its_event.1 ≡ j = ap hop_visited (sym its_event.2) ∙ at.1 in (
         at.0,
-        ap (λ e. list_any (is_pass_of s j) (facts_added (facts_of c past) e (outcome_of net past event))) its_event.2
-            ∙ ap (λ o. list_any (is_pass_of s j) (facts_added (facts_of c past) (Request its_event.0 its_event.1 m.0.seq) o)) said
+        ap (λ e. list_any (is_sending (Passed s j)) (facts_added (facts_of c past) e (outcome_of net past event))) its_event.2
+            ∙ ap (λ o. list_any (is_sending (Passed s j)) (facts_added (facts_of c past) (Request its_event.0 its_event.1 m.0.seq) o)) said
             ∙ first_true (m.0.seq == s && its_event.1 == j) _ (both_true m.0.seq s its_event.1 j m.3 hop),
       ));
 }
 
 pub passed_below : (net : Topology) (c : ℕ) (conn : Conn) (s j : ℕ) → IsHopOf net c conn j → (less more : List Event) → IsBelow net less more → was_passed (facts_of c (past_of net less)) s j ≡ true → was_passed (facts_of c (past_of net more)) s j ≡ true
-passed_below net c conn s j its less more below h = left_below net c (slice_index conn.path (j - 1)) (is_pass_of s j) (Passing conn.vc s) (pass_left net c conn s j its) (port_low net c conn j its) less more below h
+passed_below net c conn s j its less more below h = left_below net c (slice_index conn.path (j - 1)) (is_sending (Passed s j)) (Passing conn.vc s) (pass_left net c conn s j its) (port_low net c conn j its) less more below h
 
 -- what was passed back
-back_left : (net : Topology) (c : ℕ) (conn : Conn) (s j : ℕ) → IsHopOf net c conn j → IsLeft net c (slice_index conn.path (j - 1)) (is_back_of s j) (Answering true conn.vc s)
+back_left : (net : Topology) (c : ℕ) (conn : Conn) (s j : ℕ) → IsHopOf net c conn j → IsLeft net c (slice_index conn.path (j - 1)) (is_sending (FactBack s j)) (Answering true conn.vc s)
 back_left net c conn s j its = record {
   makes = λ past event whose h.
       (let facts = facts_of c past in
       let outcome = outcome_of net past event in
-      elim (done_by (is_back_of s j) (quiet_backs s j) facts event outcome h) [
+      elim (done_by (is_sending (FactBack s j)) (quiet_backs s j) facts event outcome h) [
         | inl did ↦ absurd (false≢true did.passes)
         | inr (inl did) ↦ absurd (false≢true did.passes)
         | inr (inr (inl did)) ↦ (
@@ -366,26 +365,26 @@ back_left net c conn s j its = record {
       let said = answered_is (outcome_of net past event) PassBack (parts.reply ∙ ap (λ (r : PortReply). Some r) m.5) in
       let hop : its_event.1 ≡ j = ap hop_visited (sym its_event.2) ∙ at.1 in (
         at.0,
-        ap (λ e. list_any (is_back_of s j) (facts_added (facts_of c past) e (outcome_of net past event))) its_event.2
-            ∙ ap (λ g. list_any (is_back_of s j) (facts_added (facts_of c past) (Answer its_event.0 its_event.1 m.0.terms.seq g) (outcome_of net past event))) m.4
-            ∙ ap (λ o. list_any (is_back_of s j) (facts_added (facts_of c past) (Answer its_event.0 its_event.1 m.0.terms.seq true) o)) said
+        ap (λ e. list_any (is_sending (FactBack s j)) (facts_added (facts_of c past) e (outcome_of net past event))) its_event.2
+            ∙ ap (λ g. list_any (is_sending (FactBack s j)) (facts_added (facts_of c past) (Answer its_event.0 its_event.1 m.0.terms.seq g) (outcome_of net past event))) m.4
+            ∙ ap (λ o. list_any (is_sending (FactBack s j)) (facts_added (facts_of c past) (Answer its_event.0 its_event.1 m.0.terms.seq true) o)) said
             ∙ first_true (m.0.terms.seq == s && its_event.1 == j) _ (both_true m.0.terms.seq s its_event.1 j m.3 hop),
       ));
 }
 
 pub back_below : (net : Topology) (c : ℕ) (conn : Conn) (s j : ℕ) → IsHopOf net c conn j → (less more : List Event) → IsBelow net less more → was_back (facts_of c (past_of net less)) s j ≡ true → was_back (facts_of c (past_of net more)) s j ≡ true
-back_below net c conn s j its less more below h = left_below net c (slice_index conn.path (j - 1)) (is_back_of s j) (Answering true conn.vc s) (back_left net c conn s j its) (port_low net c conn j its) less more below h
+back_below net c conn s j its less more below h = left_below net c (slice_index conn.path (j - 1)) (is_sending (FactBack s j)) (Answering true conn.vc s) (back_left net c conn s j its) (port_low net c conn j its) less more below h
 
 -- what was shut, by a refusal or by a no
 abbrev pub Shutting : Channel → ℕ → Leaving
 Shutting vc s input reply = Refusing vc s input reply ⊎ Answering false vc s input reply
 
-shut_left : (net : Topology) (c : ℕ) (conn : Conn) (s j : ℕ) → IsHopOf net c conn j → IsLeft net c (slice_index conn.path (j - 1)) (is_shut_of s j) (Shutting conn.vc s)
+shut_left : (net : Topology) (c : ℕ) (conn : Conn) (s j : ℕ) → IsHopOf net c conn j → IsLeft net c (slice_index conn.path (j - 1)) (is_sending (Shut s j)) (Shutting conn.vc s)
 shut_left net c conn s j its = record {
   makes = λ past event whose h.
       (let facts = facts_of c past in
       let outcome = outcome_of net past event in
-      elim (done_by (is_shut_of s j) (quiet_shuts s j) facts event outcome h) [
+      elim (done_by (is_sending (Shut s j)) (quiet_shuts s j) facts event outcome h) [
         | inl did ↦ absurd (false≢true did.passes)
         | inr (inl did) ↦ (
             let both = and_both (did.seq == s) (did.hop == j) did.passes in (
@@ -407,7 +406,7 @@ shut_left net c conn s j its = record {
 }
   where
     shut_adds : (past : List ConnectionFact) (event : Event) (v : Visit) → visit net past event ≡ Some v → v.port ≡ slice_index conn.path (j - 1) → Shutting conn.vc s v.input v.reply →
-        (conn_of event ≡ c) × (list_any (is_shut_of s j) (facts_added (facts_of c past) event (outcome_of net past event)) ≡ true)
+        (conn_of event ≡ c) × (list_any (is_sending (Shut s j)) (facts_added (facts_of c past) event (outcome_of net past event)) ≡ true)
     shut_adds past event v is here (inl m) =
         let parts = visit_is net past event v is in
         let its_event = request_event parts.conn.vc (facts_of (conn_of event) past) event m.0 (parts.input ∙ ap (λ (i : PortInput). Some i) m.2) in
@@ -415,8 +414,8 @@ shut_left net c conn s j its = record {
         let said = requested_is (outcome_of net past event) (Refuse m.1) (parts.reply ∙ ap (λ (r : PortReply). Some r) m.5) in
         let hop : its_event.1 ≡ j = ap hop_visited (sym its_event.2) ∙ at.1 in (
           at.0,
-          ap (λ e. list_any (is_shut_of s j) (facts_added (facts_of c past) e (outcome_of net past event))) its_event.2
-              ∙ ap (λ o. list_any (is_shut_of s j) (facts_added (facts_of c past) (Request its_event.0 its_event.1 m.0.seq) o)) said
+          ap (λ e. list_any (is_sending (Shut s j)) (facts_added (facts_of c past) e (outcome_of net past event))) its_event.2
+              ∙ ap (λ o. list_any (is_sending (Shut s j)) (facts_added (facts_of c past) (Request its_event.0 its_event.1 m.0.seq) o)) said
               ∙ first_true (m.0.seq == s && its_event.1 == j) _ (both_true m.0.seq s its_event.1 j m.4 hop),
         )
     shut_adds past event v is here (inr m) =
@@ -426,11 +425,11 @@ shut_left net c conn s j its = record {
         let said = answered_is (outcome_of net past event) PassBack (parts.reply ∙ ap (λ (r : PortReply). Some r) m.5) in
         let hop : its_event.1 ≡ j = ap hop_visited (sym its_event.2) ∙ at.1 in (
           at.0,
-          ap (λ e. list_any (is_shut_of s j) (facts_added (facts_of c past) e (outcome_of net past event))) its_event.2
-              ∙ ap (λ g. list_any (is_shut_of s j) (facts_added (facts_of c past) (Answer its_event.0 its_event.1 m.0.terms.seq g) (outcome_of net past event))) m.4
-              ∙ ap (λ o. list_any (is_shut_of s j) (facts_added (facts_of c past) (Answer its_event.0 its_event.1 m.0.terms.seq false) o)) said
+          ap (λ e. list_any (is_sending (Shut s j)) (facts_added (facts_of c past) e (outcome_of net past event))) its_event.2
+              ∙ ap (λ g. list_any (is_sending (Shut s j)) (facts_added (facts_of c past) (Answer its_event.0 its_event.1 m.0.terms.seq g) (outcome_of net past event))) m.4
+              ∙ ap (λ o. list_any (is_sending (Shut s j)) (facts_added (facts_of c past) (Answer its_event.0 its_event.1 m.0.terms.seq false) o)) said
               ∙ first_true (m.0.terms.seq == s && its_event.1 == j) _ (both_true m.0.terms.seq s its_event.1 j m.3 hop),
         )
 
 pub shut_below : (net : Topology) (c : ℕ) (conn : Conn) (s j : ℕ) → IsHopOf net c conn j → (less more : List Event) → IsBelow net less more → was_shut (facts_of c (past_of net less)) s j ≡ true → was_shut (facts_of c (past_of net more)) s j ≡ true
-shut_below net c conn s j its less more below h = left_below net c (slice_index conn.path (j - 1)) (is_shut_of s j) (Shutting conn.vc s) (shut_left net c conn s j its) (port_low net c conn j its) less more below h
+shut_below net c conn s j its less more below h = left_below net c (slice_index conn.path (j - 1)) (is_sending (Shut s j)) (Shutting conn.vc s) (shut_left net c conn s j its) (port_low net c conn j its) less more below h

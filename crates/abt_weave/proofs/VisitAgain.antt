@@ -4,10 +4,10 @@ use Rattle.std.specs.Prelude.{◌&&◌, not, nat_lt, nat_le, if◌then◌else◌
 use Rattle.std.proofs.lemmas.Bool.{false≢true, cond-true, cond-false, cases_eq, eq-eqb, ne_eqb}
 use Rattle.std.proofs.lemmas.Option.{slice_get_within}
 use Rattle.abt_cell.specs.Channel.{Channel}
-use Rattle.abt_cell.specs.Message.{Terms}
+use Rattle.abt_cell.specs.Message.{Terms, answer_to}
 use Rattle.abt_gcra.specs.declared.verdict.Verdict.{Verdict}
 use Rattle.abt_net.specs.declared.conn.Conn.{Conn}
-use Rattle.abt_net.specs.Topology.{Topology, IsWithinRules}
+use Rattle.abt_net.specs.Topology.{Topology, IsWithinRules, conn_at}
 use Rattle.abt_node.specs.declared.reply.Onward.{Onward}
 use Rattle.abt_node.specs.Table.{Table}
 use Rattle.abt_facts.specs.declared.fact.Fact.{Fact}
@@ -21,8 +21,7 @@ use Rattle.abt_model.specs.declared.outcome.Cause.TheVariants.{ClockBack, NotSen
 use Rattle.abt_model.specs.declared.outcome.Outcome.{Outcome}
 use Rattle.abt_model.specs.declared.outcome.Outcome.TheVariants.{Requested, Arrived, NotEnabled}
 use Rattle.abt_model.specs.Answers.{arrive_answer, is_hop}
-use Rattle.abt_model.specs.Conns.{conn_at}
-use Rattle.abt_model.specs.Decision.{request_of, answer_to}
+use Rattle.abt_source.specs.SourceFacts.{request_of}
 use Rattle.abt_model.specs.Events.{AsksRate}
 use Rattle.abt_model.specs.Outcomes.{conn_of, outcome_of}
 use Rattle.abt_model.specs.Past.{facts_of}

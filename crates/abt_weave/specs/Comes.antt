@@ -3,11 +3,10 @@ use Rattle.std.specs.Prelude.{◌≡◌, ℕ, ◌+◌, ◌-◌, ◌<◌, true, L
 use Rattle.abt_cell.specs.Channel.{Channel}
 use Rattle.abt_cell.specs.Message.{Terms}
 use Rattle.abt_net.specs.declared.conn.Conn.{Conn}
-use Rattle.abt_net.specs.Topology.{Topology, IsWithinRules}
+use Rattle.abt_net.specs.Topology.{Topology, IsWithinRules, conn_at}
 use Rattle.abt_model.specs.declared.event.Event.{Event}
 use Rattle.abt_model.specs.declared.event.Event.TheVariants.{Turn, Answer}
 use Rattle.abt_model.specs.Answers.{is_hop}
-use Rattle.abt_model.specs.Conns.{conn_at}
 use Rattle.abt_model.specs.declared.target.Target.{Target}
 use Rattle.abt_model.specs.declared.target.Target.TheVariants.{Hop}
 use Rattle.abt_model.specs.Outcomes.{conn_of}

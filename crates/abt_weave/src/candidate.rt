@@ -28,11 +28,10 @@ pub(crate) fn stop_of(net: &Net, vc: Vc, port: u16) -> Option<Stop>
     ensures only { (c hop : ℕ) → IsStop net.now vc port c hop → result ≡ Some (record { conn = c; hop = hop }) }
 {
     let conn = net.find(vc)?;
-    let path = net.conns()[usize::from(conn)].path.as_slice();
-    let place = path.iter().position(|passed| *passed == port)?;
+    let hop = net.conns()[usize::from(conn)].path.hop_of(port)?;
     Some(Stop {
         conn,
-        hop: (place + 1) as u16,
+        hop: hop as u16,
     })
 }
 

@@ -1,14 +1,14 @@
 -- A port that is given the connections of a net one by one knows none of them before, and has room for each.
-use Rattle.std.proofs.Common.{◌≡◌, ◌≢◌, ℕ, suc, ◌<◌, ◌≤◌, List, [], ◌∷◌, length, inl, inr, sym, ap, subst, ◌∙◌, arith}
-use Rattle.std.specs.Prelude.{◌==◌, Some, None, slice_index_or, if◌then◌else◌, AllPairs}
+use Rattle.std.proofs.Common.{◌≡◌, ◌≢◌, ℕ, suc, ◌<◌, ◌≤◌, List, [], ◌∷◌, length, inl, inr, sym, ◌∙◌, arith}
+use Rattle.std.specs.Prelude.{Option, Some, None, slice_index_or, AllPairs}
 use Rattle.std.specs.FinMap as map
 use Rattle.std.proofs.lemmas.Bool.{cases_Bool, cond-true, cond-false}
 use Rattle.abt_cell.specs.Channel.{Channel, channel_cmp, same_channel}
 use Rattle.abt_cell.proofs.ChannelLemmas.{channel_cmp_total, same_channel_tied, same_channel-is}
 use Rattle.abt_net.specs.declared.conn.Conn.{Conn}
 use Rattle.abt_node.specs.Table.{Table, Connection, connection_at, with_connection, opening}
-use Rattle.abt_model.specs.Reserved.{hop_of}
-use Rattle.abt_world.specs.Opening.{joined, opening_table}
+use Rattle.abt_net.specs.Paths.{policer_at}
+use Rattle.abt_world.specs.Opening.{joined_with, joined, opening_table}
 
 -- another connection stays unknown
 inserted_other : (table : Table) (vc other : Channel) (kept : Connection) → vc ≢ other → connection_at table other ≡ None →
@@ -22,11 +22,11 @@ inserted_other table vc other kept differ none =
 
 joined_other : (table : Table) (conn : Conn) (other : Channel) → conn.vc ≢ other → connection_at table other ≡ None →
     connection_at (joined table conn) other ≡ None
-joined_other table conn other differ none = elim (cases_Bool (hop_of conn.path table.id == 0)) [
-  | inl away ↦ ap (λ (t : Table). connection_at t other) (cond-true _ _ _ away) ∙ none
-  | inr through ↦ ap (λ (t : Table). connection_at t other) (cond-false _ _ _ through)
-      ∙ inserted_other table conn.vc other (opening (if hop_of conn.path table.id == 1 then Some conn.tau else None)) differ none
-]
+joined_other table conn other differ none = joined_with_other (policer_at conn table.id)
+  where
+    joined_with_other : (policer : Option (Option ℕ)) → connection_at (joined_with table conn.vc policer) other ≡ None
+    joined_with_other None = none
+    joined_with_other (Some tau) = inserted_other table conn.vc other (opening tau) differ none
 
 -- a connection that is none of these isn't known
 pub opening_unknown : (id capacity : ℕ) (conns : List Conn) (other : Channel) →
@@ -44,17 +44,18 @@ inserted_len table vc kept n few = elim (cases_Bool (map.contains_key table.conn
   | inr new ↦ let e = map.len-insert channel_cmp_total table.connections vc kept ∙ cond-false _ _ _ new in omega arith
 ]
 
+joined_few : (table : Table) (vc : Channel) (policer : Option (Option ℕ)) (n : ℕ) → map.len table.connections ≤ n →
+    map.len (joined_with table vc policer).connections ≤ suc n
+joined_few table vc None n few = omega arith
+joined_few table vc (Some tau) n few = inserted_len table vc (opening tau) n few
+
 -- there are no more than were given
 pub opening_few : (id capacity : ℕ) (conns : List Conn) → map.len (opening_table id capacity conns).connections ≤ length conns
 opening_few id capacity [] = omega (arith, map.len-empty channel_cmp Connection)
 opening_few id capacity (conn ∷ conns) =
     let table = opening_table id capacity conns in
     let few = opening_few id capacity conns in
-    elim (cases_Bool (hop_of conn.path table.id == 0)) [
-      | inl away ↦ subst (λ (t : Table). map.len t.connections ≤ length (conn ∷ conns)) (sym (cond-true _ _ _ away)) (omega arith)
-      | inr through ↦ subst (λ (t : Table). map.len t.connections ≤ length (conn ∷ conns)) (sym (cond-false _ _ _ through))
-          (inserted_len table conn.vc (opening (if hop_of conn.path table.id == 1 then Some conn.tau else None)) (length conns) few)
-    ]
+    joined_few table conn.vc (policer_at conn table.id) (length conns) few
 
 -- the first of a net's connections isn't among the others, and the others' channels differ too
 abbrev pub OwnChannels : List Conn → Type 0

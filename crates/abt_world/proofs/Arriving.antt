@@ -21,7 +21,7 @@ use Rattle.abt_model.specs.PortTable.{port_table, kept_at}
 use Rattle.abt_model.proofs.Lawful.{route_of}
 use Rattle.abt_model.proofs.Steps.{is_hop_tells}
 use Rattle.abt_model.proofs.Worlds.{lawful_at}
-use Rattle.abt_model.proofs.Reservations.{held_by-held}
+use Rattle.abt_model.proofs.Decisions.{held_by-held}
 use Rattle.abt_model.proofs.Served.{conn_within}
 use Rattle.abt_model.proofs.Tables.{tables_have_rows, tables_stay}
 use Rattle.abt_model.proofs.Serving.{arrivals_served}
@@ -67,7 +67,7 @@ rate_there net past c conn facts hop port ports table is are has low table_at =
     let tells = port_tells conn.path hop port has in
     let at_hop = at_its_hop net past c conn facts hop port is tells.0 tells.1 in
     let low_hop = (is_hop_tells (length conn.path) hop tells.0).0 in
-    let some : Rattle.abt_model.specs.Reserved.hop_of conn.path port ≢ 0 = λ none. omega arith in
+    let some : Rattle.abt_net.specs.Paths.hop_of conn.path port ≢ 0 = λ none. omega arith in
     let table_is : table ≡ port_table net past port = (let e = sym table_at ∙ port_has net past ports port are low in cc) in
     let row = tables_have_rows net past is.rules c port conn is.known some in
     let lawful = lawful_at net past (all_lawful net past c conn facts is) c conn is.known in

@@ -14,11 +14,10 @@ use Rattle.abt_log.specs.Index.{Index, index_of}
 use Rattle.abt_log.specs.Kept.{conforms_if_arrived}
 use Rattle.abt_log.proofs.Indexed.{conform_is}
 use Rattle.abt_net.specs.declared.conn.Conn.{Conn}
-use Rattle.abt_net.specs.Topology.{Topology, IsWithinRules}
+use Rattle.abt_net.specs.Topology.{Topology, IsWithinRules, conn_at}
 use Rattle.abt_node.specs.Table.{Table, sum_of, held_at, connection_at}
 use Rattle.abt_model.specs.declared.event.Event.{Event}
 use Rattle.abt_model.specs.Answers.{is_hop}
-use Rattle.abt_model.specs.Conns.{conn_at}
 use Rattle.abt_model.specs.Past.{facts_of}
 use Rattle.abt_model.specs.PortTable.{port_table}
 use Rattle.abt_model.specs.Reserved.{reserved_on}

@@ -5,10 +5,9 @@ use Rattle.std.specs.List.{zip, list_all}
 use Rattle.std.proofs.lemmas.Bool.{and_parts}
 use Rattle.abt_cell.specs.Channel.{Channel}
 use Rattle.abt_net.specs.declared.conn.Conn.{Conn}
-use Rattle.abt_net.specs.Topology.{Topology}
+use Rattle.abt_net.specs.Topology.{Topology, conn_at}
 use Rattle.abt_node.specs.Table.{Table}
 use Rattle.abt_model.specs.declared.event.Event.{Event}
-use Rattle.abt_model.specs.Conns.{conn_at}
 use Rattle.abt_safety.specs.Holding.{held_by_port, is_held_along, looked_at}
 use Rattle.abt_world.specs.declared.course.Course.{Course}
 use Rattle.abt_world.proofs.Final.{AreOfPast, rates_pass}

@@ -6,9 +6,9 @@ use Rattle.std.proofs.lemmas.Bool.{cases_Bool, cond-true, cond-false}
 use Rattle.abt_net.specs.declared.conn.Conn.{Conn}
 use Rattle.abt_net.specs.Topology.{Topology}
 use Rattle.abt_node.specs.Table.{Table, opening, with_connection}
-use Rattle.abt_model.specs.Reserved.{hop_of}
+use Rattle.abt_net.specs.Paths.{hop_of}
 use Rattle.abt_model.specs.PortTable.{policing_by, kept_at, kept_from, port_table}
-use Rattle.abt_world.specs.Opening.{joined, opening_table}
+use Rattle.abt_world.specs.Opening.{joined_with, joined, opening_table}
 
 -- a connection before its first request
 first_kept : (conn : Conn) (hop : ℕ) → opening (if hop == 1 then Some conn.tau else None) ≡ kept_at conn [] hop
@@ -25,8 +25,8 @@ opened id capacity c [] = refl
 opened id capacity c (conn ∷ conns) =
     let rest = opened id capacity (c + 1) conns in
     ap (λ t. joined t conn) rest ∙ elim (cases_Bool (hop_of conn.path id == 0)) [
-      | inl away ↦ cond-true _ _ _ away ∙ sym (ap (λ es. record { id = id; capacity = capacity; connections = from_entries es }) (cond-true _ _ _ away))
-      | inr through ↦ cond-false _ _ _ through
+      | inl away ↦ ap (joined_with (table_from id capacity (c + 1) conns) conn.vc) (cond-true _ _ _ away) ∙ sym (ap (λ es. record { id = id; capacity = capacity; connections = from_entries es }) (cond-true _ _ _ away))
+      | inr through ↦ ap (joined_with (table_from id capacity (c + 1) conns) conn.vc) (cond-false _ _ _ through)
           ∙ ap (with_connection (table_from id capacity (c + 1) conns) conn.vc) (first_kept conn (hop_of conn.path id))
           ∙ sym (ap (λ es. record { id = id; capacity = capacity; connections = from_entries es }) (cond-false _ _ _ through))
     ]

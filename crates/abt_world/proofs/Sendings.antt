@@ -15,7 +15,8 @@ use Rattle.abt_model.specs.declared.connection_fact.ConnectionFact.{ConnectionFa
 use Rattle.abt_model.specs.declared.event.Event.{Event}
 use Rattle.abt_model.specs.declared.outcome.Outcome.{Outcome}
 use Rattle.abt_model.specs.declared.outcome.Heard.TheVariants.{Ignored}
-use Rattle.abt_model.specs.Decision.{request_of, answer_to}
+use Rattle.abt_cell.specs.Message.{answer_to}
+use Rattle.abt_source.specs.SourceFacts.{request_of}
 use Rattle.abt_model.specs.Answers.{answer_by, told_answer, hearing}
 use Rattle.abt_model.specs.Outcomes.{conn_of, port_of, outcome_of, facts_added}
 use Rattle.abt_model.specs.Reserved.{reserved_on}

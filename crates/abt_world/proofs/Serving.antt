@@ -1,18 +1,18 @@
 -- A port that serves what an event brings keeps all tables those of the facts.
 use Rattle.std.proofs.Common.{◌≡◌, ◌≢◌, ℕ, zero, suc, ◌+◌, ◌-◌, ◌≤◌, ◌<◌, Bool, true, false, List, [], ◌∷◌, inl, inr, refl, sym, subst, ap, ◌∙◌, arith, length}
-use Rattle.std.specs.Prelude.{Some, None, option_map, slice_get, slice_set, slice_index, if◌then◌else◌, not, AllPairs}
-use Rattle.std.proofs.lemmas.Bool.{cond-true, cond-false, cases_Bool, cases_eq, eq-eqb, ne_eqb}
+use Rattle.std.specs.Prelude.{Some, None, option_map, slice_get, slice_set, slice_index, if◌then◌else◌, not}
+use Rattle.std.proofs.lemmas.Bool.{cond-true, cond-false, cases_Bool, cases_eq}
 use Rattle.std.proofs.lemmas.Option.{slice_get_within, slice_get-get_or}
 use Rattle.abt_net.specs.declared.conn.Conn.{Conn}
-use Rattle.abt_net.specs.Topology.{Topology}
+use Rattle.abt_net.specs.Topology.{Topology, conn_at}
 use Rattle.abt_node.specs.Table.{Table}
 use Rattle.abt_facts.specs.declared.fact.Fact.{Fact}
 use Rattle.abt_model.specs.declared.connection_fact.ConnectionFact.{ConnectionFact}
 use Rattle.abt_model.specs.declared.event.Event.{Event}
-use Rattle.abt_model.specs.Reserved.{hop_of}
+use Rattle.abt_net.specs.Paths.{hop_of}
 use Rattle.abt_model.specs.Outcomes.{after_event}
 use Rattle.abt_model.specs.PortTable.{port_table}
-use Rattle.abt_cell.specs.Message.{Terms, Reply}
+use Rattle.abt_cell.specs.Message.{Terms, Reply, answer_to}
 use Rattle.abt_node.specs.Table.{reply_to, table_after, answer_to as port_answer, table_after_answer}
 use Rattle.abt_node.specs.declared.reply.Onward.{Onward}
 use Rattle.abt_node.specs.declared.reply.Back.{Back}
@@ -20,16 +20,16 @@ use Rattle.abt_facts.specs.Sent.{request_is_at, answer_is_at}
 use Rattle.abt_model.specs.declared.event.Event.TheVariants.{Request, Answer}
 use Rattle.abt_model.specs.declared.outcome.Cause.TheVariants.{NotSent, Unknown}
 use Rattle.abt_model.specs.declared.outcome.Outcome.TheVariants.{Requested, Answered, NotEnabled}
-use Rattle.abt_model.specs.Conns.{conn_at}
 use Rattle.abt_model.specs.Past.{facts_of, with_facts}
 use Rattle.abt_model.specs.Reserved.{reserved_on}
-use Rattle.abt_model.specs.Decision.{request_of, answer_to, request_decision, answer_decision}
+use Rattle.abt_model.specs.Decision.{request_decision, answer_decision}
+use Rattle.abt_source.specs.SourceFacts.{request_of}
 use Rattle.abt_model.specs.Answers.{is_hop}
 use Rattle.abt_model.specs.Outcomes.{conn_of, port_of, outcome_of, facts_added, request_adds, answer_adds}
 use Rattle.abt_model.specs.PortTable.{hop_visited, Visits}
 use Rattle.abt_model.proofs.Worlds.{cases_option}
 use Rattle.abt_model.proofs.Steps.{is_hop_tells}
-use Rattle.abt_model.proofs.Sums.{hop_of-port}
+use Rattle.abt_net.proofs.PathLemmas.{hop_of-port, hop_at}
 use Rattle.abt_model.proofs.Tables.{tables_stay}
 use Rattle.abt_model.proofs.Serving.{requests_served, answers_served}
 use Rattle.abt_model.proofs.Served.{conn_within}
@@ -48,18 +48,6 @@ set_other (x ∷ xs) zero zero y differ = absurd (differ refl)
 set_other (x ∷ xs) zero (suc j) y differ = refl
 set_other (x ∷ xs) (suc i) zero y differ = refl
 set_other (x ∷ xs) (suc i) (suc j) y differ = set_other xs i j y (λ same. differ (ap suc same))
-
--- the hop of a port that a path visits once
-pub hop_at : (path : List ℕ) (j : ℕ) → AllPairs (λ p q. p ≢ q) path → j < length path → hop_of path (slice_index path j) ≡ j + 1
-hop_at [] j once low = absurd (omega arith)
-hop_at (q ∷ path) zero once low = cond-true _ _ _ (eq-eqb q q refl)
-hop_at (q ∷ path) (suc j) once low =
-    let others : AllPairs (λ p q. p ≢ q) path = λ i k d less within. once (suc i) (suc k) d (omega arith) (omega arith) in
-    let rest = hop_at path j others (omega arith) in
-    let apart : q ≢ slice_index path j = once 0 (suc j) 0 (omega arith) (omega arith) in
-    let some : hop_of path (slice_index path j) ≢ 0 = λ none. omega arith in
-    let more : suc j + 1 ≡ (j + 1) + 1 = omega arith in
-    cond-false _ _ _ (ne_eqb _ _ apart) ∙ cond-false _ _ _ (ne_eqb _ _ some) ∙ ap (λ h. h + 1) rest ∙ sym more
 
 -- a port of the net
 pub port_has : (net : Topology) (past : List ConnectionFact) (ports : List Table) (p : ℕ) → ArePorts net past ports → p < length ports →

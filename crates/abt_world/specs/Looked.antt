@@ -1,7 +1,7 @@
 -- How many entries of its own maps and lists a world looks up for an event.
 use Rattle.std.specs.Prelude.{ℕ, ◌+◌, ◌*◌, List, length, Option, None, Some, is_some, nat_lt, Bool, true, false}
 use Rattle.abt_net.specs.declared.conn.Conn.{Conn}
-use Rattle.abt_net.specs.Topology.{Topology}
+use Rattle.abt_net.specs.Topology.{Topology, conn_at}
 use Rattle.abt_facts.specs.declared.fact.Fact.{Fact}
 use Rattle.abt_log.specs.Index.{is_of_message}
 use Rattle.abt_safety.specs.Tallies.{one_if, count_of}
@@ -12,7 +12,6 @@ use Rattle.abt_model.specs.declared.outcome.Cause.{Cause}
 use Rattle.abt_model.specs.declared.outcome.Cause.TheVariants.{NotSent, Fenced}
 use Rattle.abt_model.specs.declared.outcome.Outcome.{Outcome}
 use Rattle.abt_model.specs.declared.outcome.Outcome.TheVariants.{Requested, Answered, Told as HasTold, NotEnabled}
-use Rattle.abt_model.specs.Conns.{conn_at}
 use Rattle.abt_model.specs.Outcomes.{conn_of, outcome_of, facts_added}
 use Rattle.abt_model.specs.Past.{facts_of}
 use Rattle.abt_world.specs.Touches.{visited}

@@ -1,12 +1,11 @@
 -- What can be read off a net after a past.
 use Rattle.std.specs.Prelude.{ℕ, List, length, Option, None, Some, option_map, option_and_then, slice_get, if◌then◌else◌}
 use Rattle.abt_net.specs.declared.conn.Conn.{Conn}
-use Rattle.abt_net.specs.Topology.{Topology}
+use Rattle.abt_net.specs.Topology.{Topology, conn_at}
 use Rattle.abt_facts.specs.Source.{rate_of}
 use Rattle.abt_facts.specs.Hop.{held_of}
 use Rattle.abt_model.specs.declared.connection_fact.ConnectionFact.{ConnectionFact}
 use Rattle.abt_model.specs.Answers.{is_hop}
-use Rattle.abt_model.specs.Conns.{conn_at}
 use Rattle.abt_model.specs.Past.{facts_of}
 use Rattle.abt_model.specs.Reserved.{reserved_on}
 

@@ -2,7 +2,7 @@
 use Rattle.std.specs.Prelude.{◌≡◌, ℕ, ◌≤◌, true, Some, slice_get}
 use Rattle.abt_net.specs.declared.conn.Conn.{Conn}
 use Rattle.abt_node.specs.Table.{Table, sum_of}
-use Rattle.abt_model.specs.Conns.{conn_at}
+use Rattle.abt_net.specs.Topology.{conn_at}
 use Rattle.abt_safety.specs.Holding.{held_by_port}
 use Rattle.abt_world.specs.Courses.{CourseView}
 use Rattle.abt_world.specs.Standing.{WorldView}

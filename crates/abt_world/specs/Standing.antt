@@ -1,11 +1,10 @@
 -- What a world stands for.
 use Rattle.std.specs.Prelude.{◌≡◌, ℕ, List, All, slice_get, option_map}
 use Rattle.abt_net.specs.declared.conn.Conn.{Conn}
-use Rattle.abt_net.specs.Topology.{Topology}
+use Rattle.abt_net.specs.Topology.{Topology, conn_at}
 use Rattle.abt_node.specs.Table.{Table}
 use Rattle.abt_model.specs.declared.connection_fact.ConnectionFact.{ConnectionFact}
 use Rattle.abt_model.specs.declared.event.Event.{Event}
-use Rattle.abt_model.specs.Conns.{conn_at}
 use Rattle.abt_model.specs.Events.{AsksRate}
 use Rattle.abt_model.specs.Past.{facts_of}
 use Rattle.abt_model.specs.Run.{facts_after}

@@ -1,7 +1,7 @@
 -- One event at one connection, as the code takes it apart.
 use Rattle.std.specs.Prelude.{◌≡◌, ℕ, ◌-◌, not, nat_lt, List, All, Option, None, Some, slice_get, slice_index, option_map, length, if◌then◌else◌}
 use Rattle.abt_net.specs.declared.conn.Conn.{Conn}
-use Rattle.abt_net.specs.Topology.{Topology, IsWithinRules}
+use Rattle.abt_net.specs.Topology.{Topology, IsWithinRules, conn_at}
 use Rattle.abt_node.specs.Table.{Table}
 use Rattle.abt_facts.specs.declared.fact.Fact.{Fact}
 use Rattle.abt_model.specs.declared.connection_fact.ConnectionFact.{ConnectionFact}
@@ -12,7 +12,6 @@ use Rattle.abt_model.specs.declared.outcome.Cause.{Cause}
 use Rattle.abt_model.specs.declared.outcome.Cause.TheVariants.{NotSent, Fenced, Delay, ClockBack}
 use Rattle.abt_model.specs.declared.outcome.Outcome.TheVariants.{NotEnabled}
 use Rattle.abt_model.specs.Answers.{is_hop}
-use Rattle.abt_model.specs.Conns.{conn_at}
 use Rattle.abt_model.specs.Events.{AsksRate}
 use Rattle.abt_model.specs.Past.{facts_of}
 use Rattle.abt_log.specs.Index.{Index, index_of}

@@ -9,7 +9,7 @@ ghost use Rattle.abt_actor.specs.Facts.{facts_in};
 ghost use Rattle.abt_log.specs.Log.{IsLogOf};
 ghost use Rattle.abt_model.specs.declared.connection_fact.ConnectionFact.{ConnectionFact};
 ghost use Rattle.abt_model.specs.declared.event.Event.TheVariants.{Turn, Told};
-ghost use Rattle.abt_model.specs.Decision as decision;
+ghost use Rattle.abt_source.specs.SourceFacts as source_facts;
 ghost use Rattle.abt_net.specs.Topology.{Topology};
 ghost use Rattle.abt_world.specs.Looked.{looks_to_take};
 ghost use Rattle.abt_world.specs.Steps.{IsConnAt, Happens};
@@ -24,7 +24,7 @@ use abt_net::Conn;
 // The request of a number, if it was asked.
 pub(crate) fn request_of(conn: &Conn, log: &Log, seq: u32, looks: &mut Looks) -> Option<Request>
     ensures value { (facts : List FactSpec) → IsLogOf facts log.now →
-        IfSome result (λ request. request ≡ decision.request_of conn.now.vc facts seq) }
+        IfSome result (λ request. request ≡ source_facts.request_of conn.now.vc facts seq) }
     ensures vc { IfSome result (λ request. request.vc ≡ conn.now.vc) }
     ensures some { (facts : List FactSpec) → IsLogOf facts log.now → (was_asked facts seq ≡ true) → 1 ≤ seq →
         floor_of facts seq ≤ ask_of facts seq → IsSome result }

@@ -4,29 +4,11 @@ ghost use Rattle.abt_rate.specs.Limits.{capacity_max, net_connections_max, port_
 ghost use Rattle.std.specs.FinMap as map;
 ghost use Rattle.abt_node.specs.Table.{connection_at};
 ghost use Rattle.abt_model.specs.PortTable.{port_table};
-ghost use Rattle.abt_model.specs.Reserved as reserved;
 ghost use Rattle.abt_world.specs.Opening as opening;
 
 use abt_net::{Conn, Net};
 use abt_node::{AddFault, Port};
 use std::alloc::{AllocError, Global};
-
-// The hop of a path, from 1, at which a port lies, and 0 where it lies at none.
-fn hop_of(path: &[u16], port: u16) -> usize
-    ensures value { result ≡ reserved.hop_of path.now port }
-    ensures within { result ≤ length path.now }
-{
-    let Some((first, rest)) = path.split_first() else {
-        return 0;
-    };
-    if *first == port {
-        return 1;
-    }
-    match hop_of(rest, port) {
-        0 => 0,
-        hop => hop + 1,
-    }
-}
 
 // Adds a connection to a port that its path goes through. The port doesn't know it and has room for it, so that it is
 // refused for want of memory alone.
@@ -36,11 +18,9 @@ fn join(port: &mut Port, conn: &Conn) -> Result<(), AllocError>
     requires room { map.len port.old.connections < port_connections_max }
     ensures { OnOk result (port.new ≡ opening.joined port.old conn.now) }
 {
-    let hop = hop_of(conn.path.as_slice(), port.id());
-    if hop == 0 {
+    let Some(tau) = conn.policer_at(port.id()) else {
         return Ok(());
-    }
-    let tau = if hop == 1 { Some(conn.tau) } else { None };
+    };
     match port.add(conn.vc, tau) {
         Ok(()) => Ok(()),
         Err(AddFault::Memory) => Err(AllocError),

@@ -1,9 +1,7 @@
 ghost use Rattle.std.specs.Prelude.{◌≤◌};
 
-use abt_gcra::{
-    Bucket, Gcra, GcraFault, PoliceFault, Policer, SPACING_MAX, TAU_MAX, Verdict, police,
-};
-use abt_rate::Rate;
+use abt_gcra::{Bucket, Gcra, GcraFault, PoliceFault, Policer, SPACING_MAX, Verdict, police};
+use abt_rate::{Rate, TAU_MAX};
 use std::process::Abort;
 use std::test::Fail;
 

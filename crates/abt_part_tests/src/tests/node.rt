@@ -5,10 +5,10 @@ ghost use Rattle.std.specs.Option.{ForSome};
 
 use super::channel;
 use abt_cell::{Answer, Request, Vc};
-use abt_gcra::{TAU_MAX, Verdict};
+use abt_gcra::Verdict;
 use abt_ledger::Ledger;
 use abt_node::{AddFault, ArriveFault, Back, Decided, DropCause, Grant, Onward, Port};
-use abt_rate::Rate;
+use abt_rate::{Rate, TAU_MAX};
 use std::alloc::Global;
 use std::process::Abort;
 use std::test::Fail;

@@ -4,11 +4,10 @@ ghost use Rattle.std.specs.Option.{ForSome};
 ghost use Rattle.abt_journal.specs.Opening.{IsOpening};
 
 use abt_cell::{Request, Vc};
-use abt_gcra::TAU_MAX;
 use abt_journal::PortState;
 use abt_net::{Conn, Net, Path};
-use abt_node::{CAPACITY_MAX, Port};
-use abt_rate::Rate;
+use abt_node::Port;
+use abt_rate::{CAPACITY_MAX, Rate, TAU_MAX};
 use std::alloc::Global;
 use std::fmt::Display;
 use std::process::Abort;

@@ -1,12 +1,11 @@
 //! Whether a state began as a port of a net.
-ghost use Rattle.std.specs.Prelude.{◌≡◌, ◌<◌, ◌↔◌, ◌⊎◌, ◌==◌, [], ℕ, IsTrue, IfNone, IfSome, Option, None, Some, if◌then◌else◌, length};
+ghost use Rattle.std.specs.Prelude.{◌≡◌, ◌<◌, ◌↔◌, ◌⊎◌, ◌==◌, [], ℕ, IsTrue, IfNone, IfSome, Option, None, Some, length};
 ghost use Rattle.abt_model.specs.PortTable.{port_table};
-ghost use Rattle.abt_model.specs.Reserved.{hop_of};
 ghost use Rattle.abt_net.specs.Topology.{IsWithinRules};
-ghost use Rattle.abt_ports.specs.Foreign.{IsPortOf, AreOfNet, IsFirstForeign, policer_at};
+ghost use Rattle.abt_ports.specs.Foreign.{IsPortOf, AreOfNet, IsFirstForeign};
 
 use abt_journal::PortState;
-use abt_net::{Conn, Net};
+use abt_net::Net;
 
 // The lowest place where a state is missing, is one too many, or isn't the net's port.
 pub(super) fn first_foreign(net: &Net, states: &[PortState]) -> Option<u16>
@@ -41,7 +40,7 @@ fn has_connections(net: &Net, port: u16, state: &PortState) -> bool
 {
     let mut through = 0;
     for conn in net.conns() {
-        let Some(tau) = policer_at(conn, port) else {
+        let Some(tau) = conn.policer_at(port) else {
             continue;
         };
         if state.tau(conn.vc) != Some(tau) {
@@ -50,19 +49,4 @@ fn has_connections(net: &Net, port: u16, state: &PortState) -> bool
         through += 1;
     }
     through == state.count()
-}
-
-// The tolerance of the connection's policer at a port of its path, if the port is its first.
-fn policer_at(conn: &Conn, port: u16) -> Option<Option<u64>>
-    ensures { result ≡ policer_at conn.now port }
-{
-    let ports = conn.path.as_slice();
-    if !ports.contains(&port) {
-        return None;
-    }
-    Some(if ports[0] == port {
-        Some(conn.tau)
-    } else {
-        None
-    })
 }

@@ -2,7 +2,8 @@
 ghost use Rattle.std.specs.Prelude.{◌≡◌, ◌<◌, ◌≤◌, All, IfOk};
 
 use super::judged;
-use abt_gcra::{Bucket, Gcra, SPACING_MAX, TAU_MAX, Verdict, police};
+use abt_gcra::{Bucket, Gcra, SPACING_MAX, Verdict, police};
+use abt_rate::TAU_MAX;
 use std::alloc::{AllocError, Global};
 use std::process::Abort;
 use std::test::Fail;

@@ -16,7 +16,7 @@ returns-in_err-put-3-clause-err g c =
     let woven = rw c.as_slice.ensures.value at c.in_ok-events.ensures.ok in
     let judged = c.in_ok-judged.judged in
     let is = is_judged ran.net ran.gathered c.in_ok-events.events judged woven c.in_ok-judged.ensures in
-    let shows = cut_verdict ran judged _ _ _ _ _ is (c.as_bytes.ensures.value ∙ c.verdict_line.ensures) c.in_ok-put.ensures.ok c.in_ok-put-2.ensures.ok c.in_err-put-3.ensures.err in
+    let shows = cut_verdict ran judged _ _ _ _ _ is (c.as_bytes.ensures.value ∙ c.safe_line.ensures) c.in_ok-put.ensures.ok c.in_ok-put-2.ensures.ok c.in_err-put-3.ensures.err in
     if_err-from c.from_residual-in_err-put-3.result _ _ (λ fault is. rw is shows) c.from_residual-in_err-put-3.ensures.1
 
 pub returns-clause-ok : goal.returns-clause-ok
@@ -25,4 +25,4 @@ returns-clause-ok g c =
     let woven = rw c.as_slice.ensures.value at c.in_ok-events.ensures.ok in
     let judged = c.in_ok-judged.judged in
     let is = is_judged ran.net ran.gathered c.in_ok-events.events judged woven c.in_ok-judged.ensures in
-    all_lines ran judged _ _ _ _ _ is (c.as_bytes.ensures.value ∙ c.verdict_line.ensures) c.in_ok-put.ensures.ok c.in_ok-put-2.ensures.ok c.in_ok-put-3.ensures.ok
+    all_lines ran judged _ _ _ _ _ is (c.as_bytes.ensures.value ∙ c.safe_line.ensures) c.in_ok-put.ensures.ok c.in_ok-put-2.ensures.ok c.in_ok-put-3.ensures.ok

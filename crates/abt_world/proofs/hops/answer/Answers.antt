@@ -2,11 +2,10 @@ use Rattle.std.proofs.Common.{◌≡◌, ℕ, ◌+◌, ◌<◌, Bool, true, fals
 use Rattle.std.specs.Prelude.{Some, nat_lt}
 use Rattle.std.proofs.lemmas.Bool.{false≢true, and_parts}
 use Rattle.std.proofs.lemmas.Option.{slice_get-get_or}
-use Rattle.abt_cell.specs.Message.{Terms}
+use Rattle.abt_cell.specs.Message.{Terms, answer_to}
 use Rattle.abt_actor.specs.Facts.{facts_in}
 use Rattle.abt_facts.specs.declared.fact.Fact.{Fact}
 use Rattle.abt_facts.specs.Sent.{answer_is_at}
-use Rattle.abt_model.specs.Decision.{answer_to}
 use Rattle.abt_model.proofs.Lawful.{route_of}
 use Rattle.abt_model.proofs.Steps.{is_hop_tells}
 use Rattle.abt_safety.specs.Tallies.{one_if}

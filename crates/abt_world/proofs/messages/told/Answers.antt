@@ -3,10 +3,10 @@ use Rattle.std.specs.Prelude.{if◌then◌else◌, not}
 use Rattle.std.proofs.lemmas.Bool.{false≢true}
 use Rattle.abt_actor.specs.Facts.{facts_in}
 use Rattle.abt_actor.specs.Commands.{heard_by, command_adds}
-use Rattle.abt_cell.specs.Message.{Reply}
+use Rattle.abt_cell.specs.Message.{Reply, answer_to}
 use Rattle.abt_facts.specs.Source.{state_of}
 use Rattle.abt_model.specs.Answers.{told_answer}
-use Rattle.abt_model.specs.Decision.{request_of, answer_to}
+use Rattle.abt_source.specs.SourceFacts.{request_of}
 use Rattle.abt_model.specs.declared.command.SourceCommand.TheVariants.{Told as CommandTold}
 use Rattle.abt_model.specs.declared.event.Event.TheVariants.{Told}
 use Rattle.abt_model.specs.declared.outcome.Cause.TheVariants.{NotSent}

@@ -2,11 +2,10 @@ use Rattle.std.proofs.Common.{◌≡◌, ◌<◌, ℕ, List, refl, sym, subst, a
 use Rattle.std.specs.Prelude.{Some, None, Option, option_map, option_and_then, slice_get, slice_index_or, if◌then◌else◌}
 use Rattle.std.proofs.lemmas.Option.{slice_get-get_or}
 use Rattle.abt_net.specs.declared.conn.Conn.{Conn}
-use Rattle.abt_net.specs.Topology.{Topology, IsWithinRules}
+use Rattle.abt_net.specs.Topology.{Topology, IsWithinRules, conn_at}
 use Rattle.abt_node.specs.Table.{held_at, connection_at}
 use Rattle.abt_facts.specs.Hop.{held_of}
 use Rattle.abt_model.specs.Answers.{is_hop}
-use Rattle.abt_model.specs.Conns.{conn_at}
 use Rattle.abt_model.specs.Past.{facts_of}
 use Rattle.abt_model.specs.Run.{facts_after}
 use Rattle.abt_world.specs.Readings.{held_in}

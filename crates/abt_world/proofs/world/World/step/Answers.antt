@@ -3,11 +3,10 @@ use Rattle.std.specs.Prelude.{Option, None, Some, is_some, option_map, slice_get
 use Rattle.std.proofs.lemmas.Option.{slice_get_past, slice_get-get_or, slice_get-map}
 use Rattle.std.proofs.lemmas.List.{length-map, length-set}
 use Rattle.abt_node.specs.Table.{Table}
-use Rattle.abt_net.specs.Topology.{Topology, IsWithinRules}
+use Rattle.abt_net.specs.Topology.{Topology, IsWithinRules, conn_at}
 use Rattle.abt_net.specs.declared.conn.Conn.{Conn}
 use Rattle.abt_actor.specs.Actor.{ActorView}
 use Rattle.abt_log.specs.Index.{Index}
-use Rattle.abt_model.specs.Conns.{conn_at}
 use Rattle.abt_model.specs.Outcomes.{conn_of, after_event}
 use Rattle.abt_model.specs.Past.{facts_of}
 use Rattle.abt_model.specs.Run.{facts_after}
