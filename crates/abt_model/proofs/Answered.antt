@@ -4,7 +4,6 @@ use Rattle.std.specs.Prelude.{◌==◌, not, if◌then◌else◌}
 use Rattle.std.proofs.lemmas.Bool.{false≢true, eqb-true, ne_eqb, cases_lt, false_from_ne_true, and_from, cond_both, not-false}
 use Rattle.abt_facts.specs.declared.fact.Fact.{Fact}
 use Rattle.abt_facts.specs.declared.fact.Fact.TheVariants.{Heard}
-use Rattle.abt_model.specs.declared.connection_fact.ConnectionFact.{ConnectionFact}
 use Rattle.abt_model.specs.declared.event.Event.TheVariants.{Told}
 use Rattle.abt_model.specs.declared.outcome.Outcome.{Outcome}
 use Rattle.abt_net.specs.declared.conn.Conn.{Conn}
@@ -17,7 +16,7 @@ use Rattle.abt_facts.specs.Source.{SourceState, Down, Idle, Asking, state_of, ra
 use Rattle.abt_facts.specs.Sent.{was_shut, was_back, answer_is_home}
 use Rattle.abt_facts.specs.Hop.{newest_of, is_open_at}
 use Rattle.abt_net.specs.Topology.{Topology, conn_at}
-use Rattle.abt_model.specs.Past.{facts_of}
+use Rattle.abt_model.specs.Past.{Past, facts_of}
 use Rattle.abt_model.specs.Answers.{hearing, told_answer}
 use Rattle.abt_model.specs.Promises.{YesWasSent, NoWasSent, OneAnswerEach, RatesWait, YesStandsEverywhere}
 use Rattle.abt_model.proofs.Chain.{passed_all, turned_passed, back_turned, turned_open, back_open, asked_last, newest_asked}
@@ -67,7 +66,7 @@ open_from fs s j newest fresh some =
     let unshut : was_shut fs (newest_of fs j) j ≡ false = ap (λ n. was_shut fs n j) newest ∙ fresh in
     and_from _ _ (ap not differ) (ap not unshut)
 
-pub yes_everywhere : (net : Topology) (past : List ConnectionFact) → AllLawful net past → YesStandsEverywhere net past
+pub yes_everywhere : (net : Topology) (past : Past) → AllLawful net past → YesStandsEverywhere net past
 yes_everywhere net past lawful c s conn known told hop low high =
     let fs = facts_of c past in
     let law = lawful_at net past lawful c conn known in
@@ -76,13 +75,13 @@ yes_everywhere net past lawful c s conn known told hop low high =
     (is.0, open_from fs s hop is.0 is.1 is.2)
 
 -- by cases on whether the net has the connection
-pub past_cases : (net : Topology) (past : List ConnectionFact) → AllLawful net past → (c : ℕ) (P : List Fact → Type 0) → P [] → ((conn : Conn) → IsLawful (route_of conn) (facts_of c past) → P (facts_of c past)) → P (facts_of c past)
+pub past_cases : (net : Topology) (past : Past) → AllLawful net past → (c : ℕ) (P : List Fact → Type 0) → P [] → ((conn : Conn) → IsLawful (route_of conn) (facts_of c past) → P (facts_of c past)) → P (facts_of c past)
 past_cases net past lawful c P none some = elim (cases_option (conn_at net c)) [
   | inl unknown ↦ (let empty : facts_of c past ≡ [] = subst (λ o. IsConnLawful o (facts_of c past)) unknown (lawful c) in subst P (sym empty) none)
   | inr known ↦ some known.0 (lawful_at net past lawful c known.0 known.1)
 ]
 
-pub rates_wait : (net : Topology) (past : List ConnectionFact) → AllLawful net past → RatesWait net past
+pub rates_wait : (net : Topology) (past : Past) → AllLawful net past → RatesWait net past
 rates_wait net past lawful c q =
     past_cases net past lawful c (λ (fs : List Fact). was_asked fs q ≡ true → (rate_of fs ≤ floor_of fs q) ⊎ ((h : ℕ) × (q ≤ h) × (yes_was_heard fs h ≡ true)))
     (λ a. inl (omega arith)) (λ conn law a. lowered (route_of conn) (facts_of c past) law q a)
@@ -93,7 +92,7 @@ both_sent l fs law s yes_sent no_sent = elim yes_sent [
   | inr b ↦ back_open l fs law s b.0 no_sent.0 b.1 no_sent.1
 ]
 
-pub one_answer_each : (net : Topology) (past : List ConnectionFact) → AllLawful net past → OneAnswerEach net past
+pub one_answer_each : (net : Topology) (past : Past) → AllLawful net past → OneAnswerEach net past
 one_answer_each net past lawful c s =
     past_cases net past lawful c (λ (fs : List Fact). YesWasSent fs s → NoWasSent fs s → ⊥)
     (λ y n. false≢true n.1) (λ conn law y n. both_sent (route_of conn) (facts_of c past) law s y n)

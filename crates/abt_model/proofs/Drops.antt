@@ -3,7 +3,6 @@ use Rattle.std.proofs.Common.{◌≡◌, ℕ, ◌+◌, ◌-◌, ◌≤◌, ◌<�
 use Rattle.std.specs.Prelude.{◌&&◌, ◌==◌, not, nat_lt, Option}
 use Rattle.std.proofs.lemmas.Bool.{false≢true, ne_eqb, false_from_ne_true, and_from, and_parts, cond_both, not-false}
 use Rattle.abt_facts.specs.declared.fact.Fact.{Fact}
-use Rattle.abt_model.specs.declared.connection_fact.ConnectionFact.{ConnectionFact}
 use Rattle.abt_model.specs.declared.event.Event.{Event}
 use Rattle.abt_model.specs.declared.event.Event.TheVariants.{Start, Ask, Again, Crash, Emit, Arrive, Request, Turn, Answer, Told}
 use Rattle.abt_model.specs.declared.outcome.Outcome.{Outcome}
@@ -27,7 +26,7 @@ use Rattle.abt_facts.specs.Cells.{emitted_of, last_arrival_of, fence_of, is_in_t
 use Rattle.abt_cell.specs.Message.{Reply, Terms, answer_to}
 use Rattle.abt_net.specs.Topology.{Topology, conn_at}
 use Rattle.abt_cell.specs.Channel.{Channel}
-use Rattle.abt_model.specs.Past.{facts_of}
+use Rattle.abt_model.specs.Past.{Past, facts_of}
 use Rattle.abt_source.specs.SourceFacts.{request_of}
 use Rattle.abt_rate.specs.Limits.{emit_max, number_max}
 use Rattle.abt_model.specs.Answers.{start_max, if_up, start_answer, next_request, stored_answer, again_answer, emit_answer, arrive_answer, is_hop, answer_by}
@@ -158,7 +157,7 @@ step_agrees conn reserved capacity fs lawful (Answer c j s granted) = answer_agr
 step_agrees conn reserved capacity fs lawful (Told c s granted) =
     cond_both (not (answer_is_home fs s granted)) _ _ (λ (o : Outcome). disputes o ≡ false) (λ e. refl) (λ e. refl)
 
-pub outcome_agrees : (net : Topology) (past : List ConnectionFact) → AllLawful net past → NeverDisputes net past
+pub outcome_agrees : (net : Topology) (past : Past) → AllLawful net past → NeverDisputes net past
 outcome_agrees net past lawful e = elim (cases_option (conn_at net (conn_of e))) [
   | inl unknown ↦ ap disputes (ap (λ (o : Option Conn). outcome_at net past o e) unknown)
   | inr known ↦ ap disputes (outcome_of-known net past e known.0 known.1) ∙ step_agrees known.0 _ _ (facts_of (conn_of e) past) (lawful_at net past lawful (conn_of e) known.0 known.1) e

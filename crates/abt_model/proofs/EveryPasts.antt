@@ -1,9 +1,9 @@
 -- Every past is safe.
 use Rattle.std.proofs.Common.{◌≡◌, ℕ, zero, suc, inl, inr, List, [], ◌∷◌, sym, subst, arith}
 use Rattle.std.specs.Prelude.{slice_index, slice_get, Some}
-use Rattle.abt_model.specs.declared.connection_fact.ConnectionFact.{ConnectionFact}
 use Rattle.abt_net.specs.Topology.{Topology, IsWithinRules, conn_at}
-use Rattle.abt_model.specs.Past.{facts_of}
+use Rattle.abt_model.specs.Past.{Past, facts_of}
+use Rattle.abt_model.specs.Reserved.{capacity_of}
 use Rattle.abt_model.specs.Run.{facts_after}
 use Rattle.abt_model.specs.Safe.{AllConform, IsSafe}
 use Rattle.abt_model.specs.Promises.{EveryPast, NeverDisputes, OneAnswerEach, RatesWait, YesStandsEverywhere, ArrivalsConform, NextIsDue, CellsAreApart, ArrivalsInRange}
@@ -21,10 +21,14 @@ index_of-get [] i x e = absurd (cc)
 index_of-get (y ∷ xs) zero x e = cc
 index_of-get (y ∷ xs) (suc i) x e = index_of-get xs i x e
 
-pub past_safe : (net : Topology) (past : List ConnectionFact) → IsWithinRules net → AllLawful net past → AllWithin net past → IsSafe net past
+-- the capacity of a port that the net has is what stands in the net's list
+pub capacity_is : (net : Topology) (past : Past) (port capacity : ℕ) → slice_get net.capacities port ≡ Some capacity → capacity_of net past port ≡ capacity
+capacity_is net past port capacity is = index_of-get net.capacities port capacity is
+
+pub past_safe : (net : Topology) (past : Past) → IsWithinRules net → AllLawful net past → AllWithin net past → IsSafe net past
 past_safe net past rules lawful within = record {
   rates = λ c conn known hop low high. rate_held (route_of conn) (facts_of c past) (lawful_at net past lawful c conn known) hop low high;
-  sums = λ port capacity is. (let e = index_of-get net.capacities port capacity is in omega (arith, within port, e));
+  sums = λ port known. within port;
   cells = λ c. conforming c;
 }
   where

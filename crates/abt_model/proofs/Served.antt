@@ -10,7 +10,6 @@ use Rattle.abt_gcra.specs.Standing.{IsOwed, TatStandsFor}
 use Rattle.abt_gcra.proofs.WindowsLemmas.{tat_first, tat_next, owed_none}
 use Rattle.abt_facts.specs.declared.fact.Fact.{Fact}
 use Rattle.abt_facts.specs.declared.fact.Fact.TheVariants.{Started, Emitted, Arrived}
-use Rattle.abt_model.specs.declared.connection_fact.ConnectionFact.{ConnectionFact}
 use Rattle.abt_model.specs.declared.event.Event.TheVariants.{Arrive}
 use Rattle.abt_model.specs.declared.outcome.Outcome.{Outcome}
 use Rattle.abt_net.specs.declared.conn.Conn.{Conn}
@@ -19,7 +18,7 @@ use Rattle.abt_facts.specs.Source.{clock_of, hold_off, next_of}
 use Rattle.abt_facts.specs.Hop.{held_of}
 use Rattle.abt_facts.specs.Cells.{emitted_of, moment_of, last_arrival_of, fence_of, taken_of, verdict_at, is_in_time}
 use Rattle.abt_net.specs.Topology.{Topology, IsWithinRules, IsConnWithin, conn_at}
-use Rattle.abt_model.specs.Past.{facts_of}
+use Rattle.abt_model.specs.Past.{Past, facts_of}
 use Rattle.abt_rate.specs.Limits.{emit_max}
 use Rattle.abt_model.specs.Answers.{arrive_answer}
 use Rattle.abt_model.specs.Promises.{ArrivalsConform, NextIsDue, CellsAreApart, ArrivalsInRange}
@@ -77,12 +76,12 @@ cells_apart l (Emitted m t r ∷ fs) lawful =
     omega (arith, least.0, cells_apart l fs lawful.1, lawful.0.4)
 cells_apart l (f ∷ fs) lawful = cells_apart l fs lawful.1
 
-pub cells_are_apart : (net : Topology) (past : List ConnectionFact) → AllLawful net past → CellsAreApart net past
+pub cells_are_apart : (net : Topology) (past : Past) → AllLawful net past → CellsAreApart net past
 cells_are_apart net past lawful c =
     past_cases net past lawful c (λ (fs : List Fact). 234 * emitted_of fs ≤ next_of fs) (omega arith) (λ conn law. cells_apart (route_of conn) (facts_of c past) law)
 
 -- what an arrival meets
-pub arrivals_in_range : (net : Topology) (past : List ConnectionFact) → IsWithinRules net → AllLawful net past → ArrivalsInRange net past
+pub arrivals_in_range : (net : Topology) (past : Past) → IsWithinRules net → AllLawful net past → ArrivalsInRange net past
 arrivals_in_range net past rules lawful c cell at conn v known arrived =
     let fs = facts_of c past in
     let l = route_of conn in
@@ -94,7 +93,7 @@ arrivals_in_range net past rules lawful c cell at conn v known arrived =
     let sent = moment_within (route_of conn) fs law cell in
     (may.4, omega (arith, may.3, sent, within.tau, within.delay), λ z. (let positive = finds.4 in omega arith))
 
-pub arrivals_conform : (net : Topology) (past : List ConnectionFact) → IsWithinRules net → AllLawful net past → ArrivalsConform net past
+pub arrivals_conform : (net : Topology) (past : Past) → IsWithinRules net → AllLawful net past → ArrivalsConform net past
 arrivals_conform net past rules lawful c cell at conn v known arrived =
     let fs = facts_of c past in
     let law = lawful_at net past lawful c conn known in
@@ -118,7 +117,7 @@ tat_is : (moment : ℕ) (cells : List Arrival) → TatStandsFor (Some moment) ce
 tat_is moment [] stands = absurd (owed_none moment stands.holds)
 tat_is moment (cell ∷ cells) stands = (tat_stands cell cells).greatest moment stands.holds
 
-pub next_is_due : (net : Topology) (past : List ConnectionFact) → IsWithinRules net → AllLawful net past → NextIsDue net past
+pub next_is_due : (net : Topology) (past : Past) → IsWithinRules net → AllLawful net past → NextIsDue net past
 next_is_due net past rules lawful c n moment conn known last stands =
     let fs = facts_of c past in
     let law = lawful_at net past lawful c conn known in

@@ -10,7 +10,6 @@ use Rattle.abt_gcra.specs.Policing.{Policing, policed, due_at}
 use Rattle.abt_gcra.proofs.PolicingLemmas.{checked_due}
 use Rattle.abt_facts.specs.declared.fact.Fact.{Fact}
 use Rattle.abt_facts.specs.declared.fact.Fact.TheVariants.{Arrived}
-use Rattle.abt_model.specs.declared.connection_fact.ConnectionFact.{ConnectionFact}
 use Rattle.abt_model.specs.declared.event.Event.TheVariants.{Arrive, Request, Answer}
 use Rattle.abt_model.specs.declared.outcome.Outcome.{Outcome}
 use Rattle.abt_net.specs.declared.conn.Conn.{Conn}
@@ -21,7 +20,7 @@ use Rattle.abt_facts.specs.Sent.{request_is_at, answer_is_at}
 use Rattle.abt_facts.specs.Hop.{held_of}
 use Rattle.abt_facts.specs.Cells.{taken_of}
 use Rattle.abt_net.specs.Topology.{Topology, IsWithinRules}
-use Rattle.abt_model.specs.Past.{facts_of}
+use Rattle.abt_model.specs.Past.{Past, facts_of}
 use Rattle.abt_model.specs.Reserved.{reserved_on}
 use Rattle.abt_net.specs.Paths.{hop_of}
 use Rattle.abt_cell.specs.Message.{answer_to}
@@ -78,7 +77,7 @@ kept_with conn fs gs j r is same =
     ap (λ (x : Reservation). record (kept_at conn fs j) { reservation = x }) is
     ∙ ap (λ (x : Policing). record { reservation = reservation_at gs j; policing = if j == 1 then Some x else None }) (sym same)
 
-pub requests_served : (net : Topology) (past : List ConnectionFact) → IsWithinRules net → AllLawful net past → RequestsServed net past
+pub requests_served : (net : Topology) (past : Past) → IsWithinRules net → AllLawful net past → RequestsServed net past
 requests_served net past rules lawful c hop seq p conn onward known at_hop said =
     let e = Request c hop seq in
     let fs = facts_of c past in
@@ -115,7 +114,7 @@ requests_served net past rules lawful c hop seq p conn onward known at_hop said 
     let placed = table_with net past after c p conn _ rules known way (new ∙ ap (kept_at conn (facts_of c after)) (sym at_hop)) (λ d differ. facts_of-other net past (Request c hop seq) d differ) in
     (reply, ap (table_by (port_table net past p) (request_of conn.vc (facts_of c past) seq)) row ∙ placed)
 
-pub answers_served : (net : Topology) (past : List ConnectionFact) → IsWithinRules net → AllLawful net past → AnswersServed net past
+pub answers_served : (net : Topology) (past : Past) → IsWithinRules net → AllLawful net past → AnswersServed net past
 answers_served net past rules lawful c hop seq p granted conn back known at_hop said =
     let fs = facts_of c past in
     let after = after_event net past (Answer c hop seq granted) in
@@ -164,7 +163,7 @@ served_at p at held some onward within due =
       cond-false _ _ _ not_back ∙ cond-false _ _ _ in_range ∙ ap (λ (x : Verdict × Policing). x.1) is,
     )
 
-pub arrivals_served : (net : Topology) (past : List ConnectionFact) → IsWithinRules net → AllLawful net past → ArrivalsServed net past
+pub arrivals_served : (net : Topology) (past : Past) → IsWithinRules net → AllLawful net past → ArrivalsServed net past
 arrivals_served net past rules lawful c cell at p conn v known at_hop said =
     let fs = facts_of c past in
     let after = after_event net past (Arrive c cell at) in

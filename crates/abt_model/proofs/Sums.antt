@@ -5,7 +5,6 @@ use Rattle.std.proofs.lemmas.Bool.{ne_eqb, eq-eqb, cond-false, cond-true, cases_
 use Rattle.std.proofs.lemmas.List.Sums.{sum_by-cons}
 use Rattle.std.specs.List.{enumerate_from}
 use Rattle.abt_facts.specs.declared.fact.Fact.{Fact}
-use Rattle.abt_model.specs.declared.connection_fact.ConnectionFact.{ConnectionFact}
 use Rattle.abt_model.specs.declared.event.Event.{Event}
 use Rattle.abt_model.specs.declared.target.Target.{Target}
 use Rattle.abt_model.specs.declared.target.Target.TheVariants.{Hop}
@@ -15,7 +14,7 @@ use Rattle.abt_facts.specs.Hop.{held_of}
 use Rattle.abt_net.specs.Topology.{Topology, conn_at}
 use Rattle.abt_model.specs.Events.{AsksRate}
 use Rattle.abt_model.specs.Targets.{target_of, hop_in, port_in}
-use Rattle.abt_model.specs.Past.{facts_of}
+use Rattle.abt_model.specs.Past.{Past, facts_of}
 use Rattle.abt_model.specs.Reserved.{held_on, reserved_on}
 use Rattle.abt_net.specs.Paths.{hop_of}
 use Rattle.abt_net.proofs.PathLemmas.{hop_of-port}
@@ -73,15 +72,15 @@ port_in-hop path (Hop c x) some = refl
 port_in-hop path other some = absurd (some refl)
 
 -- no port's sum is above its capacity
-abbrev pub AllWithin : Topology → List ConnectionFact → Type 0
+abbrev pub AllWithin : Topology → Past → Type 0
 AllWithin net past = (p : ℕ) → reserved_on net past p ≤ slice_index net.capacities p
 
 -- what a connection holds on a port, by its number
-abbrev pub holding : List ConnectionFact → ℕ → (ℕ × Conn → ℕ)
+abbrev pub holding : Past → ℕ → (ℕ × Conn → ℕ)
 holding past p = λ numbered. held_on (facts_of numbered.0 past) numbered.1.path p
 
 -- what the connection of an event holds on a port after it
-on_port : (net : Topology) (past : List ConnectionFact) → AllLawful net past → (e : Event) (p : ℕ) (conn : Conn) → conn_at net (conn_of e) ≡ Some conn →
+on_port : (net : Topology) (past : Past) → AllLawful net past → (e : Event) (p : ℕ) (conn : Conn) → conn_at net (conn_of e) ≡ Some conn →
     (let old = facts_of (conn_of e) past in
     let q = port_of conn.path e in
     let new = facts_added old e (answer_by conn (reserved_on net past q) (slice_index net.capacities q) old e) ++ old in
@@ -107,7 +106,7 @@ on_port net past lawful e p conn known =
           ])
     ]
 
-pub after_event_within : (net : Topology) (past : List ConnectionFact) → AllLawful net past → AllWithin net past → (e : Event) → AllWithin net (after_event net past e)
+pub after_event_within : (net : Topology) (past : Past) → AllLawful net past → AllWithin net past → (e : Event) → AllWithin net (after_event net past e)
 after_event_within net past lawful within e p = elim (cases_option (conn_at net (conn_of e))) [
   | inl unknown ↦ subst (λ v. reserved_on net v p ≤ slice_index net.capacities p) (sym (after_event-unknown net past e unknown)) (within p)
   | inr known ↦ (
@@ -137,7 +136,7 @@ nothing_within net p =
     omega (arith, none)
 
 -- both stay over lists of events
-pub facts_from_lawful : (net : Topology) (es : List Event) (past : List ConnectionFact) → All AsksRate es → AllLawful net past → AllWithin net past → AllLawful net (facts_from net past es) × AllWithin net (facts_from net past es)
+pub facts_from_lawful : (net : Topology) (es : List Event) (past : Past) → All AsksRate es → AllLawful net past → AllWithin net past → AllLawful net (facts_from net past es) × AllWithin net (facts_from net past es)
 facts_from_lawful net [] past rates lawful within = (lawful, within)
 facts_from_lawful net (e ∷ es) past rates lawful within =
     facts_from_lawful net es (after_event net past e) (others_ask e es rates) (after_event_lawful net past lawful e (first_asks e es rates)) (after_event_within net past lawful within e)

@@ -10,13 +10,12 @@ use Rattle.std.specs.declared.cmp.Ordering.TheVariants.{Less, Equal, Greater}
 use Rattle.std.specs.FinMap.{FinMap, insert, values, entries, from_entries, find, put, get-from_entries, get-insert, get-entries, entries-insert, len-entries, len-empty, same_map}
 use Rattle.std.specs.FinMap.Entries.{by_order}
 use Rattle.abt_facts.specs.declared.fact.Fact.{Fact}
-use Rattle.abt_model.specs.declared.connection_fact.ConnectionFact.{ConnectionFact}
 use Rattle.abt_model.specs.declared.outcome.Outcome.{Outcome}
 use Rattle.abt_net.specs.declared.conn.Conn.{Conn}
 use Rattle.abt_facts.specs.Hop.{held_of}
 use Rattle.abt_net.specs.Topology.{Topology, IsWithinRules, conn_at}
 use Rattle.abt_cell.specs.Channel.{Channel, channel_cmp, same_channel}
-use Rattle.abt_model.specs.Past.{facts_of}
+use Rattle.abt_model.specs.Past.{Past, facts_of}
 use Rattle.abt_net.specs.Paths.{hop_of}
 use Rattle.abt_model.specs.Outcomes.{conn_of, facts_added, after_event}
 use Rattle.abt_model.specs.PortTable.{kept_at, kept_from, port_table, hop_visited, TotalsAreReserved, TablesHaveRows, TablesStay}
@@ -29,14 +28,14 @@ use Rattle.abt_model.proofs.Decisions.{held_by-held}
 use Rattle.abt_cell.proofs.ChannelLemmas.{channel_cmp_total, channel_cmp-IsAntisymmetric, same_channel_tied, same_channel-is, same_channel-refl}
 
 -- the connection of a channel among those through a port, from number c on
-abbrev pub find_from : Channel → ℕ → List Conn → List ConnectionFact → ℕ → Option Connection
+abbrev pub find_from : Channel → ℕ → List Conn → Past → ℕ → Option Connection
 find_from q c [] past p = None
 find_from q c (conn ∷ conns) past p =
     if hop_of conn.path p == 0
     then find_from q (c + 1) conns past p
     else (if same_channel q conn.vc then Some (kept_at conn (facts_of c past) (hop_of conn.path p)) else find_from q (c + 1) conns past p)
 
-find-kept : (q : Channel) (c : ℕ) (conns : List Conn) (past : List ConnectionFact) (p : ℕ) → find channel_cmp q (kept_from c conns past p) ≡ find_from q c conns past p
+find-kept : (q : Channel) (c : ℕ) (conns : List Conn) (past : Past) (p : ℕ) → find channel_cmp q (kept_from c conns past p) ≡ find_from q c conns past p
 find-kept q c [] past p = refl
 find-kept q c (conn ∷ conns) past p = elim (cases_Bool (hop_of conn.path p == 0)) [
   | inl t ↦ ap (find channel_cmp q) (cond-true _ _ _ t) ∙ find-kept q (c + 1) conns past p ∙ sym (cond-true _ _ _ t)
@@ -46,7 +45,7 @@ find-kept q c (conn ∷ conns) past p = elim (cases_Bool (hop_of conn.path p == 
       ∙ sym (cond-false _ _ _ f)
 ]
 
-pub get-table : (net : Topology) (past : List ConnectionFact) (p : ℕ) (q : Channel) → connection_at (port_table net past p) q ≡ find_from q 0 net.conns past p
+pub get-table : (net : Topology) (past : Past) (p : ℕ) (q : Channel) → connection_at (port_table net past p) q ≡ find_from q 0 net.conns past p
 get-table net past p q = get-from_entries channel_cmp_total (kept_from 0 net.conns past p) q ∙ find-kept q 0 net.conns past p
 
 differ : (a b : Channel) → a ≢ b → same_channel a b ≡ false
@@ -70,7 +69,7 @@ first_own conn conns own i other at =
     subst (λ (x : Conn). conn.vc ≢ x.vc) place.1 (own 0 (suc i) conn (omega arith) (omega (arith, place.0)))
 
 -- the one of a channel is found
-find_at : (past : List ConnectionFact) (p c n i : ℕ) (conns : List Conn) (conn : Conn) → OwnChannels conns → c ≡ n + i → slice_get conns i ≡ Some conn → hop_of conn.path p ≢ 0 →
+find_at : (past : Past) (p c n i : ℕ) (conns : List Conn) (conn : Conn) → OwnChannels conns → c ≡ n + i → slice_get conns i ≡ Some conn → hop_of conn.path p ≢ 0 →
     find_from conn.vc n conns past p ≡ Some (kept_at conn (facts_of c past) (hop_of conn.path p))
 find_at past p c n i [] conn own place at through = absurd (cc)
 find_at past p c n zero (first ∷ conns) conn own place at through =
@@ -89,7 +88,7 @@ find_at past p c n (suc i) (first ∷ conns) conn own place at through =
       | inr f ↦ cond-false _ _ _ f ∙ cond-false _ _ _ apart ∙ rest
     ]
 
-find_none : (past : List ConnectionFact) (p n : ℕ) (conns : List Conn) (q : Channel) → ((i : ℕ) (conn : Conn) → slice_get conns i ≡ Some conn → q ≢ conn.vc) → find_from q n conns past p ≡ None
+find_none : (past : Past) (p n : ℕ) (conns : List Conn) (q : Channel) → ((i : ℕ) (conn : Conn) → slice_get conns i ≡ Some conn → q ≢ conn.vc) → find_from q n conns past p ≡ None
 find_none past p n [] q none = refl
 find_none past p n (first ∷ conns) q none =
     let rest = find_none past p (n + 1) conns q (λ i conn at. none (suc i) conn at) in
@@ -99,7 +98,7 @@ find_none past p n (first ∷ conns) q none =
     ]
 
 -- what is found is the same where each connection of the channel keeps the same
-find_same : (past after : List ConnectionFact) (p n : ℕ) (conns : List Conn) (q : Channel) →
+find_same : (past after : Past) (p n : ℕ) (conns : List Conn) (q : Channel) →
     ((i : ℕ) (conn : Conn) → slice_get conns i ≡ Some conn → q ≡ conn.vc → hop_of conn.path p ≢ 0 → kept_at conn (facts_of (n + i) after) (hop_of conn.path p) ≡ kept_at conn (facts_of (n + i) past) (hop_of conn.path p)) →
     find_from q n conns after p ≡ find_from q n conns past p
 find_same past after p n [] q same = refl
@@ -120,12 +119,12 @@ find_same past after p n (first ∷ conns) q same =
     ]
 
 -- two tables of a port are one where each channel finds the same
-tables_same : (net : Topology) (past after : List ConnectionFact) (p : ℕ) → ((q : Channel) → find_from q 0 net.conns after p ≡ find_from q 0 net.conns past p) → port_table net after p ≡ port_table net past p
+tables_same : (net : Topology) (past after : Past) (p : ℕ) → ((q : Channel) → find_from q 0 net.conns after p ≡ find_from q 0 net.conns past p) → port_table net after p ≡ port_table net past p
 tables_same net past after p same =
     ap (λ (m : FinMap channel_cmp Connection). record { id = p; capacity = slice_index net.capacities p; connections = m })
     (same_map channel_cmp_total channel_cmp-IsAntisymmetric (from_entries (kept_from 0 net.conns after p)) (from_entries (kept_from 0 net.conns past p)) (λ q. get-table net after p q ∙ same q ∙ sym (get-table net past p q)))
 
-pub tables_have_rows : (net : Topology) (past : List ConnectionFact) → IsWithinRules net → TablesHaveRows net past
+pub tables_have_rows : (net : Topology) (past : Past) → IsWithinRules net → TablesHaveRows net past
 tables_have_rows net past rules c p conn known through =
     get-table net past p conn.vc ∙ find_at past p c 0 c net.conns conn rules.own_channels (omega arith) known through
 
@@ -141,7 +140,7 @@ same_number conns c d conn other own at_c at_d same =
     ]
 
 -- what one connection keeps is put in its place
-pub table_with : (net : Topology) (past after : List ConnectionFact) (c p : ℕ) (conn : Conn) (new : Connection) → IsWithinRules net → conn_at net c ≡ Some conn → hop_of conn.path p ≢ 0 →
+pub table_with : (net : Topology) (past after : Past) (c p : ℕ) (conn : Conn) (new : Connection) → IsWithinRules net → conn_at net c ≡ Some conn → hop_of conn.path p ≢ 0 →
     new ≡ kept_at conn (facts_of c after) (hop_of conn.path p) → ((d : ℕ) → c ≢ d → facts_of d after ≡ facts_of d past) →
     with_connection (port_table net past p) conn.vc new ≡ port_table net after p
 table_with net past after c p conn new rules known through is others =
@@ -195,10 +194,10 @@ sum-insert es k v fresh =
     ∙ sum_by-put held_at k v (entries (from_entries es)) (sym (get-entries (from_entries es) k) ∙ get-from_entries channel_cmp_total es k ∙ fresh)
 
 -- the connections of the list hold what they hold on the port
-abbrev HoldsAsFound : List ConnectionFact → ℕ → List Conn → Type 0
+abbrev HoldsAsFound : Past → ℕ → List Conn → Type 0
 HoldsAsFound past n conns = (i : ℕ) (conn : Conn) → slice_get conns i ≡ Some conn → (j : ℕ) → held_at (kept_at conn (facts_of (n + i) past) j) ≡ held_of (facts_of (n + i) past) j
 
-kept_sum : (past : List ConnectionFact) (p n : ℕ) (conns : List Conn) → OwnChannels conns → HoldsAsFound past n conns →
+kept_sum : (past : Past) (p n : ℕ) (conns : List Conn) → OwnChannels conns → HoldsAsFound past n conns →
     table_sum (kept_from n conns past p) ≡ numbered_sum (holding past p) n conns
 kept_sum past p n [] own holds = ap (λ (es : List (Channel × Connection)). sum_by held_at (map (λ e. e.1) es)) (nil_of_length _ (sym (len-entries finmap.empty) ∙ len-empty channel_cmp Connection))
 kept_sum past p n (first ∷ conns) own holds =
@@ -223,7 +222,7 @@ kept_sum past p n (first ∷ conns) own holds =
           omega (arith, rest, whole, some, mine, added))
     ]
 
-pub totals_reserved : (net : Topology) (past : List ConnectionFact) → IsWithinRules net → AllLawful net past → TotalsAreReserved net past
+pub totals_reserved : (net : Topology) (past : Past) → IsWithinRules net → AllLawful net past → TotalsAreReserved net past
 totals_reserved net past rules lawful p =
     kept_sum past p 0 net.conns rules.own_channels (λ i conn at j. (
     let number : i ≡ 0 + i = omega arith in
@@ -231,7 +230,7 @@ totals_reserved net past rules lawful p =
 
 -- ---- what does not come to a port
 
-pub tables_stay : (net : Topology) (past : List ConnectionFact) → IsWithinRules net → AllLawful net past → TablesStay net past
+pub tables_stay : (net : Topology) (past : Past) → IsWithinRules net → AllLawful net past → TablesStay net past
 tables_stay net past rules lawful e p rate away = tables_same net past (after_event net past e) p (λ q. find_same past (after_event net past e) p 0 net.conns q (λ i conn at is through. (
     let number : i ≡ 0 + i = omega arith in
     subst (λ (m : ℕ). kept_at conn (facts_of m (after_event net past e)) (hop_of conn.path p) ≡ kept_at conn (facts_of m past) (hop_of conn.path p)) number (

@@ -5,7 +5,7 @@ use Rattle.abt_keep.specs.declared.plan.StorePlan.{StorePlan}
 use Rattle.abt_facts.specs.declared.fact.Fact.{Fact}
 use Rattle.abt_net.specs.declared.conn.Conn.{Conn}
 use Rattle.abt_net.specs.Topology.{Topology}
-use Rattle.abt_model.specs.declared.connection_fact.ConnectionFact.{ConnectionFact}
+use Rattle.abt_model.specs.Past.{Past}
 use Rattle.abt_model.specs.declared.event.Event.{Event}
 use Rattle.abt_model.specs.declared.event.Event.TheVariants.{Start, Ask, Again, Crash, Emit, Arrive, Request, Turn, Answer, Told}
 use Rattle.abt_model.specs.declared.target.SourceEvent.{SourceEvent}
@@ -60,7 +60,7 @@ port_of_message path (Request c j s) = slice_index path (j - 1)
 port_of_message path (Answer c j s granted) = slice_index path (j - 1)
 port_of_message path e = 0
 
-pub outcomes_alike : (net : Topology) (past : List ConnectionFact) (conn : Conn) (facts : List Fact) (e : Event) →
+pub outcomes_alike : (net : Topology) (past : Past) (conn : Conn) (facts : List Fact) (e : Event) →
     (let p = port_of conn.path e in
     let q = port_of_message conn.path e in
     answer_by conn (reserved_on net past p) (slice_index net.capacities p) facts e ≡ answer_by conn (reserved_on net past q) (slice_index net.capacities q) facts e)

@@ -3,7 +3,6 @@ use Rattle.std.proofs.Common.{◌≡◌, ◌≢◌, ℕ, zero, suc, ◌⊎◌, i
 use Rattle.std.specs.Prelude.{slice_index, slice_get, All, Option, None, Some}
 use Rattle.std.proofs.lemmas.Bool.{ne_eqb, eq-eqb, cond-false, cond-true, cases_eq}
 use Rattle.abt_facts.specs.declared.fact.Fact.{Fact}
-use Rattle.abt_model.specs.declared.connection_fact.ConnectionFact.{ConnectionFact}
 use Rattle.abt_model.specs.declared.event.Event.{Event}
 use Rattle.abt_model.specs.declared.outcome.Outcome.{Outcome}
 use Rattle.abt_net.specs.declared.conn.Conn.{Conn}
@@ -11,7 +10,7 @@ use Rattle.abt_model.specs.declared.outcome.Cause.TheVariants.{Unknown}
 use Rattle.abt_model.specs.declared.outcome.Outcome.TheVariants.{NotEnabled}
 use Rattle.abt_net.specs.Topology.{Topology, conn_at}
 use Rattle.abt_model.specs.Events.{AsksRate}
-use Rattle.abt_model.specs.Past.{facts_of, with_facts}
+use Rattle.abt_model.specs.Past.{Past, facts_of, with_facts}
 use Rattle.abt_model.specs.Reserved.{reserved_on}
 use Rattle.abt_model.specs.Answers.{answer_by}
 use Rattle.abt_model.specs.Outcomes.{conn_of, port_of, outcome_at, outcome_of, facts_added, after_event}
@@ -22,28 +21,28 @@ pub cases_option : {A : Type 0} → (o : Option A) → (o ≡ None) ⊎ ((x : A)
 cases_option None = inl refl
 cases_option (Some x) = inr (x, refl)
 
-pub facts_of-with_facts : (c : ℕ) (fs : List Fact) (past : List ConnectionFact) → facts_of c (with_facts c fs past) ≡ fs ++ facts_of c past
+pub facts_of-with_facts : (c : ℕ) (fs : List Fact) (past : Past) → facts_of c (with_facts c fs past) ≡ fs ++ facts_of c past
 facts_of-with_facts c [] past = refl
 facts_of-with_facts c (f ∷ fs) past = cond-true _ _ _ (eq-eqb c c refl) ∙ ap (λ (l : List Fact). f ∷ l) (facts_of-with_facts c fs past)
 
-pub facts_of-with_facts_other : (c d : ℕ) (fs : List Fact) (past : List ConnectionFact) → c ≢ d → facts_of d (with_facts c fs past) ≡ facts_of d past
+pub facts_of-with_facts_other : (c d : ℕ) (fs : List Fact) (past : Past) → c ≢ d → facts_of d (with_facts c fs past) ≡ facts_of d past
 facts_of-with_facts_other c d [] past differ = refl
 facts_of-with_facts_other c d (f ∷ fs) past differ = cond-false _ _ _ (ne_eqb c d differ) ∙ facts_of-with_facts_other c d fs past differ
 
 -- the facts of a connection after an event of its own, and after one of another
-pub facts_of-own : (net : Topology) (past : List ConnectionFact) (e : Event) →
+pub facts_of-own : (net : Topology) (past : Past) (e : Event) →
     facts_of (conn_of e) (after_event net past e) ≡ facts_added (facts_of (conn_of e) past) e (outcome_of net past e) ++ facts_of (conn_of e) past
 facts_of-own net past e = facts_of-with_facts (conn_of e) (facts_added (facts_of (conn_of e) past) e (outcome_of net past e)) past
 
-pub facts_of-other : (net : Topology) (past : List ConnectionFact) (e : Event) (d : ℕ) → conn_of e ≢ d → facts_of d (after_event net past e) ≡ facts_of d past
+pub facts_of-other : (net : Topology) (past : Past) (e : Event) (d : ℕ) → conn_of e ≢ d → facts_of d (after_event net past e) ≡ facts_of d past
 facts_of-other net past e d differ = facts_of-with_facts_other (conn_of e) d _ past differ
 
 -- the outcome of an event of a connection of the net
-pub outcome_of-known : (net : Topology) (past : List ConnectionFact) (e : Event) (conn : Conn) → conn_at net (conn_of e) ≡ Some conn →
+pub outcome_of-known : (net : Topology) (past : Past) (e : Event) (conn : Conn) → conn_at net (conn_of e) ≡ Some conn →
     outcome_of net past e ≡ answer_by conn (reserved_on net past (port_of conn.path e)) (slice_index net.capacities (port_of conn.path e)) (facts_of (conn_of e) past) e
 outcome_of-known net past e conn known = ap (λ (o : Option Conn). outcome_at net past o e) known
 
-pub after_event-unknown : (net : Topology) (past : List ConnectionFact) (e : Event) → conn_at net (conn_of e) ≡ None → after_event net past e ≡ past
+pub after_event-unknown : (net : Topology) (past : Past) (e : Event) → conn_at net (conn_of e) ≡ None → after_event net past e ≡ past
 after_event-unknown net past e unknown =
     let o : outcome_of net past e ≡ NotEnabled Unknown = ap (λ (o : Option Conn). outcome_at net past o e) unknown in
     ap (λ (o : Outcome). with_facts (conn_of e) (facts_added (facts_of (conn_of e) past) e o) past) o
@@ -54,13 +53,13 @@ abbrev pub IsConnLawful : Option Conn → List Fact → Type 0
 IsConnLawful None fs = fs ≡ []
 IsConnLawful (Some conn) fs = IsLawful (route_of conn) fs
 
-abbrev pub AllLawful : Topology → List ConnectionFact → Type 0
+abbrev pub AllLawful : Topology → Past → Type 0
 AllLawful net past = (c : ℕ) → IsConnLawful (conn_at net c) (facts_of c past)
 
-pub lawful_at : (net : Topology) (past : List ConnectionFact) → AllLawful net past → (c : ℕ) (conn : Conn) → conn_at net c ≡ Some conn → IsLawful (route_of conn) (facts_of c past)
+pub lawful_at : (net : Topology) (past : Past) → AllLawful net past → (c : ℕ) (conn : Conn) → conn_at net c ≡ Some conn → IsLawful (route_of conn) (facts_of c past)
 lawful_at net past lawful c conn known = subst (λ o. IsConnLawful o (facts_of c past)) known (lawful c)
 
-own_lawful : (net : Topology) (past : List ConnectionFact) → AllLawful net past → (e : Event) → AsksRate e → IsConnLawful (conn_at net (conn_of e)) (facts_of (conn_of e) (after_event net past e))
+own_lawful : (net : Topology) (past : Past) → AllLawful net past → (e : Event) → AsksRate e → IsConnLawful (conn_at net (conn_of e)) (facts_of (conn_of e) (after_event net past e))
 own_lawful net past lawful e rate = elim (cases_option (conn_at net (conn_of e))) [
   | inl unknown ↦ subst (λ w. IsConnLawful (conn_at net (conn_of e)) (facts_of (conn_of e) w)) (sym (after_event-unknown net past e unknown)) (lawful (conn_of e))
   | inr known ↦ (
@@ -71,7 +70,7 @@ own_lawful net past lawful e rate = elim (cases_option (conn_at net (conn_of e))
       subst (IsLawful (route_of conn)) (sym is) (step_lawful conn _ _ fs (lawful_at net past lawful (conn_of e) conn known.1) e rate)))
 ]
 
-pub after_event_lawful : (net : Topology) (past : List ConnectionFact) → AllLawful net past → (e : Event) → AsksRate e → AllLawful net (after_event net past e)
+pub after_event_lawful : (net : Topology) (past : Past) → AllLawful net past → (e : Event) → AsksRate e → AllLawful net (after_event net past e)
 after_event_lawful net past lawful e rate d = elim (cases_eq (conn_of e) d) [
   | inl same ↦ subst (λ q. IsConnLawful (conn_at net q) (facts_of q (after_event net past e))) same (own_lawful net past lawful e rate)
   | inr differ ↦ subst (IsConnLawful (conn_at net d)) (sym (facts_of-other net past e d differ)) (lawful d)

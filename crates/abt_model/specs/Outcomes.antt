@@ -1,5 +1,5 @@
 -- What an event answers after the past of a net, and which facts it adds.
-use Rattle.std.specs.Prelude.{ℕ, ◌+◌, ◌==◌, Bool, true, false, List, [], ◌∷◌, if◌then◌else◌, slice_index, Option, None, Some}
+use Rattle.std.specs.Prelude.{ℕ, ◌+◌, ◌==◌, Bool, true, false, List, [], ◌∷◌, if◌then◌else◌, Option, None, Some}
 use Rattle.abt_keep.specs.declared.plan.StorePlan.TheVariants.{FailsAfter}
 use Rattle.abt_node.specs.declared.reply.Onward.{Onward}
 use Rattle.abt_node.specs.declared.reply.Onward.TheVariants.{Pass, Refuse, Drop}
@@ -13,7 +13,6 @@ use Rattle.abt_facts.specs.declared.fact.Fact.TheVariants.{Started as FactStarte
 use Rattle.abt_facts.specs.Source.{rate_of, stored_of, last_of}
 use Rattle.abt_facts.specs.Hop.{held_of}
 use Rattle.abt_facts.specs.Cells.{emitted_of}
-use Rattle.abt_model.specs.declared.connection_fact.ConnectionFact.{ConnectionFact}
 use Rattle.abt_model.specs.declared.event.Event.{Event}
 use Rattle.abt_model.specs.declared.event.Event.TheVariants.{Start, Ask, Crash, Emit, Arrive, Request, Turn, Answer, Told}
 use Rattle.abt_model.specs.declared.outcome.Cause.TheVariants.{Unknown}
@@ -21,8 +20,8 @@ use Rattle.abt_model.specs.declared.outcome.Heard.TheVariants.{Raised, Refused}
 use Rattle.abt_model.specs.declared.outcome.Outcome.{Outcome}
 use Rattle.abt_model.specs.declared.outcome.Outcome.TheVariants.{Started, Asked, AskRefused, Crashed, Emitted, Arrived, Requested, Turned, Answered, Told as HasTold, NotEnabled}
 use Rattle.abt_model.specs.Targets.{target_of, conn_in, port_in}
-use Rattle.abt_model.specs.Past.{facts_of, with_facts}
-use Rattle.abt_model.specs.Reserved.{reserved_on}
+use Rattle.abt_model.specs.Past.{Past, facts_of, with_facts}
+use Rattle.abt_model.specs.Reserved.{reserved_on, capacity_of}
 use Rattle.abt_model.specs.Answers.{answer_by}
 
 -- the connection of an event, and the port that it comes to, by the path of its connection
@@ -32,14 +31,14 @@ conn_of event = conn_in (target_of event)
 abbrev pub port_of : List ℕ → Event → ℕ
 port_of path event = port_in path (target_of event)
 
-abbrev pub outcome_at : Topology → List ConnectionFact → Option Conn → Event → Outcome
+abbrev pub outcome_at : Topology → Past → Option Conn → Event → Outcome
 outcome_at net past None event = NotEnabled Unknown
 outcome_at net past (Some conn) event =
     let port = port_of conn.path event in
-    answer_by conn (reserved_on net past port) (slice_index net.capacities port) (facts_of (conn_of event) past) event
+    answer_by conn (reserved_on net past port) (capacity_of net past port) (facts_of (conn_of event) past) event
 
 -- what an event answers after this past
-abbrev pub outcome_of : Topology → List ConnectionFact → Event → Outcome
+abbrev pub outcome_of : Topology → Past → Event → Outcome
 outcome_of net past event = outcome_at net past (conn_at net (conn_of event)) event
 
 -- a request that comes to the first hop is delivered, whatever becomes of it
@@ -73,6 +72,6 @@ facts_added facts (Told c seq granted) (HasTold Refused) = FactHeard seq false �
 facts_added facts event outcome = []
 
 -- the past after an event
-abbrev pub after_event : Topology → List ConnectionFact → Event → List ConnectionFact
+abbrev pub after_event : Topology → Past → Event → Past
 after_event net past event =
     with_facts (conn_of event) (facts_added (facts_of (conn_of event) past) event (outcome_of net past event)) past

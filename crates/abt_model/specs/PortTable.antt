@@ -1,6 +1,6 @@
 -- The table that the facts of a net give a port: what each connection through it reserves and, at its first hop, what its policer
 -- keeps.
-use Rattle.std.specs.Prelude.{◌≡◌, ◌≢◌, ℕ, ◌+◌, ◌≤◌, ◌==◌, Bool, List, [], ◌∷◌, if◌then◌else◌, max, unwrap_or, slice_index, Option, None, Some, Ok}
+use Rattle.std.specs.Prelude.{◌≡◌, ◌≢◌, ℕ, ◌+◌, ◌≤◌, ◌==◌, Bool, List, [], ◌∷◌, if◌then◌else◌, max, unwrap_or, Option, None, Some, Ok}
 use Rattle.std.specs.FinMap.{from_entries}
 use Rattle.abt_cell.specs.Channel.{Channel}
 use Rattle.abt_gcra.specs.declared.verdict.Verdict.{Verdict}
@@ -14,14 +14,13 @@ use Rattle.abt_net.specs.declared.conn.Conn.{Conn}
 use Rattle.abt_net.specs.Topology.{Topology, conn_at}
 use Rattle.abt_facts.specs.declared.fact.Fact.{Fact}
 use Rattle.abt_facts.specs.Cells.{taken_of, last_arrival_of}
-use Rattle.abt_model.specs.declared.connection_fact.ConnectionFact.{ConnectionFact}
 use Rattle.abt_model.specs.declared.event.Event.{Event}
 use Rattle.abt_model.specs.declared.event.Event.TheVariants.{Request, Answer, Arrive}
 use Rattle.abt_model.specs.declared.outcome.Outcome.TheVariants.{Arrived, Requested, Answered}
 use Rattle.abt_model.specs.Targets.{target_of, hop_in}
 use Rattle.abt_model.specs.Events.{AsksRate}
-use Rattle.abt_model.specs.Past.{facts_of}
-use Rattle.abt_model.specs.Reserved.{reserved_on}
+use Rattle.abt_model.specs.Past.{Past, facts_of}
+use Rattle.abt_model.specs.Reserved.{reserved_on, capacity_of}
 use Rattle.abt_net.specs.Paths.{hop_of}
 use Rattle.abt_cell.specs.Message.{answer_to}
 use Rattle.abt_source.specs.SourceFacts.{request_of}
@@ -45,7 +44,7 @@ kept_at conn facts j = record {
 }
 
 -- what a port keeps of each connection through it, of those from number c on
-abbrev pub kept_from : ℕ → List Conn → List ConnectionFact → ℕ → List (Channel × Connection)
+abbrev pub kept_from : ℕ → List Conn → Past → ℕ → List (Channel × Connection)
 kept_from c [] past p = []
 kept_from c (conn ∷ conns) past p =
     if hop_of conn.path p == 0
@@ -53,10 +52,10 @@ kept_from c (conn ∷ conns) past p =
     else (conn.vc, kept_at conn (facts_of c past) (hop_of conn.path p)) ∷ kept_from (c + 1) conns past p
 
 -- the table of port p
-abbrev pub port_table : Topology → List ConnectionFact → ℕ → Table
+abbrev pub port_table : Topology → Past → ℕ → Table
 port_table net past p = record {
   id = p;
-  capacity = slice_index net.capacities p;
+  capacity = capacity_of net past p;
   connections = from_entries (kept_from 0 net.conns past p);
 }
 
@@ -69,17 +68,17 @@ abbrev pub Visits : Topology → Event → ℕ → Type 0
 Visits net event p = (conn : Conn) × (conn_at net (conn_of event) ≡ Some conn) × (1 ≤ hop_visited event) × (hop_of conn.path p ≡ hop_visited event)
 
 -- The total of a port's table is what is reserved on it, and at most its capacity.
-abbrev pub TotalsAreReserved : Topology → List ConnectionFact → Type 0
+abbrev pub TotalsAreReserved : Topology → Past → Type 0
 TotalsAreReserved net past = (p : ℕ) → sum_of (port_table net past p) ≡ reserved_on net past p
 
 -- A port's table has each connection through it.
-abbrev pub TablesHaveRows : Topology → List ConnectionFact → Type 0
+abbrev pub TablesHaveRows : Topology → Past → Type 0
 TablesHaveRows net past =
     (c p : ℕ) (conn : Conn) → conn_at net c ≡ Some conn → hop_of conn.path p ≢ 0 →
     connection_at (port_table net past p) conn.vc ≡ Some (kept_at conn (facts_of c past) (hop_of conn.path p))
 
 -- A request that is enabled is served as the port that it comes to serves it, and the table after it is that of the past after it.
-abbrev pub RequestsServed : Topology → List ConnectionFact → Type 0
+abbrev pub RequestsServed : Topology → Past → Type 0
 RequestsServed net past =
     (c hop seq p : ℕ) (conn : Conn) (onward : Onward) → conn_at net c ≡ Some conn → hop_of conn.path p ≡ hop →
     outcome_of net past (Request c hop seq) ≡ Requested onward →
@@ -87,7 +86,7 @@ RequestsServed net past =
     (table_after (port_table net past p) (request_of conn.vc (facts_of c past) seq) ≡ port_table net (after_event net past (Request c hop seq)) p)
 
 -- The same of an answer.
-abbrev pub AnswersServed : Topology → List ConnectionFact → Type 0
+abbrev pub AnswersServed : Topology → Past → Type 0
 AnswersServed net past =
     (c hop seq p : ℕ) (granted : Bool) (conn : Conn) (back : Back) → conn_at net c ≡ Some conn → hop_of conn.path p ≡ hop →
     outcome_of net past (Answer c hop seq granted) ≡ Answered back →
@@ -95,7 +94,7 @@ AnswersServed net past =
     (table_after_answer (port_table net past p) (answer_to (request_of conn.vc (facts_of c past) seq) granted) ≡ port_table net (after_event net past (Answer c hop seq granted)) p)
 
 -- The same of a cell, which no port refuses to judge.
-abbrev pub ArrivalsServed : Topology → List ConnectionFact → Type 0
+abbrev pub ArrivalsServed : Topology → Past → Type 0
 ArrivalsServed net past =
     (c cell at p : ℕ) (conn : Conn) (verdict : Verdict) → conn_at net c ≡ Some conn → hop_of conn.path p ≡ 1 →
     outcome_of net past (Arrive c cell at) ≡ Arrived verdict →
@@ -103,6 +102,6 @@ ArrivalsServed net past =
     (table_after_arrival (port_table net past p) conn.vc at ≡ port_table net (after_event net past (Arrive c cell at)) p)
 
 -- A port to which an event doesn't come keeps its table.
-abbrev pub TablesStay : Topology → List ConnectionFact → Type 0
+abbrev pub TablesStay : Topology → Past → Type 0
 TablesStay net past =
     (event : Event) (p : ℕ) → AsksRate event → ¬ Visits net event p → port_table net (after_event net past event) p ≡ port_table net past p

@@ -18,20 +18,19 @@ use Rattle.abt_facts.specs.Source.{rate_of, next_of, yes_was_heard}
 use Rattle.abt_facts.specs.Sent.{was_shut, was_turned, was_back}
 use Rattle.abt_facts.specs.Hop.{newest_of, held_of, is_open_at}
 use Rattle.abt_facts.specs.Cells.{emitted_of, moment_of, cell_rate_of, after_last_of, last_arrival_of, taken_of}
-use Rattle.abt_model.specs.declared.connection_fact.ConnectionFact.{ConnectionFact}
 use Rattle.abt_model.specs.declared.event.Event.{Event}
 use Rattle.abt_model.specs.declared.event.Event.TheVariants.{Arrive, Told}
 use Rattle.abt_model.specs.declared.outcome.Heard.TheVariants.{Raised}
 use Rattle.abt_model.specs.declared.outcome.Outcome.{Outcome}
 use Rattle.abt_model.specs.declared.outcome.Outcome.TheVariants.{Arrived, Requested, Answered, Told as HasTold}
 use Rattle.abt_model.specs.Events.{AsksRate}
-use Rattle.abt_model.specs.Past.{facts_of}
+use Rattle.abt_model.specs.Past.{Past, facts_of}
 use Rattle.abt_model.specs.Outcomes.{outcome_of}
 use Rattle.abt_model.specs.Run.{facts_after}
 
 -- It holds after every list of events over every net within the rules. As each prefix of a list is a list, it holds at every
 -- moment of a run.
-abbrev pub EveryPast : (Topology → List ConnectionFact → Type 0) → Type 0
+abbrev pub EveryPast : (Topology → Past → Type 0) → Type 0
 EveryPast P = (net : Topology) (events : List Event) → IsWithinRules net → All AsksRate events → P net (facts_after net events)
 
 -- a drop because source and port disagree; a message that was merely late isn't one
@@ -47,7 +46,7 @@ disputes (Answered (DropBack cause)) = is_dispute cause
 disputes outcome = false
 
 -- No event is answered by a drop because source and port disagree.
-abbrev pub NeverDisputes : Topology → List ConnectionFact → Type 0
+abbrev pub NeverDisputes : Topology → Past → Type 0
 NeverDisputes net past = (event : Event) → disputes (outcome_of net past event) ≡ false
 
 -- whether a yes to a number was sent anywhere, and whether a no was
@@ -58,42 +57,42 @@ abbrev pub NoWasSent : List Fact → ℕ → Type 0
 NoWasSent facts s = (hop : ℕ) × (was_shut facts s hop ≡ true)
 
 -- No number has both.
-abbrev pub OneAnswerEach : Topology → List ConnectionFact → Type 0
+abbrev pub OneAnswerEach : Topology → Past → Type 0
 OneAnswerEach net past = (c s : ℕ) → YesWasSent (facts_of c past) s → NoWasSent (facts_of c past) s → ⊥
 
 -- Once a request was asked, the rate is at most its floor until a yes to it or to a later number is heard.
-abbrev pub RatesWait : Topology → List ConnectionFact → Type 0
+abbrev pub RatesWait : Topology → Past → Type 0
 RatesWait net past =
     (c q : ℕ) → was_asked (facts_of c past) q ≡ true →
     (rate_of (facts_of c past) ≤ floor_of (facts_of c past) q) ⊎ ((h : ℕ) × (q ≤ h) × (yes_was_heard (facts_of c past) h ≡ true))
 
 -- When a yes raises a source, each hop of its path has that number as its newest, and open.
-abbrev pub YesStandsEverywhere : Topology → List ConnectionFact → Type 0
+abbrev pub YesStandsEverywhere : Topology → Past → Type 0
 YesStandsEverywhere net past =
     (c s : ℕ) (conn : Conn) → conn_at net c ≡ Some conn → outcome_of net past (Told c s true) ≡ HasTold Raised →
     (hop : ℕ) → 1 ≤ hop → hop ≤ length conn.path →
     (newest_of (facts_of c past) hop ≡ s) × (is_open_at (facts_of c past) hop ≡ true)
 
 -- Each cell that arrives is found conforming, and that is its verdict by the windows with the cells taken before it.
-abbrev pub ArrivalsConform : Topology → List ConnectionFact → Type 0
+abbrev pub ArrivalsConform : Topology → Past → Type 0
 ArrivalsConform net past =
     (c cell at : ℕ) (conn : Conn) (verdict : Verdict) → conn_at net c ≡ Some conn → outcome_of net past (Arrive c cell at) ≡ Arrived verdict →
     (verdict ≡ Conforming) × IsVerdictAt conn.tau (taken_of (facts_of c past)) at (held_of (facts_of c past) 1) verdict
 
 -- Once cell n has arrived, the theoretical arrival time that stands for the cells taken is at most its emission, the greatest
 -- delay and the spacing of its rate.
-abbrev pub NextIsDue : Topology → List ConnectionFact → Type 0
+abbrev pub NextIsDue : Topology → Past → Type 0
 NextIsDue net past =
     (c n tat : ℕ) (conn : Conn) → conn_at net c ≡ Some conn → after_last_of (facts_of c past) ≡ n + 1 →
     TatStandsFor (Some tat) (taken_of (facts_of c past)) →
     tat ≤ moment_of (facts_of c past) n + conn.delay + conn.tau + spacing_of (cell_rate_of (facts_of c past) n)
 
 -- Cells are 234 picoseconds apart at least, so their count stays in range.
-abbrev pub CellsAreApart : Topology → List ConnectionFact → Type 0
+abbrev pub CellsAreApart : Topology → Past → Type 0
 CellsAreApart net past = (c : ℕ) → 234 * emitted_of (facts_of c past) ≤ next_of (facts_of c past)
 
 -- An arrival that is enabled meets what a policer asks for: it isn't before the last one, its moment is in range, and a rate is held.
-abbrev pub ArrivalsInRange : Topology → List ConnectionFact → Type 0
+abbrev pub ArrivalsInRange : Topology → Past → Type 0
 ArrivalsInRange net past =
     (c cell at : ℕ) (conn : Conn) (verdict : Verdict) → conn_at net c ≡ Some conn → outcome_of net past (Arrive c cell at) ≡ Arrived verdict →
     (last_arrival_of (facts_of c past) ≤ at) × (at ≤ arrive_max) × (held_of (facts_of c past) 1 ≢ 0)

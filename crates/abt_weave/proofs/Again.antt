@@ -15,7 +15,6 @@ use Rattle.abt_facts.specs.Requests.{floor_of, ask_of}
 use Rattle.abt_facts.specs.Source.{SourceState, Down, Idle, Asking, state_of, rate_of, last_of, clock_of, next_of}
 use Rattle.abt_facts.specs.Sent.{answer_is_home}
 use Rattle.abt_facts.specs.Cells.{emitted_of}
-use Rattle.abt_model.specs.declared.connection_fact.ConnectionFact.{ConnectionFact}
 use Rattle.abt_model.specs.declared.event.Event.{Event}
 use Rattle.abt_model.specs.declared.event.Event.TheVariants.{Start, Ask, Again, Crash, Emit, Told}
 use Rattle.abt_model.specs.declared.outcome.Cause.TheVariants.{ClockBack, NotSent}
@@ -25,7 +24,7 @@ use Rattle.abt_rate.specs.Limits.{emit_max, number_max}
 use Rattle.abt_model.specs.Answers.{if_up, start_answer, stored_answer, ask_answer, again_answer, emit_answer, told_answer, answer_by}
 use Rattle.abt_model.specs.Outcomes.{conn_of, outcome_of}
 use Rattle.abt_source.specs.SourceFacts.{request_of}
-use Rattle.abt_model.specs.Past.{facts_of}
+use Rattle.abt_model.specs.Past.{Past, facts_of}
 use Rattle.abt_model.proofs.Worlds.{outcome_of-known}
 use Rattle.abt_model.specs.Answers.{start_max}
 use Rattle.abt_source.specs.declared.fault.StartFault.TheVariants.{TimeRange as StartTimeRange}
@@ -125,7 +124,7 @@ home_below net rules c conn known less more below seq true home =
 home_below net rules c conn known less more below seq false home =
     shut_below net c conn seq 1 (record { rules = rules; known = known; low = omega arith; high = (let h = (conn_within net rules c conn known).has_hop in omega (arith, h)) }) less more below home
 
-at_source : (net : Topology) (past : List ConnectionFact) (conn : Conn) (event : Event) → conn_at net (conn_of event) ≡ Some conn → is_told event && not (is_enabled (outcome_of net past event)) ≡ false → IsAtSource (facts_of (conn_of event) past) event
+at_source : (net : Topology) (past : Past) (conn : Conn) (event : Event) → conn_at net (conn_of event) ≡ Some conn → is_told event && not (is_enabled (outcome_of net past event)) ≡ false → IsAtSource (facts_of (conn_of event) past) event
 at_source net past conn (Told c seq granted) known on =
     let known_is = outcome_of-known net past (Told c seq granted) conn known in
     home_told (facts_of c past) c seq granted (answer_is_home (facts_of c past) seq granted) (sym (ap is_enabled known_is) ∙ on_is (is_enabled (outcome_of net past (Told c seq granted))) on)

@@ -6,12 +6,11 @@ use Rattle.std.proofs.lemmas.List.{length-append, append-nil}
 use Rattle.std.proofs.lemmas.Option.{slice_get_within, slice_get-get_or}
 use Rattle.abt_net.specs.declared.conn.Conn.{Conn}
 use Rattle.abt_net.specs.Topology.{Topology, IsWithinRules, conn_at}
-use Rattle.abt_model.specs.declared.connection_fact.ConnectionFact.{ConnectionFact}
 use Rattle.abt_model.specs.declared.event.Event.{Event}
 use Rattle.abt_model.specs.declared.event.Event.TheVariants.{Arrive, Request, Turn, Answer, Told}
 use Rattle.abt_model.specs.declared.outcome.Outcome.{Outcome}
 use Rattle.abt_model.specs.Outcomes.{conn_of, outcome_at, outcome_of}
-use Rattle.abt_model.specs.Past.{facts_of}
+use Rattle.abt_model.specs.Past.{Past, facts_of}
 use Rattle.abt_model.proofs.Worlds.{cases_option}
 use Rattle.abt_journal.specs.declared.entry.Entry.{Entry}
 use Rattle.abt_journal.specs.declared.input.PortInput.{PortInput}
@@ -28,13 +27,13 @@ use Rattle.abt_weave.proofs.Numbers.{source_settled, port_settled}
 use Rattle.abt_weave.proofs.PortEvents.{some_same, visit_made, has_reply}
 use Rattle.abt_weave.proofs.PortLooks.{first_hop}
 
-conn_known : (net : Topology) (past : List ConnectionFact) (event : Event) → is_enabled (outcome_of net past event) ≡ true → (conn : Conn) × (conn_at net (conn_of event) ≡ Some conn)
+conn_known : (net : Topology) (past : Past) (event : Event) → is_enabled (outcome_of net past event) ≡ true → (conn : Conn) × (conn_at net (conn_of event) ≡ Some conn)
 conn_known net past event on = elim (cases_option (conn_at net (conn_of event))) [
   | inl unknown ↦ absurd (false≢true (sym (ap (λ (o : Option Conn). is_enabled (outcome_at net past o event)) unknown) ∙ on))
   | inr known ↦ known
 ]
 
-seen_visit : (net : Topology) → IsWithinRules net → (past : List ConnectionFact) (event : Event) → ((conn : Conn) → (input : PortInput) × (input_of conn.vc (facts_of (conn_of event) past) event ≡ Some input)) →
+seen_visit : (net : Topology) → IsWithinRules net → (past : Past) (event : Event) → ((conn : Conn) → (input : PortInput) × (input_of conn.vc (facts_of (conn_of event) past) event ≡ Some input)) →
     is_enabled (outcome_of net past event) ≡ true → visit net past event ≡ None → ⊥
 seen_visit net rules past event brings on none =
     let known = conn_known net past event on in

@@ -7,10 +7,9 @@ use Rattle.abt_net.specs.declared.conn.Conn.{Conn}
 use Rattle.abt_net.specs.Topology.{Topology, IsWithinRules}
 use Rattle.abt_facts.specs.declared.fact.Fact.{Fact}
 use Rattle.abt_actor.specs.Actor.{actor_of}
-use Rattle.abt_model.specs.declared.connection_fact.ConnectionFact.{ConnectionFact}
 use Rattle.abt_model.specs.declared.event.Event.{Event}
 use Rattle.abt_model.specs.Events.{AsksRate}
-use Rattle.abt_model.specs.Past.{facts_of}
+use Rattle.abt_model.specs.Past.{Past, facts_of}
 use Rattle.abt_model.specs.PortTable.{port_table}
 use Rattle.abt_model.specs.Run.{facts_after}
 use Rattle.abt_journal.specs.declared.entry.Entry.{Entry}
@@ -37,13 +36,13 @@ leaves net journals sources events rules rates woven =
     let earlier = reverse events in
     record {
       tables = λ p entries is.
-          ap (λ (past : List ConnectionFact). port_table net past p) (past-is net events)
+          ap (λ (past : Past). port_table net past p) (past-is net events)
           ∙ tables_replayed net rules earlier (all_reversed AsksRate events rates) p
           ∙ ap (replayed (port_table net [] p)) (woven.ports p entries is)
           ∙ sym (replay-steps (port_table net [] p) entries);
       actors = λ c conn journal known is.
           sym (actor_of-own conn.vc (facts_of c (facts_after net events)))
-          ∙ ap (λ (past : List ConnectionFact). actor_of conn.vc (own (facts_of c past))) (past-is net events)
+          ∙ ap (λ (past : Past). actor_of conn.vc (own (facts_of c past))) (past-is net events)
           ∙ ap (actor_of conn.vc) (own_replayed net c earlier)
           ∙ ap (λ (entries : List SourceEntry). actor_of conn.vc (facts_done [] entries)) (woven.conns c journal is);
     }

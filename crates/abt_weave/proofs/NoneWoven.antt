@@ -9,14 +9,13 @@ use Rattle.abt_net.specs.Topology.{Topology, IsWithinRules, conn_at}
 use Rattle.abt_facts.specs.declared.fact.Fact.{Fact}
 use Rattle.abt_facts.specs.declared.fact.Fact.TheVariants.{Turned as FactTurned}
 use Rattle.abt_facts.specs.Sent.{answer_is_at, was_turned, was_passed, was_back, was_shut}
-use Rattle.abt_model.specs.declared.connection_fact.ConnectionFact.{ConnectionFact}
 use Rattle.abt_model.specs.declared.event.Event.{Event}
 use Rattle.abt_model.specs.declared.event.Event.TheVariants.{Arrive, Request, Turn, Answer}
 use Rattle.abt_model.specs.declared.outcome.Cause.TheVariants.{NotSent}
 use Rattle.abt_model.specs.declared.outcome.Outcome.TheVariants.{Turned, NotEnabled}
 use Rattle.abt_model.specs.Events.{AsksRate}
 use Rattle.abt_model.specs.Outcomes.{conn_of, outcome_of, facts_added}
-use Rattle.abt_model.specs.Past.{facts_of}
+use Rattle.abt_model.specs.Past.{Past, facts_of}
 use Rattle.abt_model.proofs.Chain.{turned_passed}
 use Rattle.abt_model.proofs.Lawful.{route_of}
 use Rattle.abt_model.proofs.Served.{conn_within}
@@ -120,7 +119,7 @@ below_on net js ended earlier event below port conn = record {
 }
 
 -- a port that an event comes to is one of the net
-pub visit_low : (net : Topology) → IsWithinRules net → (past : List ConnectionFact) (event : Event) (v : Visit) → visit net past event ≡ Some v → v.port < length net.capacities
+pub visit_low : (net : Topology) → IsWithinRules net → (past : Past) (event : Event) (v : Visit) → visit net past event ≡ Some v → v.port < length net.capacities
 visit_low net rules past event v is =
     let parts = visit_is net past event v is in
     let enabled = reply_enabled (outcome_of net past event) v.reply parts.reply in

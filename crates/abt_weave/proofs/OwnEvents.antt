@@ -4,10 +4,10 @@ use Rattle.std.specs.Prelude.{◌==◌, ◌&&◌, ◌||◌, ◌-◌, not, if◌t
 use Rattle.std.proofs.lemmas.Bool.{cond-true, eq-eqb, eqb-true, false≢true}
 use Rattle.abt_cell.specs.Channel.{Channel}
 use Rattle.abt_cell.specs.Message.{Terms}
+use Rattle.abt_source.specs.SourceFacts.{request_of}
 use Rattle.abt_net.specs.declared.conn.Conn.{Conn}
 use Rattle.abt_net.specs.Topology.{Topology, conn_at}
 use Rattle.abt_facts.specs.declared.fact.Fact.{Fact}
-use Rattle.abt_model.specs.declared.connection_fact.ConnectionFact.{ConnectionFact}
 use Rattle.abt_model.specs.declared.event.Event.{Event}
 use Rattle.abt_model.specs.declared.target.SourceEvent.{SourceEvent}
 use Rattle.abt_model.specs.declared.target.HopEvent.{HopEvent}
@@ -20,7 +20,7 @@ use Rattle.abt_journal.specs.declared.input.PortInput.{PortInput}
 use Rattle.abt_journal.specs.declared.input.PortReply.{PortReply}
 use Rattle.abt_source_journal.specs.declared.entry.SourceEntry.{SourceEntry}
 use Rattle.abt_source_journal.specs.declared.entry.SourceEntry.TheVariants.{Did, Sent}
-use Rattle.abt_model.specs.Past.{facts_of}
+use Rattle.abt_model.specs.Past.{Past, facts_of}
 use Rattle.abt_model.specs.Targets.{target_of, event_at, event_at_source, conn_in}
 use Rattle.abt_model.proofs.Targets.{event_there}
 use Rattle.abt_model.specs.PortTable.{hop_visited}
@@ -31,7 +31,7 @@ use Rattle.abt_weave.specs.Candidates.{is_at_source, is_own_of, is_told_in, is_t
 use Rattle.abt_weave.specs.Board.{IsSourceSettled}
 
 -- an event that brings nothing to a port comes to none
-pub unvisited_by : (past : List ConnectionFact) (event : Event) → ((conn : Conn) (facts : List Fact) → input_of conn.vc facts event ≡ None) → (r : Option PortReply) (o : Option Conn) → visit_by past event r o ≡ None
+pub unvisited_by : (past : Past) (event : Event) → ((conn : Conn) (facts : List Fact) → input_of conn.vc facts event ≡ None) → (r : Option PortReply) (o : Option Conn) → visit_by past event r o ≡ None
 unvisited_by past event none r None = refl
 unvisited_by past event none None (Some conn) = refl
 unvisited_by past event none (Some reply) (Some conn) =
@@ -42,7 +42,7 @@ own_input c (Source d x) h vc request = refl
 own_input c other h vc request = absurd (false≢true h)
 
 -- it comes to no port
-pub own_visit : (net : Topology) (past : List ConnectionFact) (c : ℕ) (event : Event) → is_own_of c event ≡ true → visit net past event ≡ None
+pub own_visit : (net : Topology) (past : Past) (c : ℕ) (event : Event) → is_own_of c event ≡ true → visit net past event ≡ None
 own_visit net past c event own = unvisited_by past event (λ conn facts. own_input c (target_of event) own conn.vc (request_of conn.vc facts)) (reply_of (outcome_of net past event)) (conn_at net (conn_of event))
 
 own_number : (c : ℕ) (t : Target) → is_at_source c t ≡ true → conn_in t ≡ c

@@ -2,7 +2,7 @@
 use Rattle.std.proofs.Common.{◌≡◌, ap, refl, List, [], ◌∷◌, ◌++◌, ◌∙◌, sym, reverse}
 use Rattle.std.proofs.lemmas.List.{reverse-append, reverse-reverse}
 use Rattle.abt_net.specs.Topology.{Topology}
-use Rattle.abt_model.specs.declared.connection_fact.ConnectionFact.{ConnectionFact}
+use Rattle.abt_model.specs.Past.{Past}
 use Rattle.abt_model.specs.declared.event.Event.{Event}
 use Rattle.abt_model.specs.Outcomes.{after_event}
 use Rattle.abt_model.specs.Run.{facts_after}
@@ -14,7 +14,7 @@ past-reversed net [] = refl
 past-reversed net (event ∷ earlier) =
     ap (facts_after net) (reverse-append (event ∷ []) earlier)
     ∙ facts_from_push net [] (reverse earlier) event
-    ∙ ap (λ (past : List ConnectionFact). after_event net past event) (past-reversed net earlier)
+    ∙ ap (λ (past : Past). after_event net past event) (past-reversed net earlier)
 
 pub past-is : (net : Topology) (events : List Event) → facts_after net events ≡ past_of net (reverse events)
 past-is net events = ap (facts_after net) (sym (reverse-reverse events)) ∙ past-reversed net (reverse events)

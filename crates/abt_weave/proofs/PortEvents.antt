@@ -9,7 +9,6 @@ use Rattle.abt_net.specs.Topology.{Topology, conn_at}
 use Rattle.abt_facts.specs.declared.fact.Fact.{Fact}
 use Rattle.abt_facts.specs.Requests.{ask_of}
 use Rattle.abt_facts.specs.Sent.{request_is_at, answer_is_at}
-use Rattle.abt_model.specs.declared.connection_fact.ConnectionFact.{ConnectionFact}
 use Rattle.abt_model.specs.declared.event.Event.{Event}
 use Rattle.abt_model.specs.declared.event.Event.TheVariants.{Arrive, Request, Answer}
 use Rattle.abt_gcra.specs.declared.verdict.Verdict.{Verdict}
@@ -22,7 +21,7 @@ use Rattle.abt_model.specs.Answers.{is_hop, answer_by, arrive_answer}
 use Rattle.abt_model.specs.Decision.{request_decision, answer_decision}
 use Rattle.abt_model.specs.Outcomes.{conn_of, port_of, outcome_of}
 use Rattle.abt_source.specs.SourceFacts.{request_of}
-use Rattle.abt_model.specs.Past.{facts_of}
+use Rattle.abt_model.specs.Past.{Past, facts_of}
 use Rattle.abt_model.specs.Reserved.{reserved_on}
 use Rattle.abt_model.proofs.Worlds.{outcome_of-known}
 use Rattle.abt_model.specs.PortTable.{hop_visited}
@@ -50,7 +49,7 @@ told_same net earlier vc (Answer c hop seq granted) =
 told_same net earlier vc other = refl
 
 -- A visit is of an event that comes to the port of its hop.
-pub record IsVisit (net : Topology) (past : List ConnectionFact) (event : Event) (v : Visit) : Type 0 where
+pub record IsVisit (net : Topology) (past : Past) (event : Event) (v : Visit) : Type 0 where
   pub conn : Conn
   pub known : conn_at net (conn_of event) ≡ Some conn
   pub port : slice_index conn.path (hop_visited event - 1) ≡ v.port
@@ -61,7 +60,7 @@ mapped : {A B : Type 0} → (f : A → B) (o : Option A) (y : B) → option_map 
 mapped f None y h = absurd (cc)
 mapped f (Some x) y h = (x, refl, cc)
 
-visit_parts : (net : Topology) (past : List ConnectionFact) (event : Event) (v : Visit) (r : Option PortReply) (o : Option Conn) → reply_of (outcome_of net past event) ≡ r → conn_at net (conn_of event) ≡ o →
+visit_parts : (net : Topology) (past : Past) (event : Event) (v : Visit) (r : Option PortReply) (o : Option Conn) → reply_of (outcome_of net past event) ≡ r → conn_at net (conn_of event) ≡ o →
     visit_by past event r o ≡ Some v → IsVisit net past event v
 visit_parts net past event v r None re known h = absurd (cc)
 visit_parts net past event v None (Some conn) re known h = absurd (cc)
@@ -76,14 +75,14 @@ visit_parts net past event v (Some reply) (Some conn) re known h =
       reply = re ∙ ap (λ (w : Visit). Some w.reply) (sym parts.2);
     }
 
-pub visit_is : (net : Topology) (past : List ConnectionFact) (event : Event) (v : Visit) → visit net past event ≡ Some v → IsVisit net past event v
+pub visit_is : (net : Topology) (past : Past) (event : Event) (v : Visit) → visit net past event ≡ Some v → IsVisit net past event v
 visit_is net past event v h = visit_parts net past event v (reply_of (outcome_of net past event)) (conn_at net (conn_of event)) refl refl h
 
 pub some_same : {A : Type 0} → {x y : A} → Some x ≡ Some y → x ≡ y
 some_same h = cc
 
 -- and the other way round
-pub visit_made : (net : Topology) (past : List ConnectionFact) (event : Event) (conn : Conn) (input : PortInput) (reply : PortReply) → conn_at net (conn_of event) ≡ Some conn →
+pub visit_made : (net : Topology) (past : Past) (event : Event) (conn : Conn) (input : PortInput) (reply : PortReply) → conn_at net (conn_of event) ≡ Some conn →
     input_of conn.vc (facts_of (conn_of event) past) event ≡ Some input → reply_of (outcome_of net past event) ≡ Some reply →
     visit net past event ≡ Some (record { port = slice_index conn.path (hop_visited event - 1); input = input; reply = reply })
 visit_made net past event conn input reply known brings re =
@@ -134,7 +133,7 @@ by_reply conn r u facts (Answer c hop seq granted) input one brings h = answer_r
 by_reply conn r u facts (Arrive c cell at) input one brings h = arrived_reply conn facts c cell at one h
 by_reply conn r u facts other input one brings h = absurd (cc)
 
-pub has_reply : (net : Topology) (past : List ConnectionFact) (event : Event) (conn : Conn) (input : PortInput) → conn_at net (conn_of event) ≡ Some conn → is_hop (length conn.path) 1 ≡ true →
+pub has_reply : (net : Topology) (past : Past) (event : Event) (conn : Conn) (input : PortInput) → conn_at net (conn_of event) ≡ Some conn → is_hop (length conn.path) 1 ≡ true →
     input_of conn.vc (facts_of (conn_of event) past) event ≡ Some input → is_enabled (outcome_of net past event) ≡ true → HasReply conn (outcome_of net past event) event
 has_reply net past event conn input known one brings h =
     let is = outcome_of-known net past event conn known in

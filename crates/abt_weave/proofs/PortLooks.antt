@@ -11,11 +11,10 @@ use Rattle.abt_net.specs.declared.conn.Conn.{Conn}
 use Rattle.abt_net.specs.Topology.{Topology, IsConnWithin, IsWithinRules, conn_at}
 use Rattle.abt_model.specs.declared.event.Event.{Event}
 use Rattle.abt_model.specs.declared.event.Event.TheVariants.{Turn, Answer}
-use Rattle.abt_model.specs.declared.connection_fact.ConnectionFact.{ConnectionFact}
 use Rattle.abt_facts.specs.Sent.{request_is_through}
 use Rattle.abt_model.specs.declared.outcome.Cause.TheVariants.{NotSent}
 use Rattle.abt_model.specs.declared.outcome.Outcome.TheVariants.{Turned, NotEnabled}
-use Rattle.abt_model.specs.Past.{facts_of}
+use Rattle.abt_model.specs.Past.{Past, facts_of}
 use Rattle.abt_model.specs.Answers.{is_hop}
 use Rattle.abt_model.specs.Outcomes.{conn_of, outcome_at, outcome_of}
 use Rattle.abt_model.specs.Run.{facts_after}
@@ -195,11 +194,11 @@ turn_answer : (b : Bool) → is_enabled (if not b then NotEnabled NotSent else T
 turn_answer true h = refl
 turn_answer false h = absurd (false≢true h)
 
-turn_by : (net : Topology) (past : List ConnectionFact) (c seq : ℕ) (o : Option Conn) → is_enabled (outcome_at net past o (Turn c seq)) ≡ true → outcome_at net past o (Turn c seq) ≡ Turned
+turn_by : (net : Topology) (past : Past) (c seq : ℕ) (o : Option Conn) → is_enabled (outcome_at net past o (Turn c seq)) ≡ true → outcome_at net past o (Turn c seq) ≡ Turned
 turn_by net past c seq None h = absurd (false≢true h)
 turn_by net past c seq (Some conn) h = turn_answer (request_is_through (length conn.path) (facts_of c past) seq) h
 
-pub turn_turned : (net : Topology) (past : List ConnectionFact) (event turn : Event) → IsTurnOf net event turn → is_enabled (outcome_of net past turn) ≡ true → outcome_of net past turn ≡ Turned
+pub turn_turned : (net : Topology) (past : Past) (event turn : Event) → IsTurnOf net event turn → is_enabled (outcome_of net past turn) ≡ true → outcome_of net past turn ≡ Turned
 turn_turned net past event turn its on =
     ap (outcome_of net past) its.turn_is
     ∙ turn_by net past its.c its.seq (conn_at net its.c) (ap (λ e. is_enabled (outcome_of net past e)) (sym its.turn_is) ∙ on)
@@ -305,7 +304,7 @@ expected_differs net js events sp p place input reply c reached event it on diff
     (subst (λ w. reply_of (outcome_of net w event) ≢ Some reply) (past-is net events) differ)
 
 -- its Turn isn't one
-pub turn_off : (net : Topology) (past : List ConnectionFact) (event turn : Event) → IsTurnOf net event turn → is_enabled (outcome_of net past turn) ≡ false →
+pub turn_off : (net : Topology) (past : Past) (event turn : Event) → IsTurnOf net event turn → is_enabled (outcome_of net past turn) ≡ false →
     (d seq : ℕ) → IsYes net event d seq → outcome_of net past (Turn d seq) ≡ Turned → ⊥
 turn_off net past event turn its off d seq also happens =
     false≢true (sym off ∙ ap (λ e. is_enabled (outcome_of net past e)) (sym (same_turn net event turn d seq its also)) ∙ ap is_enabled happens)

@@ -14,7 +14,6 @@ use Rattle.abt_facts.specs.declared.fact.Fact.{Fact}
 use Rattle.abt_facts.specs.Sent.{request_is_at, answer_is_at}
 use Rattle.abt_facts.specs.Cells.{emitted_of, fence_of, is_in_time, last_arrival_of, verdict_at}
 use Rattle.abt_facts.specs.Hop.{held_of}
-use Rattle.abt_model.specs.declared.connection_fact.ConnectionFact.{ConnectionFact}
 use Rattle.abt_model.specs.declared.event.Event.{Event}
 use Rattle.abt_model.specs.declared.event.Event.TheVariants.{Arrive, Request, Answer}
 use Rattle.abt_model.specs.declared.outcome.Cause.TheVariants.{Unknown, NotSent, Fenced, Delay, ClockBack}
@@ -26,7 +25,7 @@ use Rattle.abt_cell.specs.Message.{answer_to}
 use Rattle.abt_source.specs.SourceFacts.{request_of}
 use Rattle.abt_model.specs.Events.{AsksRate}
 use Rattle.abt_model.specs.Outcomes.{conn_of, port_of, outcome_of, facts_added, after_event}
-use Rattle.abt_model.specs.Past.{facts_of, with_facts}
+use Rattle.abt_model.specs.Past.{Past, facts_of, with_facts}
 use Rattle.abt_model.specs.PortTable.{port_table, hop_visited, Visits}
 use Rattle.abt_model.specs.Reserved.{reserved_on}
 use Rattle.abt_net.specs.Paths.{hop_of}
@@ -60,11 +59,11 @@ past_lawful net [] rates = nothing_lawful net
 past_lawful net (event ∷ earlier) rates = after_event_lawful net (past_of net earlier) (past_lawful net earlier (others_ask event earlier rates)) event (first_asks event earlier rates)
 
 -- an event that brings nothing comes to no port
-pub no_visit : (net : Topology) (past : List ConnectionFact) (event : Event) → ((vc : Channel) (facts : List Fact) → input_of vc facts event ≡ None) → visit net past event ≡ None
+pub no_visit : (net : Topology) (past : Past) (event : Event) → ((vc : Channel) (facts : List Fact) → input_of vc facts event ≡ None) → visit net past event ≡ None
 no_visit net past event none = unvisited_by past event (λ conn facts. none conn.vc facts) (reply_of (outcome_of net past event)) (conn_at net (conn_of event))
 
 -- the hop of the port that an event comes to
-pub hop_here : (net : Topology) (past : List ConnectionFact) → IsWithinRules net → (event : Event) (v : Visit) → (parts : IsVisit net past event v) → hop_of parts.conn.path v.port ≡ hop_visited event
+pub hop_here : (net : Topology) (past : Past) → IsWithinRules net → (event : Event) (v : Visit) → (parts : IsVisit net past event v) → hop_of parts.conn.path v.port ≡ hop_visited event
 hop_here net past rules event v parts =
     let enabled = reply_enabled (outcome_of net past event) v.reply parts.reply in
     let reply = has_reply net past event parts.conn v.input parts.known (first_hop net rules (conn_of event) parts.conn parts.known) parts.input enabled in
@@ -95,7 +94,7 @@ arrived_by true false true true v reply h = absurd (cc)
 arrived_by true false true false v reply h = refl
 
 -- what comes to a port answers as its kind does
-pub request_said : (net : Topology) (past : List ConnectionFact) (c hop seq : ℕ) (v : Visit) → visit net past (Request c hop seq) ≡ Some v → (onward : Onward) × (outcome_of net past (Request c hop seq) ≡ Requested onward)
+pub request_said : (net : Topology) (past : Past) (c hop seq : ℕ) (v : Visit) → visit net past (Request c hop seq) ≡ Some v → (onward : Onward) × (outcome_of net past (Request c hop seq) ≡ Requested onward)
 request_said net past c hop seq v is =
     let event = Request c hop seq in
     let parts = visit_is net past event v is in
@@ -105,7 +104,7 @@ request_said net past c hop seq v is =
     let onward = request_decision facts (reserved_on net past (port_of conn.path event)) (slice_index net.capacities (port_of conn.path event)) hop (request_of conn.vc facts seq) in
     (onward, known ∙ requested_by (is_hop (length conn.path) hop) (request_is_at facts seq hop) onward v.reply (ap reply_of (sym known) ∙ parts.reply))
 
-pub answer_said : (net : Topology) (past : List ConnectionFact) (c hop seq : ℕ) (granted : Bool) (v : Visit) → visit net past (Answer c hop seq granted) ≡ Some v → (back : Back) × (outcome_of net past (Answer c hop seq granted) ≡ Answered back)
+pub answer_said : (net : Topology) (past : Past) (c hop seq : ℕ) (granted : Bool) (v : Visit) → visit net past (Answer c hop seq granted) ≡ Some v → (back : Back) × (outcome_of net past (Answer c hop seq granted) ≡ Answered back)
 answer_said net past c hop seq granted v is =
     let event = Answer c hop seq granted in
     let parts = visit_is net past event v is in
@@ -115,7 +114,7 @@ answer_said net past c hop seq granted v is =
     let back = answer_decision facts hop (answer_to (request_of conn.vc facts seq) granted) in
     (back, known ∙ answered_by (is_hop (length conn.path) hop) (answer_is_at (length conn.path) facts seq hop granted) back v.reply (ap reply_of (sym known) ∙ parts.reply))
 
-pub arrival_said : (net : Topology) (past : List ConnectionFact) (c cell at : ℕ) (v : Visit) → visit net past (Arrive c cell at) ≡ Some v → (verdict : Verdict) × (outcome_of net past (Arrive c cell at) ≡ Arrived verdict)
+pub arrival_said : (net : Topology) (past : Past) (c cell at : ℕ) (v : Visit) → visit net past (Arrive c cell at) ≡ Some v → (verdict : Verdict) × (outcome_of net past (Arrive c cell at) ≡ Arrived verdict)
 arrival_said net past c cell at v is =
     let event = Arrive c cell at in
     let parts = visit_is net past event v is in
@@ -126,10 +125,10 @@ arrival_said net past c cell at v is =
     (verdict, known ∙ arrived_by (nat_lt cell (emitted_of facts)) (nat_lt cell (fence_of facts)) (is_in_time conn.delay conn.tau facts cell at) (nat_lt at (last_arrival_of facts)) verdict v.reply (ap reply_of (sym known) ∙ parts.reply))
 
 -- What comes to a port is replied to by its table, and makes of it what its input does.
-abbrev pub IsServed : Topology → List ConnectionFact → Event → Visit → Type 0
+abbrev pub IsServed : Topology → Past → Event → Visit → Type 0
 IsServed net past event v = (v.reply ≡ reply_by (port_table net past v.port) v.input) × (port_table net (after_event net past event) v.port ≡ table_after (port_table net past v.port) v.input)
 
-request_made : (net : Topology) (past : List ConnectionFact) → IsWithinRules net → AllLawful net past → (c hop seq : ℕ) (v : Visit) → visit net past (Request c hop seq) ≡ Some v → IsServed net past (Request c hop seq) v
+request_made : (net : Topology) (past : Past) → IsWithinRules net → AllLawful net past → (c hop seq : ℕ) (v : Visit) → visit net past (Request c hop seq) ≡ Some v → IsServed net past (Request c hop seq) v
 request_made net past rules lawful c hop seq v is =
     let event = Request c hop seq in
     let parts = visit_is net past event v is in
@@ -141,7 +140,7 @@ request_made net past rules lawful c hop seq v is =
       sym served.1 ∙ ap (table_after table) input,
     )
 
-answer_made : (net : Topology) (past : List ConnectionFact) → IsWithinRules net → AllLawful net past → (c hop seq : ℕ) (granted : Bool) (v : Visit) → visit net past (Answer c hop seq granted) ≡ Some v → IsServed net past (Answer c hop seq granted) v
+answer_made : (net : Topology) (past : Past) → IsWithinRules net → AllLawful net past → (c hop seq : ℕ) (granted : Bool) (v : Visit) → visit net past (Answer c hop seq granted) ≡ Some v → IsServed net past (Answer c hop seq granted) v
 answer_made net past rules lawful c hop seq granted v is =
     let event = Answer c hop seq granted in
     let parts = visit_is net past event v is in
@@ -153,7 +152,7 @@ answer_made net past rules lawful c hop seq granted v is =
       sym served.1 ∙ ap (table_after table) input,
     )
 
-arrival_made : (net : Topology) (past : List ConnectionFact) → IsWithinRules net → AllLawful net past → (c cell at : ℕ) (v : Visit) → visit net past (Arrive c cell at) ≡ Some v → IsServed net past (Arrive c cell at) v
+arrival_made : (net : Topology) (past : Past) → IsWithinRules net → AllLawful net past → (c cell at : ℕ) (v : Visit) → visit net past (Arrive c cell at) ≡ Some v → IsServed net past (Arrive c cell at) v
 arrival_made net past rules lawful c cell at v is =
     let event = Arrive c cell at in
     let parts = visit_is net past event v is in
@@ -165,14 +164,14 @@ arrival_made net past rules lawful c cell at v is =
       sym served.1 ∙ ap (table_after table) input,
     )
 
-pub event_made : (net : Topology) (past : List ConnectionFact) → IsWithinRules net → AllLawful net past → (event : Event) (v : Visit) → visit net past event ≡ Some v → IsServed net past event v
+pub event_made : (net : Topology) (past : Past) → IsWithinRules net → AllLawful net past → (event : Event) (v : Visit) → visit net past event ≡ Some v → IsServed net past event v
 event_made net past rules lawful (Request c hop seq) v is = request_made net past rules lawful c hop seq v is
 event_made net past rules lawful (Answer c hop seq granted) v is = answer_made net past rules lawful c hop seq granted v is
 event_made net past rules lawful (Arrive c cell at) v is = arrival_made net past rules lawful c cell at v is
 event_made net past rules lawful other v is = (let none = no_visit net past other (λ vc facts. refl) in absurd (cc))
 
 -- what comes to another port leaves a table
-elsewhere : (net : Topology) (past : List ConnectionFact) (event : Event) (v : Visit) (p : ℕ) → IsVisit net past event v → v.port ≢ p → ¬ Visits net event p
+elsewhere : (net : Topology) (past : Past) (event : Event) (v : Visit) (p : ℕ) → IsVisit net past event v → v.port ≢ p → ¬ Visits net event p
 elsewhere net past event v p parts differ visits =
     let same : visits.0 ≡ parts.conn = some_same (sym visits.1 ∙ parts.known) in
     let hop : hop_of parts.conn.path p ≡ hop_visited event = subst (λ (conn : Conn). hop_of conn.path p ≡ hop_visited event) same visits.3 in
@@ -190,7 +189,7 @@ no_reply facts vc (Arrive c cell at) (Arrived verdict) input h none = absurd (cc
 no_reply facts vc (Arrive c cell at) other input h none = refl
 no_reply facts vc other outcome input h none = absurd (cc)
 
-nothing_past : (net : Topology) (past : List ConnectionFact) (event : Event) → ((vc : Channel) (facts : List Fact) → (input : PortInput) × (input_of vc facts event ≡ Some input)) → visit net past event ≡ None → after_event net past event ≡ past
+nothing_past : (net : Topology) (past : Past) (event : Event) → ((vc : Channel) (facts : List Fact) → (input : PortInput) × (input_of vc facts event ≡ Some input)) → visit net past event ≡ None → after_event net past event ≡ past
 nothing_past net past event brings none = elim (cases_option (conn_at net (conn_of event))) [
   | inl unknown ↦ after_event-unknown net past event unknown
   | inr known ↦ (
@@ -203,19 +202,19 @@ nothing_past net past event brings none = elim (cases_option (conn_at net (conn_
 ]
 
 -- an event of a source, or a Turn, comes to no port
-stays : (net : Topology) (past : List ConnectionFact) → IsWithinRules net → AllLawful net past → (event : Event) → AsksRate event → hop_visited event ≡ 0 → (p : ℕ) →
+stays : (net : Topology) (past : Past) → IsWithinRules net → AllLawful net past → (event : Event) → AsksRate event → hop_visited event ≡ 0 → (p : ℕ) →
     port_table net (after_event net past event) p ≡ port_table net past p
 stays net past rules lawful event rate zero p = tables_stay net past rules lawful event p rate (λ visits. (let low = visits.2 in omega (arith, low, zero)))
 
-unvisited : (net : Topology) (past : List ConnectionFact) → IsWithinRules net → AllLawful net past → (event : Event) → AsksRate event → (p : ℕ) → visit net past event ≡ None →
+unvisited : (net : Topology) (past : Past) → IsWithinRules net → AllLawful net past → (event : Event) → AsksRate event → (p : ℕ) → visit net past event ≡ None →
     port_table net (after_event net past event) p ≡ port_table net past p
-unvisited net past rules lawful (Request c hop seq) rate p none = ap (λ (w : List ConnectionFact). port_table net w p) (nothing_past net past (Request c hop seq) (λ vc facts. (_, refl)) none)
-unvisited net past rules lawful (Answer c hop seq granted) rate p none = ap (λ (w : List ConnectionFact). port_table net w p) (nothing_past net past (Answer c hop seq granted) (λ vc facts. (_, refl)) none)
-unvisited net past rules lawful (Arrive c cell at) rate p none = ap (λ (w : List ConnectionFact). port_table net w p) (nothing_past net past (Arrive c cell at) (λ vc facts. (_, refl)) none)
+unvisited net past rules lawful (Request c hop seq) rate p none = ap (λ (w : Past). port_table net w p) (nothing_past net past (Request c hop seq) (λ vc facts. (_, refl)) none)
+unvisited net past rules lawful (Answer c hop seq granted) rate p none = ap (λ (w : Past). port_table net w p) (nothing_past net past (Answer c hop seq granted) (λ vc facts. (_, refl)) none)
+unvisited net past rules lawful (Arrive c cell at) rate p none = ap (λ (w : Past). port_table net w p) (nothing_past net past (Arrive c cell at) (λ vc facts. (_, refl)) none)
 unvisited net past rules lawful other rate p none = stays net past rules lawful other rate refl p
 
 -- what one event makes of a table is what its step there does
-pub one_step : (net : Topology) (past : List ConnectionFact) → IsWithinRules net → AllLawful net past → (event : Event) → AsksRate event → (p place : ℕ) →
+pub one_step : (net : Topology) (past : Past) → IsWithinRules net → AllLawful net past → (event : Event) → AsksRate event → (p place : ℕ) →
     port_table net (after_event net past event) p ≡ replayed (port_table net past p) (step_at p place (visit net past event))
 one_step net past rules lawful event rate p place = elim (cases_option (visit net past event)) [
   | inl none ↦ unvisited net past rules lawful event rate p none ∙ ap (λ (o : Option Visit). replayed (port_table net past p) (step_at p place o)) (sym none)

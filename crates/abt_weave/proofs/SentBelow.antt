@@ -18,7 +18,6 @@ use Rattle.abt_net.specs.Topology.{Topology, IsWithinRules, conn_at}
 use Rattle.abt_facts.specs.declared.fact.Fact.{Fact}
 use Rattle.abt_facts.specs.declared.fact.Fact.TheVariants.{Started as FactStarted, Crashed as FactCrashed, Stored, Asked as FactAsked, Heard as FactHeard, Emitted as FactEmitted, Delivered, Passed, Shut, Turned as FactTurned, Back as FactBack, Arrived as FactArrived}
 use Rattle.abt_facts.specs.Sent.{is_sending, was_passed, was_shut, was_back}
-use Rattle.abt_model.specs.declared.connection_fact.ConnectionFact.{ConnectionFact}
 use Rattle.abt_model.specs.declared.event.Event.{Event}
 use Rattle.abt_model.specs.declared.event.Event.TheVariants.{Start, Ask, Crash, Emit, Arrive, Request, Turn, Answer, Told}
 use Rattle.abt_model.specs.declared.outcome.Heard.TheVariants.{Raised, Refused}
@@ -26,7 +25,7 @@ use Rattle.abt_model.specs.declared.outcome.Outcome.{Outcome}
 use Rattle.abt_model.specs.declared.outcome.Outcome.TheVariants.{Started, Asked, AskRefused, Crashed, Emitted, Arrived, Requested, Turned, Answered, Told as HasTold}
 use Rattle.abt_model.specs.Outcomes.{conn_of, outcome_of, facts_added, after_event}
 use Rattle.abt_source.specs.SourceFacts.{request_of}
-use Rattle.abt_model.specs.Past.{facts_of}
+use Rattle.abt_model.specs.Past.{Past, facts_of}
 use Rattle.abt_net.specs.Paths.{hop_of}
 use Rattle.abt_model.proofs.Served.{conn_within}
 use Rattle.abt_model.proofs.Worlds.{cases_option, facts_of-own, facts_of-other}
@@ -156,12 +155,12 @@ step_new net p M earlier event v is here m = subst (λ q. HasStep net q M (event
 
 -- An event that adds such a fact makes such a step, and the other way round.
 pub record IsLeft (net : Topology) (c p : ℕ) (test : Fact → Bool) (M : Leaving) : Type 0 where
-  pub makes : (past : List ConnectionFact) (event : Event) → conn_of event ≡ c → list_any test (facts_added (facts_of c past) event (outcome_of net past event)) ≡ true →
+  pub makes : (past : Past) (event : Event) → conn_of event ≡ c → list_any test (facts_added (facts_of c past) event (outcome_of net past event)) ≡ true →
       (v : Visit) × (visit net past event ≡ Some v) × (v.port ≡ p) × M v.input v.reply
-  pub adds : (past : List ConnectionFact) (event : Event) (v : Visit) → visit net past event ≡ Some v → v.port ≡ p → M v.input v.reply →
+  pub adds : (past : Past) (event : Event) (v : Visit) → visit net past event ≡ Some v → v.port ≡ p → M v.input v.reply →
       (conn_of event ≡ c) × (list_any test (facts_added (facts_of c past) event (outcome_of net past event)) ≡ true)
 
-own_facts : (net : Topology) (past : List ConnectionFact) (event : Event) (c : ℕ) → conn_of event ≡ c → facts_of c (after_event net past event) ≡ facts_added (facts_of c past) event (outcome_of net past event) ++ facts_of c past
+own_facts : (net : Topology) (past : Past) (event : Event) (c : ℕ) → conn_of event ≡ c → facts_of c (after_event net past event) ≡ facts_added (facts_of c past) event (outcome_of net past event) ++ facts_of c past
 own_facts net past event c same = subst (λ d. facts_of d (after_event net past event) ≡ facts_added (facts_of d past) event (outcome_of net past event) ++ facts_of d past) same (facts_of-own net past event)
 
 fact_step : (net : Topology) (c p : ℕ) (test : Fact → Bool) (M : Leaving) → IsLeft net c p test M → (earlier : List Event) → list_any test (facts_of c (past_of net earlier)) ≡ true → HasStep net p M earlier
@@ -178,7 +177,7 @@ fact_step net c p test M left (event ∷ earlier) h =
           ])
     ]
 
-facts_kept : (net : Topology) (c : ℕ) (test : Fact → Bool) (past : List ConnectionFact) (event : Event) → list_any test (facts_of c past) ≡ true → list_any test (facts_of c (after_event net past event)) ≡ true
+facts_kept : (net : Topology) (c : ℕ) (test : Fact → Bool) (past : Past) (event : Event) → list_any test (facts_of c past) ≡ true → list_any test (facts_of c (after_event net past event)) ≡ true
 facts_kept net c test past event h = elim (cases_eq (conn_of event) c) [
   | inr differ ↦ ap (list_any test) (facts_of-other net past event c differ) ∙ h
   | inl same ↦ ap (list_any test) (own_facts net past event c same) ∙ any_rest test (facts_added (facts_of c past) event (outcome_of net past event)) (facts_of c past) h
@@ -266,7 +265,7 @@ own_hop net c conn j its =
     hop_at conn.path (j - 1) (conn_within net its.rules c conn its.known).visits_once (omega (arith, its.low, its.high)) ∙ back
 
 -- what comes to the port of that hop, and is about the connection, comes to that hop
-located : (net : Topology) (c : ℕ) (conn : Conn) (j : ℕ) → IsHopOf net c conn j → (past : List ConnectionFact) (event : Event) (v : Visit) → (parts : IsVisit net past event v) → v.port ≡ slice_index conn.path (j - 1) → parts.conn.vc ≡ conn.vc →
+located : (net : Topology) (c : ℕ) (conn : Conn) (j : ℕ) → IsHopOf net c conn j → (past : Past) (event : Event) (v : Visit) → (parts : IsVisit net past event v) → v.port ≡ slice_index conn.path (j - 1) → parts.conn.vc ≡ conn.vc →
     (conn_of event ≡ c) × (hop_visited event ≡ j)
 located net c conn j its past event v parts here channel =
     let whose = own_number net its.rules (conn_of event) c parts.conn conn parts.known its.known channel in
@@ -282,14 +281,14 @@ both_true a b c d one other = ap (λ x. x && c == d) (eq-eqb a b one) ∙ eq-eqb
 first_true : (a b : Bool) → a ≡ true → (a || b) ≡ true
 first_true a b h = ap (λ x. x || b) h
 
-request_visit : (net : Topology) (past : List ConnectionFact) (c : ℕ) (conn : Conn) (event : Event) (d hop seq : ℕ) (onward : Onward) → conn_at net c ≡ Some conn → conn_of event ≡ c → event ≡ Request d hop seq → outcome_of net past event ≡ Requested onward →
+request_visit : (net : Topology) (past : Past) (c : ℕ) (conn : Conn) (event : Event) (d hop seq : ℕ) (onward : Onward) → conn_at net c ≡ Some conn → conn_of event ≡ c → event ≡ Request d hop seq → outcome_of net past event ≡ Requested onward →
     visit net past event ≡ Some (record { port = slice_index conn.path (hop - 1); input = RequestIn (request_of conn.vc (facts_of (conn_of event) past) seq); reply = RequestedOut onward })
 request_visit net past c conn event d hop seq onward known whose is said =
     visit_made net past event conn (RequestIn (request_of conn.vc (facts_of (conn_of event) past) seq)) (RequestedOut onward) (ap (conn_at net) whose ∙ known)
     (ap (input_of conn.vc (facts_of (conn_of event) past)) is) (ap reply_of said)
     ∙ ap (λ e. Some (let w : Visit = record { port = slice_index conn.path (hop_visited e - 1); input = RequestIn (request_of conn.vc (facts_of (conn_of event) past) seq); reply = RequestedOut onward } in w)) is
 
-answer_visit : (net : Topology) (past : List ConnectionFact) (c : ℕ) (conn : Conn) (event : Event) (d hop seq : ℕ) (granted : Bool) (back : Back) → conn_at net c ≡ Some conn → conn_of event ≡ c → event ≡ Answer d hop seq granted →
+answer_visit : (net : Topology) (past : Past) (c : ℕ) (conn : Conn) (event : Event) (d hop seq : ℕ) (granted : Bool) (back : Back) → conn_at net c ≡ Some conn → conn_of event ≡ c → event ≡ Answer d hop seq granted →
     outcome_of net past event ≡ Answered back →
     visit net past event ≡ Some (record { port = slice_index conn.path (hop - 1); input = AnswerIn (answer_to (request_of conn.vc (facts_of (conn_of event) past) seq) granted); reply = AnsweredOut back })
 answer_visit net past c conn event d hop seq granted back known whose is said =
@@ -405,7 +404,7 @@ shut_left net c conn s j its = record {
   adds = λ past event v is here m. shut_adds past event v is here m;
 }
   where
-    shut_adds : (past : List ConnectionFact) (event : Event) (v : Visit) → visit net past event ≡ Some v → v.port ≡ slice_index conn.path (j - 1) → Shutting conn.vc s v.input v.reply →
+    shut_adds : (past : Past) (event : Event) (v : Visit) → visit net past event ≡ Some v → v.port ≡ slice_index conn.path (j - 1) → Shutting conn.vc s v.input v.reply →
         (conn_of event ≡ c) × (list_any (is_sending (Shut s j)) (facts_added (facts_of c past) event (outcome_of net past event)) ≡ true)
     shut_adds past event v is here (inl m) =
         let parts = visit_is net past event v is in

@@ -2,7 +2,7 @@
 use Rattle.std.proofs.lemmas.Bool.{false≢true}
 use Rattle.std.proofs.Common.{Some, ◌≡◌, ◌≢◌, refl, ap, Bool, true, false, List, [], ◌∷◌, ◌++◌, ◌∙◌, sym, subst, MatchBool}
 use Rattle.abt_net.specs.Topology.{Topology}
-use Rattle.abt_model.specs.declared.connection_fact.ConnectionFact.{ConnectionFact}
+use Rattle.abt_model.specs.Past.{Past}
 use Rattle.abt_model.specs.declared.event.Event.{Event}
 use Rattle.abt_model.specs.declared.outcome.Cause.{Cause}
 use Rattle.abt_model.specs.declared.outcome.Outcome.{Outcome}
@@ -30,7 +30,7 @@ disabled_stands net events event old new before after off =
     let why = not_enabled (outcome_of net past event) off in
     record {
       rates = before.rates;
-      stands = subst (λ (w : List ConnectionFact). IsOfPast net w new) (facts_from_push net [] events event ∙ disabled_same net past event why.0 why.1) after.stands;
+      stands = subst (λ (w : Past). IsOfPast net w new) (facts_from_push net [] events event ∙ disabled_same net past event why.0 why.1) after.stands;
     }
 
 pub own_tried : (net : Topology) (events : List Event) (event : Event) (told : Outcome) (old new : WorldView) (outcome : Outcome) (tried : Tried) → StandsFor net events old →

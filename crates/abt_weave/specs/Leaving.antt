@@ -4,9 +4,8 @@ use Rattle.abt_net.specs.declared.conn.Conn.{Conn}
 use Rattle.abt_net.specs.Topology.{Topology, conn_at}
 use Rattle.abt_facts.specs.declared.fact.Fact.{Fact}
 use Rattle.abt_actor.specs.Actor.{actor_of}
-use Rattle.abt_model.specs.declared.connection_fact.ConnectionFact.{ConnectionFact}
 use Rattle.abt_model.specs.Outcomes.{facts_added}
-use Rattle.abt_model.specs.Past.{facts_of}
+use Rattle.abt_model.specs.Past.{Past, facts_of}
 use Rattle.abt_model.specs.PortTable.{port_table}
 use Rattle.abt_journal.specs.declared.entry.Entry.{Entry}
 use Rattle.abt_journal.specs.Replay.{replay}
@@ -22,7 +21,7 @@ facts_done facts (entry ∷ entries) = facts_done facts entries
 
 -- Each port has the table that the inputs of its journal make of its first one, and each source is the one that did what its
 -- journal says.
-pub record LeavesAsJournaled (net : Topology) (journals : List (List Entry)) (sources : List SourceJournal) (past : List ConnectionFact) : Type 0 where
+pub record LeavesAsJournaled (net : Topology) (journals : List (List Entry)) (sources : List SourceJournal) (past : Past) : Type 0 where
   pub tables : (p : ℕ) (entries : List Entry) → slice_get journals p ≡ Some entries → port_table net past p ≡ replay (port_table net [] p) entries
   pub actors : (c : ℕ) (conn : Conn) (journal : SourceJournal) → conn_at net c ≡ Some conn → slice_get sources c ≡ Some journal →
       actor_of conn.vc (facts_of c past) ≡ actor_of conn.vc (facts_done [] journal.entries)

@@ -10,12 +10,11 @@ use Rattle.abt_facts.specs.declared.fact.Fact.{Fact}
 use Rattle.abt_facts.specs.declared.fact.Fact.TheVariants.{Arrived as FactArrived}
 use Rattle.abt_facts.specs.Hop.{held_of}
 use Rattle.abt_facts.specs.Cells.{emitted_of, fence_of, is_in_time, last_arrival_of, verdict_at}
-use Rattle.abt_model.specs.declared.connection_fact.ConnectionFact.{ConnectionFact}
 use Rattle.abt_model.specs.declared.event.Event.TheVariants.{Arrive}
 use Rattle.abt_model.specs.declared.outcome.Cause.TheVariants.{NotSent, Fenced, Delay, ClockBack}
 use Rattle.abt_model.specs.declared.outcome.Outcome.{Outcome}
 use Rattle.abt_model.specs.declared.outcome.Outcome.TheVariants.{Arrived, NotEnabled}
-use Rattle.abt_model.specs.Past.{facts_of}
+use Rattle.abt_model.specs.Past.{Past, facts_of}
 use Rattle.abt_model.specs.Outcomes.{outcome_of, after_event}
 use Rattle.abt_model.specs.PortTable.{port_table, kept_at}
 use Rattle.abt_model.proofs.Lawful.{route_of}
@@ -40,7 +39,7 @@ by_causes false false false false o = refl
 
 -- a cell that nothing keeps away arrives
 arrives :
-    (net : Topology) (past : List ConnectionFact) (c : ℕ) (conn : Conn) (facts : List Fact) (cell at : ℕ) → IsConnAt net past c conn facts →
+    (net : Topology) (past : Past) (c : ℕ) (conn : Conn) (facts : List Fact) (cell at : ℕ) → IsConnAt net past c conn facts →
     arrival_cause conn facts cell at ≡ None → outcome_of net past (Arrive c cell at) ≡ Arrived (verdict_at conn.tau facts at (held_of facts 1))
 arrives net past c conn facts cell at is none =
     let judged = Arrived (verdict_at conn.tau facts at (held_of facts 1)) in
@@ -53,14 +52,14 @@ some_hop : (hops : ℕ) → 0 < hops → (nat_le 1 1 && nat_le 1 hops) ≡ true
 some_hop hops some = grind (arith, nat_tests)
 
 pub first_hop :
-    (net : Topology) (past : List ConnectionFact) (c : ℕ) (conn : Conn) (facts : List Fact) → IsConnAt net past c conn facts →
+    (net : Topology) (past : Past) (c : ℕ) (conn : Conn) (facts : List Fact) → IsConnAt net past c conn facts →
     port_at conn.path 1 ≡ Some (slice_index conn.path 0)
 first_hop net past c conn facts is =
     ap (λ b. if b then Some (slice_index conn.path 0) else None) (some_hop (length conn.path) (conn_within net is.rules c conn is.known).has_hop)
 
 -- what the port holds is what the facts say
 pub rate_there :
-    (net : Topology) (past : List ConnectionFact) (c : ℕ) (conn : Conn) (facts : List Fact) (hop port : ℕ) (ports : List Table) (table : Table) → IsConnAt net past c conn facts →
+    (net : Topology) (past : Past) (c : ℕ) (conn : Conn) (facts : List Fact) (hop port : ℕ) (ports : List Table) (table : Table) → IsConnAt net past c conn facts →
     ArePorts net past ports → port_at conn.path hop ≡ Some port → port < length ports → slice_get ports port ≡ Some table →
     option_map held_at (connection_at table conn.vc) ≡ Some (held_of facts hop)
 rate_there net past c conn facts hop port ports table is are has low table_at =
@@ -78,13 +77,13 @@ rate_there net past c conn facts hop port ports table is are has low table_at =
     ∙ ap (λ fs. Some (held_of fs hop)) (sym is.facts_are)
 
 -- the verdict of the port, and its table then
-pub record IsJudged (net : Topology) (past : List ConnectionFact) (c : ℕ) (conn : Conn) (facts : List Fact) (cell at port : ℕ) (table : Table) : Type 0 where
+pub record IsJudged (net : Topology) (past : Past) (c : ℕ) (conn : Conn) (facts : List Fact) (cell at port : ℕ) (table : Table) : Type 0 where
   pub said : outcome_of net past (Arrive c cell at) ≡ Arrived (verdict_at conn.tau facts at (held_of facts 1))
   pub verdict : arrival_at table conn.vc at ≡ Ok (verdict_at conn.tau facts at (held_of facts 1))
   pub becomes : table_after_arrival table conn.vc at ≡ port_table net (after_event net past (Arrive c cell at)) port
 
 pub judged :
-    (net : Topology) (past : List ConnectionFact) (c : ℕ) (conn : Conn) (facts : List Fact) (cell at port : ℕ) (ports : List Table) (table : Table) → IsConnAt net past c conn facts →
+    (net : Topology) (past : Past) (c : ℕ) (conn : Conn) (facts : List Fact) (cell at port : ℕ) (ports : List Table) (table : Table) → IsConnAt net past c conn facts →
     ArePorts net past ports → port_at conn.path 1 ≡ Some port → port < length ports → slice_get ports port ≡ Some table → arrival_cause conn facts cell at ≡ None →
     IsJudged net past c conn facts cell at port table
 judged net past c conn facts cell at port ports table is are has low table_at none =
@@ -101,7 +100,7 @@ judged net past c conn facts cell at port ports table is are has low table_at no
 
 -- an arrival that the port judged
 pub arrival_served :
-    (net : Topology) (past : List ConnectionFact) (c : ℕ) (conn : Conn) (facts : List Fact) (cell at port : ℕ) (ports : List Table) (table : Table) → IsConnAt net past c conn facts →
+    (net : Topology) (past : Past) (c : ℕ) (conn : Conn) (facts : List Fact) (cell at port : ℕ) (ports : List Table) (table : Table) → IsConnAt net past c conn facts →
     ArePorts net past ports → port_at conn.path 1 ≡ Some port → port < length ports → slice_get ports port ≡ Some table → arrival_cause conn facts cell at ≡ None →
     (after : Table) (rate : ℕ) (verdict : Verdict) → Some rate ≡ option_map held_at (connection_at table conn.vc) → Ok verdict ≡ arrival_at table conn.vc at →
     after ≡ table_after_arrival table conn.vc at →

@@ -25,7 +25,7 @@ use Rattle.abt_model.specs.Run.{facts_after}
 use Rattle.abt_model.specs.Safe.{AllConform}
 use Rattle.abt_model.proofs.Sums.{facts_after_lawful}
 use Rattle.abt_model.proofs.Tables.{totals_reserved}
-use Rattle.abt_model.proofs.EveryPasts.{every_safe}
+use Rattle.abt_model.proofs.EveryPasts.{every_safe, capacity_is}
 use Rattle.abt_model.proofs.Worlds.{cases_option}
 use Rattle.abt_trace.specs.Traces.{rates_after, held_after, held_along, totals_after}
 use Rattle.abt_world.specs.declared.course.Course.{Course}
@@ -209,7 +209,8 @@ sums_pass net events courses ports are =
     (λ p u table known at. (
     let table_is : table ≡ port_table net past p = some_same _ _ (sym at ∙ are.stands.stands.ports p ∙ ap (option_map (λ (_ : ℕ). port_table net past p)) known) in
     let sum : sum_of table ≡ reserved_on net past p = ap sum_of table_is ∙ totals_reserved net past are.rules (facts_after_lawful net events are.stands.rates).0 p in
-    le_passes _ _ (subst (λ n. n ≤ u) (sym sum) ((every_safe net events are.rules are.stands.rates).sums p u known))))
+    le_passes _ _ (subst (λ n. n ≤ u) (sym sum) (subst (λ n. reserved_on net past p ≤ n) (capacity_is net past p u known)
+    ((every_safe net events are.rules are.stands.rates).sums p (slice_get_within net.capacities p u known))))))
 
 pub cells_pass :
     (net : Topology) (events : List Event) (courses : List Course) (ports : List Table) → AreOfPast net events courses ports →

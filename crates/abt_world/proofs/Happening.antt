@@ -14,7 +14,6 @@ use Rattle.abt_facts.specs.declared.fact.Fact.TheVariants.{Delivered, Passed, Sh
 use Rattle.abt_facts.specs.Source.{SourceState, Down, Idle, Asking, state_of}
 use Rattle.abt_model.specs.declared.command.SourceCommand.{SourceCommand}
 use Rattle.abt_model.specs.declared.command.SourceCommand.TheVariants as command
-use Rattle.abt_model.specs.declared.connection_fact.ConnectionFact.{ConnectionFact}
 use Rattle.abt_model.specs.declared.event.Event.{Event}
 use Rattle.abt_model.specs.declared.event.Event.TheVariants.{Arrive, Request, Turn, Answer}
 use Rattle.abt_model.specs.declared.target.HopEvent.{HopEvent}
@@ -23,7 +22,7 @@ use Rattle.abt_model.specs.declared.outcome.Outcome.{Outcome}
 use Rattle.abt_model.specs.declared.outcome.Outcome.TheVariants.{Arrived, Requested, Turned, Answered}
 use Rattle.abt_model.specs.Events.{AsksRate}
 use Rattle.abt_model.specs.Targets.{event_at_hop}
-use Rattle.abt_model.specs.Past.{facts_of}
+use Rattle.abt_model.specs.Past.{Past, facts_of}
 use Rattle.abt_model.specs.Reserved.{reserved_on}
 use Rattle.abt_model.specs.Answers.{answer_by}
 use Rattle.abt_model.specs.Outcomes.{conn_of, port_of, after_event, facts_added, delivery}
@@ -37,7 +36,7 @@ use Rattle.abt_world.proofs.Sendings.{happens, all_lawful}
 
 -- an event that comes to no port
 pub tables_kept :
-    (net : Topology) (past : List ConnectionFact) (e : Event) (conn : Conn) (facts : List Fact) (ports : List Table) → AsksRate e →
+    (net : Topology) (past : Past) (e : Event) (conn : Conn) (facts : List Fact) (ports : List Table) → AsksRate e →
     IsConnAt net past (conn_of e) conn facts → ArePorts net past ports → hop_visited e ≡ 0 → ArePorts net (after_event net past e) ports
 tables_kept net past e conn facts ports asks at are nowhere q =
     let nobody : Visits net e q → ⊥ = λ visits. (let low = visits.2 in omega arith) in
@@ -114,7 +113,7 @@ hop_kind fs c (hop.Answer j seq granted) o = answer_kind fs c j seq granted o
 
 -- an event whose facts say nothing of the source leaves the actor
 pub actor_left :
-    (net : Topology) (past : List ConnectionFact) (e : Event) (conn : Conn) (facts : List Fact) (actor : ActorView) (outcome : Outcome) (added : List Fact) →
+    (net : Topology) (past : Past) (e : Event) (conn : Conn) (facts : List Fact) (actor : ActorView) (outcome : Outcome) (added : List Fact) →
     Happens net past e outcome added → AreOfHops (facts_added (facts_of (conn_of e) past) e outcome) → actor ≡ actor_of conn.vc facts →
     actor ≡ actor_of conn.vc (added ++ facts)
 actor_left net past e conn facts actor outcome added h kinds is = is ∙ sym (actor_kept conn.vc added facts (subst AreOfHops (sym h.adds) kinds))
@@ -145,7 +144,7 @@ own_conn c (command.Told answer) is = absurd is
 own_conn c other is = refl
 
 pub command_happens :
-    (net : Topology) (past : List ConnectionFact) (conn : Conn) (facts : List Fact) (c : ℕ) (own : SourceCommand) (actor new : ActorView) (outcome : Outcome) (added : List Fact) →
+    (net : Topology) (past : Past) (conn : Conn) (facts : List Fact) (c : ℕ) (own : SourceCommand) (actor new : ActorView) (outcome : Outcome) (added : List Fact) →
     IsOwn own → Carries actor own outcome added new → IsConnAt net past c conn facts → actor ≡ actor_of conn.vc facts →
     Happens net past (event_of c own) outcome added × (new ≡ actor_of conn.vc (added ++ facts))
 command_happens net past conn facts c own actor new outcome added is_own carries at is =

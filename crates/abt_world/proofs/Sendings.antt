@@ -11,7 +11,7 @@ use Rattle.abt_facts.specs.declared.fact.Fact.{Fact}
 use Rattle.abt_facts.specs.Requests.{was_asked, floor_of, ask_of}
 use Rattle.abt_facts.specs.Source.{SourceState, Down, Idle, Asking}
 use Rattle.abt_facts.specs.Sent.{request_is_at, answer_is_at, answer_is_home}
-use Rattle.abt_model.specs.declared.connection_fact.ConnectionFact.{ConnectionFact}
+use Rattle.abt_model.specs.Past.{Past}
 use Rattle.abt_model.specs.declared.event.Event.{Event}
 use Rattle.abt_model.specs.declared.outcome.Outcome.{Outcome}
 use Rattle.abt_model.specs.declared.outcome.Heard.TheVariants.{Ignored}
@@ -30,7 +30,7 @@ use Rattle.abt_world.specs.Steps.{IsConnAt, Happens}
 
 -- what an event of the connection answers, by its facts
 pub answers :
-    (net : Topology) (past : List ConnectionFact) (e : Event) (conn : Conn) (facts : List Fact) → IsConnAt net past (conn_of e) conn facts →
+    (net : Topology) (past : Past) (e : Event) (conn : Conn) (facts : List Fact) → IsConnAt net past (conn_of e) conn facts →
     outcome_of net past e ≡ answer_by conn (reserved_on net past (port_of conn.path e)) (slice_index net.capacities (port_of conn.path e)) facts e
 answers net past e conn facts at =
     outcome_of-known net past e conn at.known
@@ -38,7 +38,7 @@ answers net past e conn facts at =
 
 -- the event that answers and adds so
 pub happens :
-    (net : Topology) (past : List ConnectionFact) (e : Event) (conn : Conn) (facts : List Fact) → IsConnAt net past (conn_of e) conn facts →
+    (net : Topology) (past : Past) (e : Event) (conn : Conn) (facts : List Fact) → IsConnAt net past (conn_of e) conn facts →
     (outcome : Outcome) (added : List Fact) →
     outcome ≡ answer_by conn (reserved_on net past (port_of conn.path e)) (slice_index net.capacities (port_of conn.path e)) facts e →
     added ≡ facts_added facts e outcome → Happens net past e outcome added
@@ -47,14 +47,14 @@ happens net past e conn facts at outcome added answered adds = record {
   adds = adds ∙ ap (λ fs. facts_added fs e outcome) at.facts_are;
 }
 
-pub all_lawful : (net : Topology) (past : List ConnectionFact) (c : ℕ) (conn : Conn) (facts : List Fact) → IsConnAt net past c conn facts → AllLawful net past
+pub all_lawful : (net : Topology) (past : Past) (c : ℕ) (conn : Conn) (facts : List Fact) → IsConnAt net past c conn facts → AllLawful net past
 all_lawful net past c conn facts at = subst (AllLawful net) (sym at.led) (facts_after_lawful net at.events at.rates).0
 
-pub conn_lawful : (net : Topology) (past : List ConnectionFact) (c : ℕ) (conn : Conn) (facts : List Fact) → IsConnAt net past c conn facts → IsLawful (route_of conn) facts
+pub conn_lawful : (net : Topology) (past : Past) (c : ℕ) (conn : Conn) (facts : List Fact) → IsConnAt net past c conn facts → IsLawful (route_of conn) facts
 conn_lawful net past c conn facts at = subst (IsLawful (route_of conn)) (sym at.facts_are) (lawful_at net past (all_lawful net past c conn facts at) c conn at.known)
 
 -- a path of a net has 16 hops at most
-pub few_hops : (net : Topology) (past : List ConnectionFact) (c : ℕ) (conn : Conn) (facts : List Fact) → IsConnAt net past c conn facts → length conn.path ≤ 16
+pub few_hops : (net : Topology) (past : Past) (c : ℕ) (conn : Conn) (facts : List Fact) → IsConnAt net past c conn facts → length conn.path ≤ 16
 few_hops net past c conn facts at = (conn_within net at.rules c conn at.known).hops
 
 -- what was sent was asked

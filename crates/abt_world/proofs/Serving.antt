@@ -7,7 +7,6 @@ use Rattle.abt_net.specs.declared.conn.Conn.{Conn}
 use Rattle.abt_net.specs.Topology.{Topology, conn_at}
 use Rattle.abt_node.specs.Table.{Table}
 use Rattle.abt_facts.specs.declared.fact.Fact.{Fact}
-use Rattle.abt_model.specs.declared.connection_fact.ConnectionFact.{ConnectionFact}
 use Rattle.abt_model.specs.declared.event.Event.{Event}
 use Rattle.abt_net.specs.Paths.{hop_of}
 use Rattle.abt_model.specs.Outcomes.{after_event}
@@ -20,7 +19,7 @@ use Rattle.abt_facts.specs.Sent.{request_is_at, answer_is_at}
 use Rattle.abt_model.specs.declared.event.Event.TheVariants.{Request, Answer}
 use Rattle.abt_model.specs.declared.outcome.Cause.TheVariants.{NotSent, Unknown}
 use Rattle.abt_model.specs.declared.outcome.Outcome.TheVariants.{Requested, Answered, NotEnabled}
-use Rattle.abt_model.specs.Past.{facts_of, with_facts}
+use Rattle.abt_model.specs.Past.{Past, facts_of, with_facts}
 use Rattle.abt_model.specs.Reserved.{reserved_on}
 use Rattle.abt_model.specs.Decision.{request_decision, answer_decision}
 use Rattle.abt_source.specs.SourceFacts.{request_of}
@@ -50,7 +49,7 @@ set_other (x ∷ xs) (suc i) zero y differ = refl
 set_other (x ∷ xs) (suc i) (suc j) y differ = set_other xs i j y (λ same. differ (ap suc same))
 
 -- a port of the net
-pub port_has : (net : Topology) (past : List ConnectionFact) (ports : List Table) (p : ℕ) → ArePorts net past ports → p < length ports →
+pub port_has : (net : Topology) (past : Past) (ports : List Table) (p : ℕ) → ArePorts net past ports → p < length ports →
     slice_get ports p ≡ Some (port_table net past p)
 port_has net past ports p are low = elim (cases_option (slice_get net.capacities p)) [
   | inl none ↦ absurd (
@@ -69,7 +68,7 @@ port_has net past ports p are low = elim (cases_option (slice_get net.capacities
 
 -- the tables after a port took a step
 pub ports_after :
-    (net : Topology) (past after : List ConnectionFact) (ports : List Table) (p : ℕ) (table : Table) → ArePorts net past ports → p < length ports →
+    (net : Topology) (past after : Past) (ports : List Table) (p : ℕ) (table : Table) → ArePorts net past ports → p < length ports →
     table ≡ port_table net after p → ((q : ℕ) → p ≢ q → port_table net after q ≡ port_table net past q) →
     ArePorts net after (slice_set ports p table)
 ports_after net past after ports p table are low is same q = elim (cases_eq p q) [
@@ -101,7 +100,7 @@ away net e conn hop port q known visited is other visits =
 
 -- the hop of the port at a hop
 pub at_its_hop :
-    (net : Topology) (past : List ConnectionFact) (c : ℕ) (conn : Conn) (facts : List Fact) (hop port : ℕ) → IsConnAt net past c conn facts →
+    (net : Topology) (past : Past) (c : ℕ) (conn : Conn) (facts : List Fact) (hop port : ℕ) → IsConnAt net past c conn facts →
     is_hop (length conn.path) hop ≡ true → port ≡ slice_index conn.path (hop - 1) → hop_of conn.path port ≡ hop
 at_its_hop net past c conn facts hop port at is port_is =
     let bounds = is_hop_tells (length conn.path) hop is in
@@ -113,7 +112,7 @@ at_its_hop net past c conn facts hop port at is port_is =
 
 -- a request that a port serves
 pub request_served :
-    (net : Topology) (past : List ConnectionFact) (c : ℕ) (conn : Conn) (facts : List Fact) (hop seq port : ℕ) (ports : List Table) →
+    (net : Topology) (past : Past) (c : ℕ) (conn : Conn) (facts : List Fact) (hop seq port : ℕ) (ports : List Table) →
     IsConnAt net past c conn facts → ArePorts net past ports → port_at conn.path hop ≡ Some port → request_is_at facts seq hop ≡ true → port < length ports →
     (table after : Table) (request : Terms) (onward : Onward) (added : List Fact) → slice_get ports port ≡ Some table → request ≡ request_of conn.vc facts seq →
     onward ≡ reply_to table request → after ≡ table_after table request → added ≡ request_adds hop seq onward →
@@ -140,7 +139,7 @@ request_served net past c conn facts hop seq port ports at are has there low tab
 
 -- an answer that a port serves
 pub answer_served :
-    (net : Topology) (past : List ConnectionFact) (c : ℕ) (conn : Conn) (facts : List Fact) (hop seq port : ℕ) (granted : Bool) (ports : List Table) →
+    (net : Topology) (past : Past) (c : ℕ) (conn : Conn) (facts : List Fact) (hop seq port : ℕ) (granted : Bool) (ports : List Table) →
     IsConnAt net past c conn facts → ArePorts net past ports → port_at conn.path hop ≡ Some port → answer_is_at (length conn.path) facts seq hop granted ≡ true → port < length ports →
     (table after : Table) (reply : Reply) (back : Back) (added : List Fact) → slice_get ports port ≡ Some table → reply ≡ answer_to (request_of conn.vc facts seq) granted →
     back ≡ port_answer table reply → after ≡ table_after_answer table reply → added ≡ answer_adds hop seq granted back →
@@ -167,12 +166,12 @@ answer_served net past c conn facts hop seq port granted ports at are has there 
 
 -- an event that can't happen leaves the tables
 pub nothing_served :
-    (net : Topology) (past after : List ConnectionFact) (ports : List Table) → ArePorts net past ports → after ≡ past → ArePorts net after ports
+    (net : Topology) (past after : Past) (ports : List Table) → ArePorts net past ports → after ≡ past → ArePorts net after ports
 nothing_served net past after ports are same = subst (λ l. ArePorts net l ports) (sym same) are
 
 -- the ports that a path names are there
 pub port_within :
-    (net : Topology) (past : List ConnectionFact) (c : ℕ) (conn : Conn) (facts : List Fact) (hop port : ℕ) (ports : List Table) →
+    (net : Topology) (past : Past) (c : ℕ) (conn : Conn) (facts : List Fact) (hop port : ℕ) (ports : List Table) →
     IsConnAt net past c conn facts → ArePorts net past ports → port_at conn.path hop ≡ Some port → port < length ports
 port_within net past c conn facts hop port ports at are has =
     let tells = port_tells conn.path hop port has in
@@ -189,7 +188,7 @@ port_within net past c conn facts hop port ports at are has =
 
 -- an answer that doesn't lie at the hop
 pub answer_absent :
-    (net : Topology) (past : List ConnectionFact) (c : ℕ) (conn : Conn) (facts : List Fact) (hop seq : ℕ) (granted : Bool) (ports : List Table) →
+    (net : Topology) (past : Past) (c : ℕ) (conn : Conn) (facts : List Fact) (hop seq : ℕ) (granted : Bool) (ports : List Table) →
     IsConnAt net past c conn facts → ArePorts net past ports → is_hop (length conn.path) hop ≡ true → answer_is_at (length conn.path) facts seq hop granted ≡ false →
     Happens net past (Answer c hop seq granted) (NotEnabled NotSent) [] × ArePorts net (after_event net past (Answer c hop seq granted)) ports
 answer_absent net past c conn facts hop seq granted ports at are is absent =

@@ -11,13 +11,12 @@ use Rattle.abt_node.specs.Table.{Table}
 use Rattle.abt_facts.specs.declared.fact.Fact.{Fact}
 use Rattle.abt_log.specs.Index.{Index, index_of}
 use Rattle.abt_actor.specs.Actor.{ActorView, actor_of}
-use Rattle.abt_model.specs.declared.connection_fact.ConnectionFact.{ConnectionFact}
 use Rattle.abt_model.specs.declared.event.Event.{Event}
 use Rattle.abt_model.specs.declared.outcome.Cause.TheVariants.{Unknown}
 use Rattle.abt_model.specs.declared.outcome.Outcome.{Outcome}
 use Rattle.abt_model.specs.declared.outcome.Outcome.TheVariants.{NotEnabled}
 use Rattle.abt_model.specs.Events.{AsksRate}
-use Rattle.abt_model.specs.Past.{facts_of}
+use Rattle.abt_model.specs.Past.{Past, facts_of}
 use Rattle.abt_model.specs.Outcomes.{conn_of, outcome_of, outcome_at, after_event}
 use Rattle.abt_model.specs.PortTable.{port_table}
 use Rattle.abt_model.specs.Run.{facts_after}
@@ -41,7 +40,7 @@ same_length [] (u ∷ capacities) table h = absurd (let e = h 0 in cc)
 same_length (t ∷ tables) [] table h = absurd (let e = h 0 in cc)
 same_length (t ∷ tables) (u ∷ capacities) table h = ap suc (same_length tables capacities (λ p. table (suc p)) (λ p. h (suc p)))
 
-pub port_count : (net : Topology) (past : List ConnectionFact) (ports : List Table) → ArePorts net past ports → length ports ≡ length net.capacities
+pub port_count : (net : Topology) (past : Past) (ports : List Table) → ArePorts net past ports → length ports ≡ length net.capacities
 port_count net past ports are = same_length ports net.capacities (λ p. port_table net past p) are
 
 refilled : {A : Type 0} (new old : List A) → length new ≡ length old → take (length old) (new ++ drop (length new) old) ≡ new
@@ -82,13 +81,13 @@ step_unknown net events world e looks stands asks past_end =
       sym said,
       record {
         rates = all_ask events e stands.rates asks;
-        stands = subst (λ (p : List ConnectionFact). IsOfPast net p (record { net = world.net; ports = world.ports; courses = world.courses; looks = looks })) (sym same)
+        stands = subst (λ (p : Past). IsOfPast net p (record { net = world.net; ports = world.ports; courses = world.courses; looks = looks })) (sym same)
             (record { net_is = stands.stands.net_is; ports = stands.stands.ports; courses = stands.stands.courses });
       },
     )
 
 -- the connection that the event comes to
-pub course_at : (net : Topology) (past : List ConnectionFact) (world : WorldView) (c : ℕ) (conn : Conn) → IsOfPast net past world → conn_at net c ≡ Some conn →
+pub course_at : (net : Topology) (past : Past) (world : WorldView) (c : ℕ) (conn : Conn) → IsOfPast net past world → conn_at net c ≡ Some conn →
     slice_get world.courses c ≡ Some (course_of conn.vc (facts_of c past))
 course_at net past world c conn is known = is.courses c ∙ ap (option_map (λ (k : Conn). course_of k.vc (facts_of c past))) known
 
@@ -119,7 +118,7 @@ step_taken net events world e conn outcome course ports looks stands asks known 
       leaves.answer,
       record {
         rates = all_ask events e stands.rates asks;
-        stands = subst (λ (p : List ConnectionFact). IsOfPast net p (record { net = world.net; ports = ports; courses = slice_set world.courses c course; looks = looks })) (sym (one_more net events e))
+        stands = subst (λ (p : Past). IsOfPast net p (record { net = world.net; ports = ports; courses = slice_set world.courses c course; looks = looks })) (sym (one_more net events e))
             (record { net_is = stands.stands.net_is; ports = leaves.tables; courses = each });
       },
     )

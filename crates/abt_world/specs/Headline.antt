@@ -1,13 +1,13 @@
 -- What holds of a net whatever happened to it (docs/GUARANTEES.md, "The headline").
 use Rattle.std.specs.Prelude.{List}
 use Rattle.abt_net.specs.Topology.{Topology}
-use Rattle.abt_model.specs.declared.connection_fact.ConnectionFact.{ConnectionFact}
+use Rattle.abt_model.specs.Past.{Past}
 use Rattle.abt_model.specs.Safe.{IsSafe}
 use Rattle.abt_model.specs.Promises.{NeverDisputes, OneAnswerEach, RatesWait, YesStandsEverywhere, ArrivalsConform, NextIsDue}
 
 -- The headline, and what stands beside it: sources and ports never dispute a message, no number has both a yes and a no, rates
 -- wait for a yes that stands at every hop, and each cell that arrives is found conforming and leaves the next one time.
-pub record HeadlineHolds (net : Topology) (past : List ConnectionFact) : Type 0 where
+pub record HeadlineHolds (net : Topology) (past : Past) : Type 0 where
   pub safe : IsSafe net past
   pub drops : NeverDisputes net past
   pub answers : OneAnswerEach net past

@@ -5,7 +5,6 @@ use Rattle.abt_net.specs.Topology.{Topology, conn_at}
 use Rattle.abt_facts.specs.declared.fact.Fact.{Fact}
 use Rattle.abt_log.specs.Index.{is_of_message}
 use Rattle.abt_safety.specs.Tallies.{one_if, count_of}
-use Rattle.abt_model.specs.declared.connection_fact.ConnectionFact.{ConnectionFact}
 use Rattle.abt_model.specs.declared.event.Event.{Event}
 use Rattle.abt_model.specs.declared.event.Event.TheVariants.{Arrive, Request, Turn, Answer, Told}
 use Rattle.abt_model.specs.declared.outcome.Cause.{Cause}
@@ -13,7 +12,7 @@ use Rattle.abt_model.specs.declared.outcome.Cause.TheVariants.{NotSent, Fenced}
 use Rattle.abt_model.specs.declared.outcome.Outcome.{Outcome}
 use Rattle.abt_model.specs.declared.outcome.Outcome.TheVariants.{Requested, Answered, Told as HasTold, NotEnabled}
 use Rattle.abt_model.specs.Outcomes.{conn_of, outcome_of, facts_added}
-use Rattle.abt_model.specs.Past.{facts_of}
+use Rattle.abt_model.specs.Past.{Past, facts_of}
 use Rattle.abt_world.specs.Touches.{visited}
 
 -- a cell that doesn't arrive: when it was emitted, unless its number tells
@@ -51,10 +50,10 @@ looks_to_happen conn facts event outcome = looks_to_take (length conn.path) even
 
 -- What an event of a connection looks up after a past: the connection, what it needs to happen, and, to see whether all is still safe,
 -- each hop of the path and the port that it came to. An event of no connection looks nothing up.
-abbrev pub looks_at : Topology → List ConnectionFact → Event → Option Conn → ℕ
+abbrev pub looks_at : Topology → Past → Event → Option Conn → ℕ
 looks_at net past event None = 0
 looks_at net past event (Some conn) =
     1 + looks_to_happen conn (facts_of (conn_of event) past) event (outcome_of net past event) + length conn.path + one_if (is_some (visited conn event))
 
-abbrev pub looks_of : Topology → List ConnectionFact → Event → ℕ
+abbrev pub looks_of : Topology → Past → Event → ℕ
 looks_of net past event = looks_at net past event (conn_at net (conn_of event))

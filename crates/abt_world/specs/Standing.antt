@@ -3,10 +3,9 @@ use Rattle.std.specs.Prelude.{◌≡◌, ℕ, List, All, slice_get, option_map}
 use Rattle.abt_net.specs.declared.conn.Conn.{Conn}
 use Rattle.abt_net.specs.Topology.{Topology, conn_at}
 use Rattle.abt_node.specs.Table.{Table}
-use Rattle.abt_model.specs.declared.connection_fact.ConnectionFact.{ConnectionFact}
 use Rattle.abt_model.specs.declared.event.Event.{Event}
 use Rattle.abt_model.specs.Events.{AsksRate}
-use Rattle.abt_model.specs.Past.{facts_of}
+use Rattle.abt_model.specs.Past.{Past, facts_of}
 use Rattle.abt_model.specs.Run.{facts_after}
 use Rattle.abt_model.specs.PortTable.{port_table}
 use Rattle.abt_world.specs.Courses.{CourseView, course_of}
@@ -19,7 +18,7 @@ pub record WorldView : Type 0 where
   pub looks : ℕ
 
 -- Each port has the table, and each connection the actor and the facts, that a past gives.
-pub record IsOfPast (net : Topology) (past : List ConnectionFact) (world : WorldView) : Type 0 where
+pub record IsOfPast (net : Topology) (past : Past) (world : WorldView) : Type 0 where
   pub net_is : world.net ≡ net
   pub ports : (p : ℕ) → slice_get world.ports p ≡ option_map (λ (_ : ℕ). port_table net past p) (slice_get net.capacities p)
   pub courses : (c : ℕ) → slice_get world.courses c ≡ option_map (λ (conn : Conn). course_of conn.vc (facts_of c past)) (conn_at net c)

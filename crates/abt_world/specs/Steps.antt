@@ -4,7 +4,6 @@ use Rattle.abt_net.specs.declared.conn.Conn.{Conn}
 use Rattle.abt_net.specs.Topology.{Topology, IsWithinRules, conn_at}
 use Rattle.abt_node.specs.Table.{Table}
 use Rattle.abt_facts.specs.declared.fact.Fact.{Fact}
-use Rattle.abt_model.specs.declared.connection_fact.ConnectionFact.{ConnectionFact}
 use Rattle.abt_model.specs.declared.event.Event.{Event}
 use Rattle.abt_model.specs.declared.outcome.Outcome.{Outcome}
 use Rattle.abt_facts.specs.Cells.{emitted_of, fence_of, is_in_time, last_arrival_of}
@@ -13,7 +12,7 @@ use Rattle.abt_model.specs.declared.outcome.Cause.TheVariants.{NotSent, Fenced, 
 use Rattle.abt_model.specs.declared.outcome.Outcome.TheVariants.{NotEnabled}
 use Rattle.abt_model.specs.Answers.{is_hop}
 use Rattle.abt_model.specs.Events.{AsksRate}
-use Rattle.abt_model.specs.Past.{facts_of}
+use Rattle.abt_model.specs.Past.{Past, facts_of}
 use Rattle.abt_log.specs.Index.{Index, index_of}
 use Rattle.abt_actor.specs.Actor.{ActorView, actor_of}
 use Rattle.abt_model.specs.Outcomes.{conn_of, outcome_of, facts_added, after_event}
@@ -21,7 +20,7 @@ use Rattle.abt_model.specs.Run.{facts_after}
 use Rattle.abt_model.specs.PortTable.{port_table}
 
 -- connection c of a net after events, and its facts
-pub record IsConnAt (net : Topology) (past : List ConnectionFact) (c : ℕ) (conn : Conn) (facts : List Fact) : Type 0 where
+pub record IsConnAt (net : Topology) (past : Past) (c : ℕ) (conn : Conn) (facts : List Fact) : Type 0 where
   pub rules : IsWithinRules net
   pub events : List Event
   pub rates : All AsksRate events
@@ -30,11 +29,11 @@ pub record IsConnAt (net : Topology) (past : List ConnectionFact) (c : ℕ) (con
   pub facts_are : facts ≡ facts_of c past
 
 -- the tables of all ports
-abbrev pub ArePorts : Topology → List ConnectionFact → List Table → Type 0
+abbrev pub ArePorts : Topology → Past → List Table → Type 0
 ArePorts net past ports = (p : ℕ) → slice_get ports p ≡ option_map (λ (_ : ℕ). port_table net past p) (slice_get net.capacities p)
 
 -- what an event answers and adds
-pub record Happens (net : Topology) (past : List ConnectionFact) (event : Event) (outcome : Outcome) (added : List Fact) : Type 0 where
+pub record Happens (net : Topology) (past : Past) (event : Event) (outcome : Outcome) (added : List Fact) : Type 0 where
   pub answer : outcome ≡ outcome_of net past event
   pub adds : added ≡ facts_added (facts_of (conn_of event) past) event outcome
 
@@ -57,7 +56,7 @@ unless None outcome = outcome
 unless (Some cause) outcome = NotEnabled cause
 
 -- what an event leaves of the course of its connection and of the ports
-pub record Leaves (net : Topology) (past : List ConnectionFact) (event : Event) (conn : Conn) (outcome : Outcome) (actor : ActorView) (index : Index) (ports : List Table) : Type 0 where
+pub record Leaves (net : Topology) (past : Past) (event : Event) (conn : Conn) (outcome : Outcome) (actor : ActorView) (index : Index) (ports : List Table) : Type 0 where
   pub answer : outcome ≡ outcome_of net past event
   pub index_is : index ≡ index_of (facts_of (conn_of event) (after_event net past event))
   pub actor_is : actor ≡ actor_of conn.vc (facts_of (conn_of event) (after_event net past event))

@@ -5,7 +5,7 @@ ghost use Rattle.abt_actor.specs.Facts.{facts_in};
 ghost use Rattle.abt_facts.specs.declared.fact.Fact.{Fact as FactSpec};
 ghost use Rattle.abt_facts.specs.Cells.{emitted_of, fence_of};
 ghost use Rattle.abt_log.specs.Log.{IsLogOf};
-ghost use Rattle.abt_model.specs.declared.connection_fact.ConnectionFact.{ConnectionFact};
+ghost use Rattle.abt_model.specs.Past.{Past};
 ghost use Rattle.abt_model.specs.declared.event.Event.TheVariants.{Arrive};
 ghost use Rattle.abt_model.specs.Outcomes.{after_event};
 ghost use Rattle.abt_net.specs.Topology.{Topology};
@@ -78,14 +78,14 @@ pub(crate) fn arrive(
     at: u64,
     looks: &mut Looks,
 ) -> (Outcome, Added)
-    ensures outcome { (net : Topology) (past : List ConnectionFact) (facts : List FactSpec) → IsLogOf facts log.now →
+    ensures outcome { (net : Topology) (past : Past) (facts : List FactSpec) → IsLogOf facts log.now →
         IsConnAt net past place conn.now facts →
         ArePorts net past ports.old → emitted ≡ emitted_of facts →
         Happens net past (Arrive place cell at) result.0 (facts_in result.1)
         × ArePorts net (after_event net past (Arrive place cell at)) ports.new }
     ensures touches { Touches (steps.port_at conn.now.path 1) conn.now.vc ports.old ports.new }
     ensures looks { looks.new ≤ looks.old + 3 }
-    ensures counted { (net : Topology) (past : List ConnectionFact) (facts : List FactSpec) → IsLogOf facts log.now →
+    ensures counted { (net : Topology) (past : Past) (facts : List FactSpec) → IsLogOf facts log.now →
         IsConnAt net past place conn.now facts →
         ArePorts net past ports.old → emitted ≡ emitted_of facts → looks.old + 3 ≤ u64.MAX →
         looks.new ≡ looks.old + looks_to_take (length conn.now.path) (Arrive place cell at) result.0 }

@@ -4,10 +4,9 @@ ghost use Rattle.abt_actor.specs.Actor.{actor_of};
 ghost use Rattle.abt_actor.specs.Facts.{facts_in};
 ghost use Rattle.abt_facts.specs.declared.fact.Fact.{Fact as FactSpec};
 ghost use Rattle.abt_log.specs.Log.{IsLogOf};
-ghost use Rattle.abt_model.specs.declared.connection_fact.ConnectionFact.{ConnectionFact};
 ghost use Rattle.abt_model.specs.Events.{AsksRate};
 ghost use Rattle.abt_model.specs.Outcomes.{conn_of, outcome_of};
-ghost use Rattle.abt_model.specs.Past.{facts_of};
+ghost use Rattle.abt_model.specs.Past.{Past, facts_of};
 ghost use Rattle.abt_net.specs.Topology.{Topology};
 ghost use Rattle.abt_world.specs.Looked.{looks_to_happen, looks_to_note};
 ghost use Rattle.abt_world.specs.Notes.{all_noted, CanAllFollow};
@@ -55,7 +54,7 @@ impl Course {
         event: &Event,
         looks: &mut Looks,
     ) -> Result<Outcome, AllocError>
-        ensures outcome { (net : Topology) (past : List ConnectionFact) (facts : List FactSpec) → IsLogOf facts self.old.log →
+        ensures outcome { (net : Topology) (past : Past) (facts : List FactSpec) → IsLogOf facts self.old.log →
             AsksRate event.now → IsConnAt net past (conn_of event.now) conn.now facts → ArePorts net past ports.old →
             self.old.actor ≡ actor_of conn.now.vc facts → MatchResult result
             (λ outcome. Leaves net past event.now conn.now outcome self.new.actor self.new.log.index ports.new)
@@ -63,7 +62,7 @@ impl Course {
         ensures memory { OnErr result ((self.new.actor ≡ self.old.actor) × (self.new.log.index ≡ self.old.log.index) × (ports.new ≡ ports.old)) }
         ensures touches { OnOk result (Touches (visited conn.now event.now) conn.now.vc ports.old ports.new) }
         ensures looks { looks.new ≤ looks.old + 7 }
-        ensures counted { (net : Topology) (past : List ConnectionFact) (facts : List FactSpec) → IsLogOf facts self.old.log →
+        ensures counted { (net : Topology) (past : Past) (facts : List FactSpec) → IsLogOf facts self.old.log →
             AsksRate event.now → IsConnAt net past (conn_of event.now) conn.now facts → ArePorts net past ports.old →
             self.old.actor ≡ actor_of conn.now.vc facts → looks.old + 7 ≤ u64.MAX → OnOk result (looks.new
             ≡ looks.old + looks_to_happen conn.now (facts_of (conn_of event.now) past) event.now (outcome_of net past event.now)) }

@@ -5,7 +5,7 @@ ghost use Rattle.abt_actor.specs.Facts.{facts_in};
 ghost use Rattle.abt_facts.specs.Cells.{emitted_of};
 ghost use Rattle.abt_facts.specs.declared.fact.Fact.{Fact as FactSpec};
 ghost use Rattle.abt_log.specs.Log.{IsLogOf};
-ghost use Rattle.abt_model.specs.declared.connection_fact.ConnectionFact.{ConnectionFact};
+ghost use Rattle.abt_model.specs.Past.{Past};
 ghost use Rattle.abt_model.specs.Events.{AsksRate};
 ghost use Rattle.abt_model.specs.Outcomes.{conn_of, after_event};
 ghost use Rattle.abt_model.specs.Targets.{event_at_source, event_at_hop, hop_met_by};
@@ -53,12 +53,12 @@ fn at_source(
     event: &SourceEvent,
     looks: &mut Looks,
 ) -> (Outcome, Added)
-    ensures outcome { (net : Topology) (past : List ConnectionFact) (facts : List FactSpec) → IsLogOf facts log.now →
+    ensures outcome { (net : Topology) (past : Past) (facts : List FactSpec) → IsLogOf facts log.now →
         IsConnAt net past place conn.now facts → actor.old ≡ actor_of conn.now.vc facts →
         Happens net past (event_at_source place event.now) result.0 (facts_in result.1)
         × (actor.new ≡ actor_of conn.now.vc (facts_in result.1 ++ facts)) }
     ensures looks { looks.new ≤ looks.old + 2 }
-    ensures counted { (net : Topology) (past : List ConnectionFact) (facts : List FactSpec) → IsLogOf facts log.now →
+    ensures counted { (net : Topology) (past : Past) (facts : List FactSpec) → IsLogOf facts log.now →
         IsConnAt net past place conn.now facts → actor.old ≡ actor_of conn.now.vc facts → looks.old + 2 ≤ u64.MAX →
         looks.new ≡ looks.old + looks_to_take (length conn.now.path) (event_at_source place event.now) result.0 }
 {
@@ -82,13 +82,13 @@ fn at_hop(
     event: &HopEvent,
     looks: &mut Looks,
 ) -> (Outcome, Added)
-    ensures outcome { (net : Topology) (past : List ConnectionFact) (facts : List FactSpec) → IsLogOf facts log.now →
+    ensures outcome { (net : Topology) (past : Past) (facts : List FactSpec) → IsLogOf facts log.now →
         IsConnAt net past place conn.now facts → ArePorts net past ports.old → emitted ≡ emitted_of facts →
         Happens net past (event_at_hop place event.now) result.0 (facts_in result.1)
         × ArePorts net (after_event net past (event_at_hop place event.now)) ports.new }
     ensures touches { Touches (steps.port_at conn.now.path (hop_met_by event.now)) conn.now.vc ports.old ports.new }
     ensures looks { looks.new ≤ looks.old + 3 }
-    ensures counted { (net : Topology) (past : List ConnectionFact) (facts : List FactSpec) → IsLogOf facts log.now →
+    ensures counted { (net : Topology) (past : Past) (facts : List FactSpec) → IsLogOf facts log.now →
         IsConnAt net past place conn.now facts → ArePorts net past ports.old → emitted ≡ emitted_of facts →
         looks.old + 3 ≤ u64.MAX →
         looks.new ≡ looks.old + looks_to_take (length conn.now.path) (event_at_hop place event.now) result.0 }
@@ -111,14 +111,14 @@ pub(crate) fn happen(
     event: &Event,
     looks: &mut Looks,
 ) -> (Outcome, Added)
-    ensures outcome { (net : Topology) (past : List ConnectionFact) (facts : List FactSpec) → IsLogOf facts log.now →
+    ensures outcome { (net : Topology) (past : Past) (facts : List FactSpec) → IsLogOf facts log.now →
         AsksRate event.now → IsConnAt net past (conn_of event.now) conn.now facts → ArePorts net past ports.old →
         actor.old ≡ actor_of conn.now.vc facts →
         Happens net past event.now result.0 (facts_in result.1) × ArePorts net (after_event net past event.now) ports.new
         × (actor.new ≡ actor_of conn.now.vc (facts_in result.1 ++ facts)) }
     ensures touches { Touches (touches.visited conn.now event.now) conn.now.vc ports.old ports.new }
     ensures looks { looks.new ≤ looks.old + 3 }
-    ensures counted { (net : Topology) (past : List ConnectionFact) (facts : List FactSpec) → IsLogOf facts log.now →
+    ensures counted { (net : Topology) (past : Past) (facts : List FactSpec) → IsLogOf facts log.now →
         IsConnAt net past (conn_of event.now) conn.now facts → ArePorts net past ports.old →
         actor.old ≡ actor_of conn.now.vc facts → looks.old + 3 ≤ u64.MAX →
         looks.new ≡ looks.old + looks_to_take (length conn.now.path) event.now result.0 }

@@ -4,7 +4,7 @@ ghost use Rattle.abt_facts.specs.declared.fact.Fact.{Fact as FactSpec};
 ghost use Rattle.abt_facts.specs.Sent.{request_is_at, yes_is_at, no_is_at, answer_is_at};
 ghost use Rattle.abt_actor.specs.Facts.{facts_in};
 ghost use Rattle.abt_log.specs.Log.{IsLogOf};
-ghost use Rattle.abt_model.specs.declared.connection_fact.ConnectionFact.{ConnectionFact};
+ghost use Rattle.abt_model.specs.Past.{Past};
 ghost use Rattle.abt_model.specs.declared.event.Event.TheVariants as event;
 ghost use Rattle.abt_model.specs.Outcomes as outcomes;
 ghost use Rattle.abt_net.specs.Topology.{Topology};
@@ -117,14 +117,14 @@ pub(crate) fn request(
     seq: u32,
     looks: &mut Looks,
 ) -> (Outcome, Added)
-    ensures outcome { (net : Topology) (past : List ConnectionFact) (facts : List FactSpec) → IsLogOf facts log.now →
+    ensures outcome { (net : Topology) (past : Past) (facts : List FactSpec) → IsLogOf facts log.now →
         IsConnAt net past place conn.now facts →
         ArePorts net past ports.old →
         Happens net past (event.Request place hop seq) result.0 (facts_in result.1)
         × ArePorts net (outcomes.after_event net past (event.Request place hop seq)) ports.new }
     ensures touches { Touches (steps.port_at conn.now.path hop) conn.now.vc ports.old ports.new }
     ensures looks { looks.new ≤ looks.old + 3 }
-    ensures counted { (net : Topology) (past : List ConnectionFact) (facts : List FactSpec) → IsLogOf facts log.now →
+    ensures counted { (net : Topology) (past : Past) (facts : List FactSpec) → IsLogOf facts log.now →
         IsConnAt net past place conn.now facts →
         ArePorts net past ports.old → looks.old + 3 ≤ u64.MAX →
         looks.new ≡ looks.old + looks_to_take (length conn.now.path) (event.Request place hop seq) result.0 }
@@ -157,14 +157,14 @@ pub(crate) fn answer(
     granted: bool,
     looks: &mut Looks,
 ) -> (Outcome, Added)
-    ensures outcome { (net : Topology) (past : List ConnectionFact) (facts : List FactSpec) → IsLogOf facts log.now →
+    ensures outcome { (net : Topology) (past : Past) (facts : List FactSpec) → IsLogOf facts log.now →
         IsConnAt net past place conn.now facts →
         ArePorts net past ports.old →
         Happens net past (event.Answer place hop seq granted) result.0 (facts_in result.1)
         × ArePorts net (outcomes.after_event net past (event.Answer place hop seq granted)) ports.new }
     ensures touches { Touches (steps.port_at conn.now.path hop) conn.now.vc ports.old ports.new }
     ensures looks { looks.new ≤ looks.old + 3 }
-    ensures counted { (net : Topology) (past : List ConnectionFact) (facts : List FactSpec) → IsLogOf facts log.now →
+    ensures counted { (net : Topology) (past : Past) (facts : List FactSpec) → IsLogOf facts log.now →
         IsConnAt net past place conn.now facts →
         ArePorts net past ports.old → looks.old + 3 ≤ u64.MAX →
         looks.new ≡ looks.old + looks_to_take (length conn.now.path) (event.Answer place hop seq granted) result.0 }

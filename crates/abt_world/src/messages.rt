@@ -7,7 +7,7 @@ ghost use Rattle.abt_facts.specs.Sent.{answer_is_home};
 ghost use Rattle.abt_actor.specs.Actor.{actor_of};
 ghost use Rattle.abt_actor.specs.Facts.{facts_in};
 ghost use Rattle.abt_log.specs.Log.{IsLogOf};
-ghost use Rattle.abt_model.specs.declared.connection_fact.ConnectionFact.{ConnectionFact};
+ghost use Rattle.abt_model.specs.Past.{Past};
 ghost use Rattle.abt_model.specs.declared.event.Event.TheVariants.{Turn, Told};
 ghost use Rattle.abt_source.specs.SourceFacts as source_facts;
 ghost use Rattle.abt_net.specs.Topology.{Topology};
@@ -57,7 +57,7 @@ pub(crate) fn turn(
     seq: u32,
     looks: &mut Looks,
 ) -> (Outcome, Added)
-    ensures outcome { (net : Topology) (past : List ConnectionFact) (facts : List FactSpec) → IsLogOf facts log.now →
+    ensures outcome { (net : Topology) (past : Past) (facts : List FactSpec) → IsLogOf facts log.now →
         IsConnAt net past place conn.now facts →
         Happens net past (Turn place seq) result.0 (facts_in result.1) }
     ensures looks { looks.new ≤ looks.old + 1 }
@@ -93,13 +93,13 @@ pub(crate) fn told(
     granted: bool,
     looks: &mut Looks,
 ) -> (Outcome, Added)
-    ensures outcome { (net : Topology) (past : List ConnectionFact) (facts : List FactSpec) → IsLogOf facts log.now →
+    ensures outcome { (net : Topology) (past : Past) (facts : List FactSpec) → IsLogOf facts log.now →
         IsConnAt net past place conn.now facts →
         actor.old ≡ actor_of conn.now.vc facts →
         Happens net past (Told place seq granted) result.0 (facts_in result.1)
         × (actor.new ≡ actor_of conn.now.vc (facts_in result.1 ++ facts)) }
     ensures looks { looks.new ≤ looks.old + 2 }
-    ensures counted { (net : Topology) (past : List ConnectionFact) (facts : List FactSpec) → IsLogOf facts log.now →
+    ensures counted { (net : Topology) (past : Past) (facts : List FactSpec) → IsLogOf facts log.now →
         IsConnAt net past place conn.now facts →
         actor.old ≡ actor_of conn.now.vc facts → looks.old + 2 ≤ u64.MAX →
         looks.new ≡ looks.old + looks_to_take (length conn.now.path) (Told place seq granted) result.0 }

@@ -3,14 +3,13 @@ use Rattle.std.proofs.Common.{◌≡◌, ◌≢◌, ℕ, inl, inr, refl, ap, Boo
 use Rattle.std.specs.Prelude.{◌==◌, if◌then◌else◌, slice_get}
 use Rattle.std.proofs.lemmas.Bool.{cond-false, cond-true, cases_eq, eq-eqb, ne_eqb}
 use Rattle.abt_net.specs.Topology.{Topology}
-use Rattle.abt_model.specs.declared.connection_fact.ConnectionFact.{ConnectionFact}
 use Rattle.abt_model.specs.declared.event.Event.{Event}
 use Rattle.abt_model.specs.declared.outcome.Cause.{Cause}
 use Rattle.abt_model.specs.declared.outcome.Outcome.{Outcome}
 use Rattle.abt_model.specs.declared.outcome.Outcome.TheVariants.{NotEnabled}
 use Rattle.abt_facts.specs.declared.fact.Fact.{Fact}
 use Rattle.abt_model.specs.Outcomes.{conn_of, outcome_of, facts_added, after_event}
-use Rattle.abt_model.specs.Past.{facts_of, with_facts}
+use Rattle.abt_model.specs.Past.{Past, facts_of, with_facts}
 use Rattle.abt_model.proofs.Steps.{down_adds}
 use Rattle.abt_source_journal.specs.declared.entry.SourceEntry.{SourceEntry}
 use Rattle.abt_woven.specs.Projections.{Step, Visit, past_of, visit, step_at, steps_on, entry_made, entry_at, entries_on}
@@ -18,7 +17,7 @@ use Rattle.abt_woven.specs.Stuck.{Journaled, port_journal, source_journal, next_
 use Rattle.abt_woven.proofs.Beginnings.{beginning_more, beginning_nil}
 
 -- what isn't enabled leaves the past
-pub disabled_same : (net : Topology) (past : List ConnectionFact) (event : Event) (cause : Cause) → outcome_of net past event ≡ NotEnabled cause → after_event net past event ≡ past
+pub disabled_same : (net : Topology) (past : Past) (event : Event) (cause : Cause) → outcome_of net past event ≡ NotEnabled cause → after_event net past event ≡ past
 disabled_same net past event cause is =
     ap (λ (o : Outcome). with_facts (conn_of event) (facts_added (facts_of (conn_of event) past) event o) past) is
     ∙ ap (λ (l : List Fact). with_facts (conn_of event) l past) (down_adds (facts_of (conn_of event) past) event cause)

@@ -11,7 +11,6 @@ use Rattle.abt_facts.specs.declared.fact.Fact.{Fact}
 use Rattle.abt_facts.specs.declared.fact.Fact.TheVariants.{Turned as FactTurned}
 use Rattle.abt_facts.specs.Source.{SourceState, Down, Idle, Asking, state_of}
 use Rattle.abt_facts.specs.Sent.{answer_is_at, was_turned, was_back}
-use Rattle.abt_model.specs.declared.connection_fact.ConnectionFact.{ConnectionFact}
 use Rattle.abt_model.specs.declared.event.Event.{Event}
 use Rattle.abt_model.specs.declared.event.Event.TheVariants.{Start, Ask, Again, Turn, Answer}
 use Rattle.abt_model.specs.declared.outcome.Cause.TheVariants.{NotSent, Unknown}
@@ -22,7 +21,7 @@ use Rattle.abt_model.specs.Decision.{answer_decision}
 use Rattle.abt_cell.specs.Message.{answer_to}
 use Rattle.abt_source.specs.SourceFacts.{request_of}
 use Rattle.abt_model.specs.Outcomes.{conn_of, port_of, outcome_at, outcome_of, facts_added, after_event}
-use Rattle.abt_model.specs.Past.{facts_of, with_facts}
+use Rattle.abt_model.specs.Past.{Past, facts_of, with_facts}
 use Rattle.abt_model.specs.Reserved.{held_on, reserved_on}
 use Rattle.abt_model.proofs.Sums.{numbered_same}
 use Rattle.abt_journal.specs.declared.input.PortReply.{PortReply}
@@ -74,46 +73,46 @@ answer_if-turned sent conn reserved capacity t facts (Again c) = again_turned co
 answer_if-turned sent conn reserved capacity t facts other = refl
 
 -- the past with the fact of a Turn
-abbrev pub turned : (c t : ℕ) → List ConnectionFact → List ConnectionFact
+abbrev pub turned : (c t : ℕ) → Past → Past
 turned c t past = record { conn = c; fact = FactTurned t } ∷ past
 
 -- what doesn't see Turns
 blind : {A : Type 0} → (view : List Fact → A) → ((t : ℕ) (facts : List Fact) → view (FactTurned t ∷ facts) ≡ view facts) →
-    (d c t : ℕ) (past : List ConnectionFact) → view (facts_of d (turned c t past)) ≡ view (facts_of d past)
+    (d c t : ℕ) (past : Past) → view (facts_of d (turned c t past)) ≡ view (facts_of d past)
 blind view sees d c t past =
     cond_both (c == d) (FactTurned t ∷ facts_of d past) (facts_of d past) (λ (facts : List Fact). view facts ≡ view (facts_of d past))
     (λ e. sees t (facts_of d past)) (λ e. refl)
 
-reserved_turned : (net : Topology) (c t : ℕ) (past : List ConnectionFact) (p : ℕ) → reserved_on net (turned c t past) p ≡ reserved_on net past p
+reserved_turned : (net : Topology) (c t : ℕ) (past : Past) (p : ℕ) → reserved_on net (turned c t past) p ≡ reserved_on net past p
 reserved_turned net c t past p =
     numbered_same (λ numbered. held_on (facts_of numbered.0 past) numbered.1.path p) (λ numbered. held_on (facts_of numbered.0 (turned c t past)) numbered.1.path p) 0 net.conns
     (λ d conn low. blind (λ (facts : List Fact). held_on facts conn.path p) (λ s facts. refl) d c t past)
 
 -- the outcome after a past, where an answer was sent or not as is said
-abbrev pub outcome_at_if : Bool → Topology → List ConnectionFact → Option Conn → Event → Outcome
+abbrev pub outcome_at_if : Bool → Topology → Past → Option Conn → Event → Outcome
 outcome_at_if sent net past None event = NotEnabled Unknown
 outcome_at_if sent net past (Some conn) event =
     let port = port_of conn.path event in
     answer_if sent conn (reserved_on net past port) (slice_index net.capacities port) (facts_of (conn_of event) past) event
 
-abbrev pub outcome_if : Bool → Topology → List ConnectionFact → Event → Outcome
+abbrev pub outcome_if : Bool → Topology → Past → Event → Outcome
 outcome_if sent net past event = outcome_at_if sent net past (conn_at net (conn_of event)) event
 
-abbrev pub sent_at : List ConnectionFact → Option Conn → Event → Bool
+abbrev pub sent_at : Past → Option Conn → Event → Bool
 sent_at past None event = true
 sent_at past (Some conn) event = was_sent conn (facts_of (conn_of event) past) event
 
-abbrev pub is_sent : Topology → List ConnectionFact → Event → Bool
+abbrev pub is_sent : Topology → Past → Event → Bool
 is_sent net past event = sent_at past (conn_at net (conn_of event)) event
 
-outcome_at-if : (net : Topology) (past : List ConnectionFact) (event : Event) (o : Option Conn) → outcome_at net past o event ≡ outcome_at_if (sent_at past o event) net past o event
+outcome_at-if : (net : Topology) (past : Past) (event : Event) (o : Option Conn) → outcome_at net past o event ≡ outcome_at_if (sent_at past o event) net past o event
 outcome_at-if net past event None = refl
 outcome_at-if net past event (Some conn) = by_sent conn (reserved_on net past (port_of conn.path event)) (slice_index net.capacities (port_of conn.path event)) (facts_of (conn_of event) past) event
 
-pub outcome-if : (net : Topology) (past : List ConnectionFact) (event : Event) → outcome_of net past event ≡ outcome_if (is_sent net past event) net past event
+pub outcome-if : (net : Topology) (past : Past) (event : Event) → outcome_of net past event ≡ outcome_if (is_sent net past event) net past event
 outcome-if net past event = outcome_at-if net past event (conn_at net (conn_of event))
 
-outcome_at_if-turned : (sent : Bool) (net : Topology) (c t : ℕ) (past : List ConnectionFact) (event : Event) (o : Option Conn) →
+outcome_at_if-turned : (sent : Bool) (net : Topology) (c t : ℕ) (past : Past) (event : Event) (o : Option Conn) →
     outcome_at_if sent net (turned c t past) o event ≡ outcome_at_if sent net past o event
 outcome_at_if-turned sent net c t past event None = refl
 outcome_at_if-turned sent net c t past event (Some conn) =
@@ -122,7 +121,7 @@ outcome_at_if-turned sent net c t past event (Some conn) =
     ∙ blind (λ (facts : List Fact). answer_if sent conn (reserved_on net past port) (slice_index net.capacities port) facts event)
     (λ s facts. answer_if-turned sent conn (reserved_on net past port) (slice_index net.capacities port) s facts event) (conn_of event) c t past
 
-pub outcome_if-turned : (sent : Bool) (net : Topology) (c t : ℕ) (past : List ConnectionFact) (event : Event) → outcome_if sent net (turned c t past) event ≡ outcome_if sent net past event
+pub outcome_if-turned : (sent : Bool) (net : Topology) (c t : ℕ) (past : Past) (event : Event) → outcome_if sent net (turned c t past) event ≡ outcome_if sent net past event
 outcome_if-turned sent net c t past event = outcome_at_if-turned sent net c t past event (conn_at net (conn_of event))
 
 -- the event is the yes at the last hop that this Turn makes
@@ -141,7 +140,7 @@ yes_turned conn facts t hop seq = elim (cases_eq t seq) [
   | inr other ↦ inl (ap (λ (b : Bool). if hop == length conn.path then (b || was_turned facts seq) else was_back facts seq (hop + 1)) (ne_eqb t seq other))
 ]
 
-answer_turned : (net : Topology) (c t d hop seq : ℕ) (past : List ConnectionFact) (conn : Conn) → conn_at net d ≡ Some conn →
+answer_turned : (net : Topology) (c t d hop seq : ℕ) (past : Past) (conn : Conn) → conn_at net d ≡ Some conn →
     (answer_is_at (length conn.path) (facts_of d (turned c t past)) seq hop true ≡ answer_is_at (length conn.path) (facts_of d past) seq hop true) ⊎ IsYesOf net c t (Answer d hop seq true)
 answer_turned net c t d hop seq past conn known = elim (cases_eq c d) [
   | inl same ↦ (
@@ -157,7 +156,7 @@ answer_turned net c t d hop seq past conn known = elim (cases_eq c d) [
   | inr differ ↦ inl (ap (λ (l : List Fact). answer_is_at (length conn.path) l seq hop true) (cond-false _ _ _ (ne_eqb c d differ)))
 ]
 
-sent_turned : (net : Topology) (c t : ℕ) (past : List ConnectionFact) (event : Event) (o : Option Conn) → conn_at net (conn_of event) ≡ o →
+sent_turned : (net : Topology) (c t : ℕ) (past : Past) (event : Event) (o : Option Conn) → conn_at net (conn_of event) ≡ o →
     (sent_at (turned c t past) o event ≡ sent_at past o event) ⊎ IsYesOf net c t event
 sent_turned net c t past event None known = inl refl
 sent_turned net c t past (Answer d hop seq true) (Some conn) known = answer_turned net c t d hop seq past conn known
@@ -165,11 +164,11 @@ sent_turned net c t past (Answer d hop seq false) (Some conn) known = inl (blind
 sent_turned net c t past other (Some conn) known = inl refl
 
 -- whether an answer was sent stays after a Turn, or it is its yes
-is_sent-turned : (net : Topology) (c t : ℕ) (past : List ConnectionFact) (event : Event) → (is_sent net (turned c t past) event ≡ is_sent net past event) ⊎ IsYesOf net c t event
+is_sent-turned : (net : Topology) (c t : ℕ) (past : Past) (event : Event) → (is_sent net (turned c t past) event ≡ is_sent net past event) ⊎ IsYesOf net c t event
 is_sent-turned net c t past event = sent_turned net c t past event (conn_at net (conn_of event)) refl
 
 -- the yes of a Turn was sent after it
-yes_sent : (net : Topology) (c t : ℕ) (past : List ConnectionFact) (event : Event) → IsYesOf net c t event → is_sent net (turned c t past) event ≡ true
+yes_sent : (net : Topology) (c t : ℕ) (past : Past) (event : Event) → IsYesOf net c t event → is_sent net (turned c t past) event ≡ true
 yes_sent net c t past event own =
     let hops = length own.conn.path in
     let facts : facts_of c (turned c t past) ≡ FactTurned t ∷ facts_of c past = cond-true _ _ _ (eq-eqb c c refl) in
@@ -179,7 +178,7 @@ yes_sent net c t past event own =
     ∙ cond-true _ _ _ (eq-eqb hops hops refl)
     ∙ or_left _ _ (eq-eqb t t refl)
 
-pub turned-is : (net : Topology) (past : List ConnectionFact) (c s : ℕ) → outcome_of net past (Turn c s) ≡ Turned → after_event net past (Turn c s) ≡ turned c s past
+pub turned-is : (net : Topology) (past : Past) (c s : ℕ) → outcome_of net past (Turn c s) ≡ Turned → after_event net past (Turn c s) ≡ turned c s past
 turned-is net past c s happens = ap (λ (o : Outcome). with_facts c (facts_added (facts_of c past) (Turn c s) o) past) happens
 
 pub turn-past : (net : Topology) (earlier : List Event) (event : Event) → (turn : IsTurn net earlier event) → past_of net (event ∷ earlier) ≡ turned turn.conn turn.seq (past_of net earlier)
@@ -192,11 +191,11 @@ pub outcome_if-turns : (sent : Bool) (net : Topology) (earlier turns : List Even
     outcome_if sent net (past_of net (turns ++ earlier)) event ≡ outcome_if sent net (past_of net earlier) event
 outcome_if-turns sent net earlier [] all event = refl
 outcome_if-turns sent net earlier (turn ∷ turns) all event =
-    ap (λ (past : List ConnectionFact). outcome_if sent net past event) (turn-past net (turns ++ earlier) turn all.0)
+    ap (λ (past : Past). outcome_if sent net past event) (turn-past net (turns ++ earlier) turn all.0)
     ∙ outcome_if-turned sent net all.0.conn all.0.seq (past_of net (turns ++ earlier)) event
     ∙ outcome_if-turns sent net earlier turns all.1 event
 
-turn_sent : (past : List ConnectionFact) (c s : ℕ) (o : Option Conn) → sent_at past o (Turn c s) ≡ true
+turn_sent : (past : Past) (c s : ℕ) (o : Option Conn) → sent_at past o (Turn c s) ≡ true
 turn_sent past c s None = refl
 turn_sent past c s (Some conn) = refl
 
@@ -220,7 +219,7 @@ sent_turns : (net : Topology) (earlier turns : List Event) → AreTurns net earl
     (is_sent net (past_of net (turns ++ earlier)) event ≡ is_sent net (past_of net earlier) event) ⊎ (HasOwnTurn net earlier event × (is_sent net (past_of net (turns ++ earlier)) event ≡ true))
 sent_turns net earlier [] all event = inl refl
 sent_turns net earlier (turn ∷ turns) all event =
-    let now = ap (λ (past : List ConnectionFact). is_sent net past event) (turn-past net (turns ++ earlier) turn all.0) in
+    let now = ap (λ (past : Past). is_sent net past event) (turn-past net (turns ++ earlier) turn all.0) in
     elim (is_sent-turned net all.0.conn all.0.seq (past_of net (turns ++ earlier)) event) [
       | inl same ↦ (elim (sent_turns net earlier turns all.1 event) [
         | inl alike ↦ inl (now ∙ same ∙ alike)
@@ -242,7 +241,7 @@ own_after : (net : Topology) (earlier : List Event) (event : Event) → (own : H
     outcome_of net (past_of net (Turn own.conn own.seq ∷ earlier)) event ≡ outcome_if true net (past_of net earlier) event
 own_after net earlier event own =
     let past = past_of net earlier in
-    ap (λ (w : List ConnectionFact). outcome_of net w event) (turned-is net past own.conn own.seq own.happens)
+    ap (λ (w : Past). outcome_of net w event) (turned-is net past own.conn own.seq own.happens)
     ∙ outcome-if net (turned own.conn own.seq past) event
     ∙ ap (λ (x : Bool). outcome_if x net (turned own.conn own.seq past) event) (yes_sent net own.conn own.seq past event own.its)
     ∙ outcome_if-turned true net own.conn own.seq past event
@@ -264,7 +263,7 @@ outcome_turns net earlier turns all event =
       | inr own ↦ inr (record { own = own.0; same = law true own.1 ∙ sym (own_after net earlier event own.0) })
     ]
 
-turn_visit : (past : List ConnectionFact) (c s : ℕ) (reply : Option PortReply) (o : Option Conn) → visit_by past (Turn c s) reply o ≡ None
+turn_visit : (past : Past) (c s : ℕ) (reply : Option PortReply) (o : Option Conn) → visit_by past (Turn c s) reply o ≡ None
 turn_visit past c s reply None = refl
 turn_visit past c s None (Some conn) = refl
 turn_visit past c s (Some reply) (Some conn) = refl

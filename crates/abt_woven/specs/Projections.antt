@@ -6,7 +6,6 @@ use Rattle.abt_cell.specs.Message.{Terms}
 use Rattle.abt_net.specs.declared.conn.Conn.{Conn}
 use Rattle.abt_net.specs.Topology.{Topology, conn_at}
 use Rattle.abt_facts.specs.declared.fact.Fact.{Fact}
-use Rattle.abt_model.specs.declared.connection_fact.ConnectionFact.{ConnectionFact}
 use Rattle.abt_model.specs.declared.event.Event.{Event}
 use Rattle.abt_model.specs.declared.target.SourceEvent.{SourceEvent}
 use Rattle.abt_model.specs.declared.target.SourceEvent.TheVariants as source
@@ -19,7 +18,7 @@ use Rattle.abt_model.specs.declared.outcome.Outcome.TheVariants.{Arrived, Reques
 use Rattle.abt_cell.specs.Message.{answer_to}
 use Rattle.abt_source.specs.SourceFacts.{request_of}
 use Rattle.abt_model.specs.Outcomes.{conn_of, outcome_of, after_event}
-use Rattle.abt_model.specs.Past.{facts_of}
+use Rattle.abt_model.specs.Past.{Past, facts_of}
 use Rattle.abt_model.specs.PortTable.{hop_visited}
 use Rattle.abt_model.specs.Targets.{target_of, event_at_source}
 use Rattle.abt_journal.specs.declared.entry.Entry.{Entry}
@@ -71,7 +70,7 @@ input_in vc request other = None
 abbrev pub input_of : Channel → List Fact → Event → Option PortInput
 input_of vc facts event = input_in vc (request_of vc facts) (target_of event)
 
-abbrev pub visit_by : List ConnectionFact → Event → Option PortReply → Option Conn → Option Visit
+abbrev pub visit_by : Past → Event → Option PortReply → Option Conn → Option Visit
 visit_by past event reply None = None
 visit_by past event None (Some conn) = None
 visit_by past event (Some reply) (Some conn) =
@@ -79,7 +78,7 @@ visit_by past event (Some reply) (Some conn) =
     (input_of conn.vc (facts_of (conn_of event) past) event)
 
 -- the visit that an event is after a past, if it happens and comes to a port
-abbrev pub visit : Topology → List ConnectionFact → Event → Option Visit
+abbrev pub visit : Topology → Past → Event → Option Visit
 visit net past event = visit_by past event (reply_of (outcome_of net past event)) (conn_at net (conn_of event))
 
 -- whether an event at a source is an answer that it is told, and no command
@@ -105,7 +104,7 @@ abbrev pub entry_of : (place : ℕ) → Event → Outcome → Option SourceEntry
 entry_of place event outcome = entry_in place (target_of event) outcome
 
 -- the past that events leave
-abbrev pub past_of : Topology → List Event → List ConnectionFact
+abbrev pub past_of : Topology → List Event → Past
 past_of net [] = []
 past_of net (event ∷ earlier) = after_event net (past_of net earlier) event
 

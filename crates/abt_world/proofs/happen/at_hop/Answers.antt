@@ -3,7 +3,7 @@ use Rattle.abt_net.specs.Topology.{Topology}
 use Rattle.abt_node.specs.Table.{Table}
 use Rattle.abt_facts.specs.declared.fact.Fact.{Fact}
 use Rattle.abt_actor.specs.Facts.{facts_in}
-use Rattle.abt_model.specs.declared.connection_fact.ConnectionFact.{ConnectionFact}
+use Rattle.abt_model.specs.Past.{Past}
 use Rattle.abt_model.specs.declared.outcome.Outcome.{Outcome}
 use Rattle.abt_model.specs.declared.target.HopEvent.{HopEvent}
 use Rattle.abt_model.specs.Outcomes.{after_event}
@@ -14,7 +14,7 @@ use Rattle.abt_world.specs.Touches.{Touches}
 use Rattle.abt_world.proofs.happen.at_hop.Goals as goal
 
 -- what an event at a hop makes of the ports
-abbrev Serves : Topology → List ConnectionFact → ℕ → List Table → Outcome → List Fact → HopEvent → Type 0
+abbrev Serves : Topology → Past → ℕ → List Table → Outcome → List Fact → HopEvent → Type 0
 Serves net past place after outcome added x = Happens net past (event_at_hop place x) outcome added × ArePorts net (after_event net past (event_at_hop place x)) after
 
 -- and what it looks up

@@ -5,7 +5,7 @@ use Rattle.abt_facts.specs.declared.fact.Fact.{Fact}
 use Rattle.abt_actor.specs.Actor.{ActorView, actor_of}
 use Rattle.abt_actor.specs.Facts.{facts_in}
 use Rattle.abt_model.specs.declared.command.SourceCommand.TheVariants as command
-use Rattle.abt_model.specs.declared.connection_fact.ConnectionFact.{ConnectionFact}
+use Rattle.abt_model.specs.Past.{Past}
 use Rattle.abt_model.specs.declared.outcome.Outcome.{Outcome}
 use Rattle.abt_model.specs.declared.target.SourceEvent.{SourceEvent}
 use Rattle.abt_model.specs.Targets.{event_at_source}
@@ -15,7 +15,7 @@ use Rattle.abt_world.proofs.Happening.{command_happens}
 use Rattle.abt_world.proofs.happen.at_source.Goals as goal
 
 -- what an event at a source makes of its actor
-abbrev Becomes : Topology → List ConnectionFact → Conn → List Fact → ℕ → ActorView → Outcome → List Fact → SourceEvent → Type 0
+abbrev Becomes : Topology → Past → Conn → List Fact → ℕ → ActorView → Outcome → List Fact → SourceEvent → Type 0
 Becomes net past conn facts place new outcome added x = Happens net past (event_at_source place x) outcome added × (new ≡ actor_of conn.vc (added ++ facts))
 
 pub returns-in-Start-clause-outcome : goal.returns-in-Start-clause-outcome

@@ -4,13 +4,12 @@ use Rattle.abt_net.specs.declared.conn.Conn.{Conn}
 use Rattle.abt_node.specs.Table.{Table}
 use Rattle.abt_facts.specs.declared.fact.Fact.{Fact}
 use Rattle.abt_actor.specs.Facts.{facts_in}
-use Rattle.abt_model.specs.declared.connection_fact.ConnectionFact.{ConnectionFact}
 use Rattle.abt_model.specs.declared.event.Event.{Event}
 use Rattle.abt_model.specs.declared.outcome.Outcome.{Outcome}
 use Rattle.abt_model.specs.declared.target.Target.{Target}
 use Rattle.abt_model.specs.declared.target.Target.TheVariants.{Source, Hop, End}
 use Rattle.abt_model.specs.Outcomes.{after_event, facts_added}
-use Rattle.abt_model.specs.Past.{facts_of}
+use Rattle.abt_model.specs.Past.{Past, facts_of}
 use Rattle.abt_model.specs.Targets.{target_of, event_at, conn_in, hop_in}
 use Rattle.abt_model.proofs.Targets.{event_is}
 use Rattle.abt_world.specs.Looked.{looks_to_take}
@@ -21,11 +20,11 @@ use Rattle.abt_world.proofs.Touching.{untouched}
 use Rattle.abt_world.proofs.happen.happen.Goals as goal
 
 -- the connection is that of the target
-at_target : (net : Topology) (past : List ConnectionFact) (conn : Conn) (facts : List Fact) (e : Event) (t : Target) → target_of e ≡ t → IsConnAt net past (conn_in (target_of e)) conn facts → IsConnAt net past (conn_in t) conn facts
+at_target : (net : Topology) (past : Past) (conn : Conn) (facts : List Fact) (e : Event) (t : Target) → target_of e ≡ t → IsConnAt net past (conn_in (target_of e)) conn facts → IsConnAt net past (conn_in t) conn facts
 at_target net past conn facts e t is at = subst (λ (u : Target). IsConnAt net past (conn_in u) conn facts) is at
 
 -- what the event of the target does is what the event does
-happens_as : (net : Topology) (past : List ConnectionFact) (outcome : Outcome) (added : List Fact) (e : Event) (t : Target) → target_of e ≡ t → Happens net past (event_at t) outcome added → Happens net past e outcome added
+happens_as : (net : Topology) (past : Past) (outcome : Outcome) (added : List Fact) (e : Event) (t : Target) → target_of e ≡ t → Happens net past (event_at t) outcome added → Happens net past e outcome added
 happens_as net past outcome added e t is done = subst (λ (f : Event). Happens net past f outcome added) (sym (event_is e t is)) done
 
 pub returns-in-Source-clause-outcome : goal.returns-in-Source-clause-outcome
