@@ -32,3 +32,4 @@ pub mod NoneWoven
 pub mod AllBelow
 pub mod OneFault
 pub mod Needed
+pub mod Stopping
