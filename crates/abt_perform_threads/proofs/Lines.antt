@@ -9,7 +9,8 @@ use Rattle.abt_trace.specs.Traces.{IsTrace}
 use Rattle.abt_threads.specs.declared.gathered.Gathered.{Gathered}
 use Rattle.abt_woven.specs.Woven.{IsWoven}
 use Rattle.abt_perform_threads.specs.Judging.{IsJudged, IsVerdict}
-use Rattle.abt_perform_threads.specs.Shown.{BreaksOff, BreaksOffJudged, ShowsAll, ShowsUntil, gathered_line, woven_line, safe_line}
+use Rattle.abt_perform_threads.specs.Shown.{BreaksOff, BreaksOffJudged, ShowsAll, ShowsUntil, gathered_line, woven_line}
+use Rattle.abt_report.specs.Report.{safe_line}
 use Rattle.abt_perform_threads.specs.declared.judging.Judged.{Judged}
 use Rattle.abt_perform_threads.specs.declared.ran.Ran.{Ran}
 use Rattle.abt_perform_threads.specs.declared.showing.ShowFault.TheVariants.{Trace, Write}
