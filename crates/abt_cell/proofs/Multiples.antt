@@ -7,7 +7,7 @@ use Rattle.std.proofs.Math.Nat.{mul-one, mul_assoc, pow-suc, div-eq_of_lt, div-m
 use Rattle.abt_cell.specs.Polynomial.{generator, product, IsMultiple, IsRemainder}
 use Rattle.abt_cell.specs.Division.{divided}
 
-xor_pow : (a b k : ℕ) → bit_xor (a * 2 ^ k) (b * 2 ^ k) ≡ bit_xor a b * 2 ^ k
+pub xor_pow : (a b k : ℕ) → bit_xor (a * 2 ^ k) (b * 2 ^ k) ≡ bit_xor a b * 2 ^ k
 xor_pow a b k =
     let power = pow_pos k in
     rw (← add-zero (a * 2 ^ k), ← add-zero (b * 2 ^ k)) (xor_block k a b 0 0 power power ∙ add-zero _)

@@ -1,6 +1,6 @@
 -- What reading answers and what is written, as functions: for texts that are computed from cells. That they are the
 -- reading and the writing of `Reading` is what `read_rm` and `write_rm` ensure.
-use Rattle.std.specs.Prelude.{◌≡◌, ℕ, ◌<◌, ◌≤◌, ◌+◌, ◌*◌, ◌^◌, nat_lt, Result, Ok, Err, List, [], ◌∷◌, ◌++◌, replicate, slice_index, if◌then◌else◌, ◌==◌}
+use Rattle.std.specs.Prelude.{◌≡◌, ℕ, ◌<◌, ◌≤◌, ◌+◌, ◌*◌, ◌^◌, nat_lt, Result, Ok, Err, List, [], ◌∷◌, ◌++◌, replicate, if◌then◌else◌, ◌==◌}
 use Rattle.std.specs.Int.{w16, w32, to_be_bytes}
 use Rattle.abt_rate.specs.Code.{code_of}
 use Rattle.abt_rate.specs.Rate.{units_of, IsCanonical}

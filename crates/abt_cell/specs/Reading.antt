@@ -1,6 +1,6 @@
 -- Which cells are RM cells, what they say, which fault the others have, and which one cell is written (docs/FORMATS.md, "The
 -- RM cell").
-use Rattle.std.specs.Prelude.{◌≡◌, ◌≢◌, ℕ, ◌<◌, ◌≤◌, ◌^◌, List, replicate, slice_index, if◌then◌else◌, ◌==◌}
+use Rattle.std.specs.Prelude.{◌≡◌, ◌≢◌, ℕ, ◌<◌, ◌≤◌, ◌^◌, List, replicate, if◌then◌else◌, ◌==◌}
 use Rattle.abt_rate.specs.Rate.{units_of, IsCanonical}
 use Rattle.abt_cell.specs.Polynomial.{polynomial_of, IsMultiple}
 use Rattle.abt_cell.specs.Layout.{IsCell, pti_of, clp_of, payload_of, flag, ask_code, floor_code, seq_of, check_of, unused_of, filler_of, terms_of, reply_of, rm_type, protocol_of, abt_protocol, direction_bit, traffic_bit, congestion_bit, maintenance_bit, acknowledgement_bit, rigid_bit, filler_octet}
