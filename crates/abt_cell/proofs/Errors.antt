@@ -1,6 +1,6 @@
 -- Which polynomials are no multiples of the generator: those of odd weight, of few terms, and bursts.
-use Rattle.std.proofs.Common.{◌≡◌, ◌≢◌, ℕ, ◌+◌, ◌*◌, ◌/◌, ◌%◌, ◌^◌, ◌<◌, ◌≤◌, inl, inr, List, [], ◌∷◌, Bool, true, false, cond, not, ◌&&◌, arith, ap, sym, subst, ◌∙◌, refl, suc, zero, eqb, ltb}
-use Rattle.std.proofs.lemmas.Bool.{eqb-false, ltb-true, ltb-false, not-true, cond_both, and_parts, cases_eq}
+use Rattle.std.proofs.Common.{◌≡◌, ◌≢◌, ℕ, ◌+◌, ◌*◌, ◌/◌, ◌%◌, ◌^◌, ◌<◌, ◌≤◌, inl, inr, List, [], ◌∷◌, Bool, true, false, cond, not, ◌&&◌, arith, ap, sym, subst, ◌∙◌, refl, suc, zero, eqb}
+use Rattle.std.proofs.lemmas.Bool.{eqb-false, not-true, and_parts, cases_eq}
 use Rattle.std.specs.Int.Bits.{bit_xor, xor_shr, xor_shifted}
 use Rattle.std.specs.Prelude.{count_ones}
 use Rattle.std.proofs.Math.Nat.{mul-one, mul_assoc, pow-suc}
@@ -9,7 +9,8 @@ use Rattle.std.proofs.lemmas.Nat.{zero_from_ones}
 use lib.Count.{ones, ones_step}
 use Rattle.abt_cell.specs.Polynomial.{generator, product, IsMultiple, IsRemainder}
 use Rattle.abt_cell.specs.Damage.{IsBurst}
-use Rattle.abt_cell.proofs.Multiples.{multiple_zero, multiple_double, multiple_low, remainder_only, step_low, step_multiple, xor_pow}
+use Rattle.abt_cell.proofs.Powers.{next, power, power-remainder}
+use Rattle.abt_cell.proofs.Multiples.{multiple_zero, multiple_low, remainder_only}
 
 -- ---- the weight of a sum, of twice and of a multiple
 
@@ -99,14 +100,6 @@ burst_shows error burst multiple =
 
 -- ---- the powers of x, of which none from x^1 to x^383 leaves 1
 
--- x times a remainder, without the generator
-next : ℕ → ℕ
-next r = cond (ltb r (2 ^ 9)) (r * 2) (bit_xor (r * 2) generator)
-
-power : ℕ → ℕ
-power zero = 1
-power (suc d) = next (power d)
-
 -- none of so many remainders from r on is 1
 none_is_one : ℕ → ℕ → Bool
 none_is_one zero r = true
@@ -115,25 +108,6 @@ none_is_one (suc k) r = not (eqb r 1) && none_is_one k (next r)
 up_to_383 : none_is_one 383 2 ≡ true
 unfolding none_is_one next
 up_to_383 = refl
-
-next-remainder : (p r : ℕ) → IsRemainder p r → IsRemainder (p * 2) (next r)
-unfolding next
-next-remainder p r before =
-    let twice = multiple_double (bit_xor p r) before.multiple in
-    let doubled : bit_xor (p * 2) (r * 2) ≡ bit_xor p r * 2 = xor_pow p r 1 in
-    let degree = before.degree in
-    let both : IsMultiple (bit_xor (p * 2) (r * 2)) = subst IsMultiple (sym doubled) twice in
-    cond_both (ltb r (2 ^ 9)) (r * 2) (bit_xor (r * 2) generator) (IsRemainder (p * 2))
-    (λ less. let low = ltb-true r (2 ^ 9) less in record { degree = omega arith; multiple = both })
-    (λ more. let high = ltb-false r (2 ^ 9) more in record {
-      degree = step_low (r * 2) 0 (omega arith) (omega arith);
-      multiple = step_multiple (p * 2) (r * 2) 0 both;
-    })
-
-power-remainder : (d : ℕ) → IsRemainder (2 ^ d) (power d)
-unfolding power
-power-remainder zero = record { degree = omega arith; multiple = multiple_zero }
-power-remainder (suc d) = rw (pow-suc 2 d) (next-remainder (2 ^ d) (power d) (power-remainder d))
 
 -- the powers from one on, as the test goes over them
 later : ℕ → ℕ → ℕ

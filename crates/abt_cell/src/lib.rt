@@ -6,6 +6,7 @@ mod cell;
 mod crc;
 mod fault;
 mod field;
+mod fold;
 mod law;
 mod layout;
 mod message;
