@@ -7,12 +7,12 @@ use Rattle.std.proofs.Math.Nat.{mul-one, mul_assoc, pow-suc, div-eq_of_lt, div-m
 use Rattle.abt_cell.specs.Polynomial.{generator, product, IsMultiple, IsRemainder}
 use Rattle.abt_cell.specs.Division.{divided}
 
-xor_pow : (a b k : ℕ) → bit_xor (a * 2 ^ k) (b * 2 ^ k) ≡ bit_xor a b * 2 ^ k
+pub xor_pow : (a b k : ℕ) → bit_xor (a * 2 ^ k) (b * 2 ^ k) ≡ bit_xor a b * 2 ^ k
 xor_pow a b k =
     let power = pow_pos k in
     rw (← add-zero (a * 2 ^ k), ← add-zero (b * 2 ^ k)) (xor_block k a b 0 0 power power ∙ add-zero _)
 
-xor_double : (a b : ℕ) → bit_xor (a * 2) (b * 2) ≡ bit_xor a b * 2
+pub xor_double : (a b : ℕ) → bit_xor (a * 2) (b * 2) ≡ bit_xor a b * 2
 xor_double a b = xor_pow a b 1
 
 -- the sum, by the coefficients
@@ -21,7 +21,7 @@ sum [] ds = ds
 sum (c ∷ cs) [] = c ∷ cs
 sum (c ∷ cs) (d ∷ ds) = cond c (cond d false true) d ∷ sum cs ds
 
-xor_swap : (a b c d : ℕ) → bit_xor (bit_xor a b) (bit_xor c d) ≡ bit_xor (bit_xor a c) (bit_xor b d)
+pub xor_swap : (a b c d : ℕ) → bit_xor (bit_xor a b) (bit_xor c d) ≡ bit_xor (bit_xor a c) (bit_xor b d)
 xor_swap a b c d =
     xor_assoc a b (bit_xor c d)
     ∙ ap (bit_xor a) (sym (xor_assoc b c d) ∙ ap (λ x. bit_xor x d) (xor_comm b c) ∙ xor_assoc c b d)

@@ -1,5 +1,6 @@
 -- The cell that is written for a request or an answer.
-use Rattle.std.proofs.Common.{◌≡◌, ℕ, ◌+◌, ◌*◌, ◌/◌, ◌%◌, ◌^◌, ◌<◌, Bool, true, false, cond, arith, ap, sym, subst, refl, ◌∙◌, bit_xor}
+use Rattle.std.proofs.Common.{◌≡◌, ℕ, ◌+◌, ◌*◌, ◌/◌, ◌%◌, ◌^◌, ◌<◌, Bool, true, false, cond, arith, ap, sym, subst, refl, set, List, length, length-set, get_or, get_or-set_same, get_or-set_other, inl, inr, ◌∙◌, bit_xor}
+use Rattle.std.proofs.lemmas.Bool.{cases_eq}
 use Rattle.std.specs.Int.Bits.{xor_shifted}
 use Rattle.std.specs.Int.{bit_at}
 use Rattle.std.specs.Prelude.{if◌then◌else◌, ◌==◌}
@@ -8,7 +9,7 @@ use Rattle.abt_rate.specs.Rate.{units_of, IsCanonical}
 use Rattle.abt_cell.specs.Message.{Terms}
 use Rattle.abt_cell.specs.Polynomial.{polynomial_of, IsMultiple, IsRemainder}
 use Rattle.abt_cell.specs.Codec.{octets_with, header_for, draft_of, request_of, flags_of, IsSayable}
-use Rattle.abt_cell.specs.Layout.{header_of, ask_code, floor_code, seq_of, payload_of}
+use Rattle.abt_cell.specs.Layout.{IsCell, header_of, ask_code, floor_code, seq_of, payload_of}
 use Rattle.abt_cell.specs.Reading.{IsWritten}
 use Rattle.abt_cell.specs.declared.message.Rm.{Rm}
 use Rattle.abt_cell.specs.declared.message.Rm.TheVariants.{Request, Answer}
@@ -40,6 +41,23 @@ sum-octets_with x check low =
     let shifted : (x * 256 + 0) * 256 + 0 ≡ x * 2 ^ 16 = omega arith in
     let fits : check < 2 ^ 16 = omega arith in
     rw shifted (xor_shifted x 16 check fits)
+
+-- ---- the check put into the draft
+
+pub put-octet : (cell : List ℕ) (place octet : ℕ) → place < 52 → octet < 2 ^ 8 → IsCell cell → IsCell (set cell place octet)
+put-octet cell place octet within fits is =
+    let long = is.long in
+    let inside : place < length cell = omega arith in
+    record {
+      long = length-set cell place octet ∙ is.long;
+      octets = λ other. elim (cases_eq other place) as (λ _. get_or (set cell place octet) other 0 < 2 ^ 8) [
+        | inl same ↦ rw same (rw get_or-set_same fits)
+        | inr apart ↦ rw get_or-set_other (is.octets other)
+      ];
+    }
+
+pub drafted : (rm : Rm) (check : ℕ) → set (set (draft_of rm 0) 50 (check / 256 % 256)) 51 (check % 256) ≡ draft_of rm check
+drafted rm check = refl
 
 -- ---- the flags
 

@@ -5,3 +5,4 @@ pub mod Division
 pub mod Layout
 pub mod Reading
 pub mod Codec
+pub mod Damage

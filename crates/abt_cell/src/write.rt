@@ -35,14 +35,18 @@ fn checked(rm: &Rm) -> [u8; CELL_LENGTH]
     ensures value { result ≡ written_of rm.now }
     ensures only { IsOnlyWritten rm.now result }
 {
-    let unchecked = draft(rm, 0);
-    let check = remainder(&unchecked[PAYLOAD..]);
-    draft(rm, check)
+    let mut octets = draft(rm);
+    let check = remainder(&octets[PAYLOAD..]);
+    let [high, low] = check.to_be_bytes();
+    octets[CHECK] = high;
+    octets[CHECK + 1] = low;
+    octets
 }
 
-// The cell for a request or an answer with a check that may be any.
-fn draft(rm: &Rm, check: u16) -> [u8; CELL_LENGTH]
-    ensures value { result ≡ draft_of rm.now check }
+// The cell for a request or an answer with 0 for a check.
+fn draft(rm: &Rm) -> [u8; CELL_LENGTH]
+    ensures cell { IsCell result }
+    ensures value { result ≡ draft_of rm.now 0 }
     ensures sayable { IsSayable rm.now }
 {
     let request = rm.request();
@@ -50,7 +54,7 @@ fn draft(rm: &Rm, check: u16) -> [u8; CELL_LENGTH]
     let ask = request.ask().code();
     let floor = request.floor().code();
     let seq = request.seq();
-    octets_with(header, rm.flags(), ask, floor, seq, check)
+    octets_with(header, rm.flags(), ask, floor, seq)
 }
 
 // The header of an RM cell on a channel.
@@ -61,16 +65,9 @@ fn header(vc: Vc) -> u32
     ((vc.vpi() as u32) << 20) + ((vc.vci() as u32) << 4) + ((RM_CELL as u32) << 1)
 }
 
-// All octets of a cell with these fields, the others as they are written.
-fn octets_with(
-    header: u32,
-    flags: u8,
-    ask: u16,
-    floor: u16,
-    seq: u32,
-    check: u16,
-) -> [u8; CELL_LENGTH]
-    ensures { result ≡ octets_with header flags ask floor seq check }
+// All octets of a cell with these fields, the check 0 and the others as they are written.
+fn octets_with(header: u32, flags: u8, ask: u16, floor: u16, seq: u32) -> [u8; CELL_LENGTH]
+    ensures { result ≡ octets_with header flags ask floor seq 0 }
 {
     let mut octets = [0; CELL_LENGTH];
     octets[HEADER..PAYLOAD].copy_from_slice(&header.to_be_bytes());
@@ -80,6 +77,5 @@ fn octets_with(
     octets[FLOOR..UNUSED].copy_from_slice(&floor.to_be_bytes());
     octets[SEQ..FILLER].copy_from_slice(&seq.to_be_bytes());
     octets[FILLER..CHECK].fill(FILLER_OCTET);
-    octets[CHECK..].copy_from_slice(&check.to_be_bytes());
     octets
 }

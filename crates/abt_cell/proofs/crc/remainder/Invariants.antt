@@ -1,10 +1,9 @@
-use Rattle.std.proofs.Common.{◌≡◌, take}
-use Rattle.abt_cell.specs.Polynomial.{polynomial_of, IsRemainder}
-use Rattle.abt_cell.specs.Division.{remainder_of}
+use Rattle.std.proofs.Common.{◌+◌, ◌*◌, ◌^◌, ◌<◌, take, bit_xor}
+use Rattle.abt_cell.specs.Polynomial.{polynomial_of, IsMultiple}
 use Rattle.abt_cell.proofs.crc.remainder.Given as goal
 
-abbrev pub invariant-loop-octet : goal.invariant-loop-octet
-invariant-loop-octet l = record {
-  value : l.remainder ≡ remainder_of (take l.octet-index l.octets);
-  remains : IsRemainder (polynomial_of (take l.octet-index l.octets)) l.remainder;
+abbrev pub invariant-loop-index : goal.invariant-loop-index
+invariant-loop-index l = record {
+  low : l.rest < 2 ^ (89 + 7 * l.index);
+  same : IsMultiple (bit_xor (polynomial_of (take (12 * l.index) l.payload)) l.rest);
 }

@@ -92,6 +92,18 @@ fn what_carries_nothing_is_taken_at_any_value(rt: HostRuntime) -> Result<(), Fai
     Ok(())
 }
 
+// The check shows up to three changed bits, and bursts of up to ten. By division of polynomials (a script's, not the program's) these
+// are divisible by the generator: x^13 + x^9 + x^8 + 1, four bits of the asked rate, and the generator itself, a burst of eleven.
+#[test]
+fn four_bits_or_a_burst_of_eleven_can_pass(rt: HostRuntime) -> Result<(), Fail> {
+    reads(&rt, &Spelled { ask: 0x5259, ..A }.cell(), Err(RmFault::Crc));
+    for ask in [0x7159, 0x546b] {
+        let other = request(100, 1, 0x0000, ask).ok_or("a request")?;
+        reads(&rt, &Spelled { ask, ..A }.cell(), Ok(Rm::Request(other)));
+    }
+    Ok(())
+}
+
 // Each of the 416 bits of cell A changed: 384 of the payload, which the check covers, and of the header 3 of the payload
 // type, 1 of the loss priority, and 28 of the channel.
 #[test]
