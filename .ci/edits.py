@@ -21,6 +21,7 @@ import importlib.util
 import json
 import os
 import re
+import resource
 import shutil
 import subprocess
 import sys
@@ -360,7 +361,10 @@ def main():
         rows = [{"edit": it.name, "refused": it.is_refused, "how": it.how, "verdict": it.verdict} for it in edits]
         Path(words.json).write_text(json.dumps(rows, indent=1))
     told = sum(edit.is_refused and edit.by_kit and bool(edit.witness) for edit in edits)
-    print(f"edits: {len(edits)} tried, in {shared} batches and {alone} checks of one alone; the goals of {told} are false by their witness")
+    used = resource.getrusage(resource.RUSAGE_CHILDREN)
+    minutes = (used.ru_utime + used.ru_stime) / 60
+    print(f"edits: the goals of {told} are false by their witness; {minutes:.0f} processor minutes")
+    print(f"edits: {len(edits)} tried, in {shared} batches and {alone} checks of one alone")
     print(f"{refused} passed, {len(edits) - refused} failed")
     sys.exit(0 if refused == len(edits) else 1)
 

@@ -22,7 +22,6 @@ LONGEST_FILE = 400
 WITHOUT_BODIES = {
     "abt_facts",
     "abt_links",
-    "abt_model",
     "abt_part_tests",
     "abt_port_tests",
     "abt_rows",
