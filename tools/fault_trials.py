@@ -111,14 +111,14 @@ class Sweep:
         self.marks = count()
 
     def trial(self, command, kind, number):
-        """How a command ends, and the descriptor that was hit, or None where nothing failed."""
+        """How a command ends, and the descriptor of the call that failed, or None where it hasn't so many."""
         mark = self.folder / f"mark{next(self.marks)}"
         numbered = {kind.numbered: str(number)} if kind.numbered else {}
         environment = {"LD_PRELOAD": str(self.library), "FAULTS_AT": str(mark), **kind.more, **numbered}
         end = run(self.program, command, environment)
         descriptor = int(mark.read_text() or 0) if mark.exists() else None
         mark.unlink(missing_ok=True)
-        return number, end, descriptor
+        return number, end, descriptor if kind.numbered else 0
 
     def sweep(self, command, name):
         """Tries a kind of fault at each of its places, or at a share of them, up to the first at which the run doesn't end. Gives the

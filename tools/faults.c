@@ -8,8 +8,8 @@
 //   FAULTS_LASTING=1      and so does each later call of that kind
 //   FAULTS_SHORT=1        a read or a write takes one octet at most
 //   FAULTS_INTERRUPTED=1  every other read and every other write is interrupted before it did anything (EINTR)
-//   FAULTS_AT=FILE        the file that is made when any of that happens first; it has the number of the descriptor that was read or
-//                         written, or else 0
+//   FAULTS_AT=FILE        the file that is made when a call of a number fails first; it has the number of the descriptor that was to be
+//                         read or written, or else 0
 #define _GNU_SOURCE
 #include <dlfcn.h>
 #include <errno.h>
@@ -79,38 +79,31 @@ int posix_memalign(void **place, size_t align, size_t size) {
 }
 
 // Whether a read or a write is to fail, and why.
-static int has_fault(const char *name, atomic_ulong *calls, int descriptor, atomic_ulong *tries) {
-    if (is_set("FAULTS_INTERRUPTED") && atomic_fetch_add(tries, 1) % 2 == 0) {
-        mark(descriptor);
+static int has_fault(const char *name, atomic_ulong *calls, int descriptor) {
+    if (fails(name, calls, descriptor)) {
+        errno = EIO;
+        return 1;
+    }
+    if (is_set("FAULTS_INTERRUPTED") && atomic_load(calls) % 2 == 1) {
         errno = EINTR;
         return 1;
     }
-    if (!fails(name, calls, descriptor))
-        return 0;
-    errno = EIO;
-    return 1;
+    return 0;
 }
 
 // How many octets a read or a write of so many takes at most.
-static size_t room(size_t size, int descriptor) {
-    if (size <= 1 || !is_set("FAULTS_SHORT"))
-        return size;
-    mark(descriptor);
-    return 1;
-}
+static size_t room(size_t size) { return size > 1 && is_set("FAULTS_SHORT") ? 1 : size; }
 
 ssize_t read(int descriptor, void *octets, size_t size) {
-    static atomic_ulong tries;
-    if (has_fault("FAULTS_READ", &reads, descriptor, &tries))
+    if (has_fault("FAULTS_READ", &reads, descriptor))
         return -1;
-    return syscall(SYS_read, descriptor, octets, room(size, descriptor));
+    return syscall(SYS_read, descriptor, octets, room(size));
 }
 
 ssize_t write(int descriptor, const void *octets, size_t size) {
-    static atomic_ulong tries;
-    if (has_fault("FAULTS_WRITE", &writes, descriptor, &tries))
+    if (has_fault("FAULTS_WRITE", &writes, descriptor))
         return -1;
-    return syscall(SYS_write, descriptor, octets, room(size, descriptor));
+    return syscall(SYS_write, descriptor, octets, room(size));
 }
 
 int pthread_create(pthread_t *thread, const pthread_attr_t *how, void *(*start)(void *), void *given) {
