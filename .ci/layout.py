@@ -45,7 +45,7 @@ def crates_listed():
 def linked_files(document):
     """The files of the repository that a document names in backquotes or links."""
     text = document.read_text()
-    named = re.findall(r"`((?:crates|docs|scenarios|bench)/[\w/.+-]+\.\w+)`", text)
+    named = re.findall(r"`((?:crates|docs|scenarios|bench|tools)/[\w/.+-]+\.\w+)`", text)
     linked = [link for link in re.findall(r"\]\(([\w/.+-]+\.\w+)\)", text) if not link.startswith("http")]
     return [Path(name) for name in named] + [document.parent / link for link in linked]
 

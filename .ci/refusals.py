@@ -48,8 +48,8 @@ def library(folder):
     compiler = os.environ.get("CC") or shutil.which("cc") or shutil.which("clang")
     if not compiler:
         return None
-    made = Path(folder) / "refuse.so"
-    subprocess.run([compiler, "-shared", "-fPIC", "-O1", "-o", made, Path(__file__).with_name("refuse.c")], check=True)
+    made = Path(folder) / "faults.so"
+    subprocess.run([compiler, "-shared", "-fPIC", "-O1", "-o", made, ROOT / "tools" / "faults.c"], check=True)
     return made
 
 
@@ -63,7 +63,7 @@ def run(program, preload, command, **more):
 def refused(program, preload, folder, command, number):
     """How a command ends with this allocation refused, if it has so many."""
     mark = Path(folder) / "refused" / str(number)
-    end = run(program, preload, command, REFUSED=str(number), REFUSED_AT=str(mark))
+    end = run(program, preload, command, FAULTS_ALLOCATION=str(number), FAULTS_AT=str(mark))
     return end if mark.exists() else None
 
 

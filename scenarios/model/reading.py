@@ -138,15 +138,28 @@ def net_fault(ports, conns):
     return None
 
 
+def has_great_number(value):
+    """Whether a value has a number in it that TOML needs no reader to take: those of Python's have any number of digits."""
+    match value:
+        case dict():
+            return any(has_great_number(one) for one in value.values())
+        case list():
+            return any(has_great_number(one) for one in value)
+    return type(value) is int and not -PAST_WHOLE <= value < PAST_WHOLE
+
+
 def document(octets):
     if len(octets) > LONGEST:
         raise Fault("TooLong")
     try:
-        return tomllib.loads(octets.decode("utf-8"))
+        table = tomllib.loads(octets.decode("utf-8"))
     except UnicodeDecodeError:
         raise Fault("NotUtf8") from None
     except tomllib.TOMLDecodeError:
         raise Fault("Toml") from None
+    if has_great_number(table):
+        raise Fault("Toml")
+    return table
 
 
 def read(octets):

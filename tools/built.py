@@ -1,0 +1,12 @@
+"""The program as it was built: by LLVM, and, where the gate ran, by Rattle's own compiler too."""
+import subprocess
+from pathlib import Path
+
+ROOT = Path(__file__).resolve().parent.parent
+FOLDER = ROOT / "crates" / "abt" / "out"
+
+
+def builds():
+    """The files of the program. `./abt` builds the first where need be; both are run past it, since it looks for newer sources each time."""
+    subprocess.run([ROOT / "abt", "rate", "0000"], stdout=subprocess.DEVNULL, check=True)
+    return [file for file in (FOLDER / "abt", FOLDER / "abt.by-rattle") if file.exists()]
