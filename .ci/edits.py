@@ -44,6 +44,8 @@ LAW = re.compile(r"(?:\./)?(src/\S+?):(\d+):\d+: error: ()`([^`]+)`: ")
 OF_A_PROOF = re.compile(r"(?:\./)?(proofs/\S+?):\d+:\d+: error: (?:`([^`]+)`: )?(.*)")
 NAMES_ALONE = re.compile(r"has no field|has no `|is not in scope|was not admitted|that can be named")
 
+# The last line of a check that ended, of the whole crate or of some functions.
+NOT_PROVED = re.compile(r"logic=not-proved|only=\d+ proved=\d+")
 WITNESS = "witness: "
 
 
@@ -99,7 +101,7 @@ class Check:
         """Whether the text was read and judged, as `rt must-fail` wants it."""
         if rt.rtlib.STALE.search(self.text) or any(rt.unread(line, changed) for line in self.lines):
             return False
-        return self.status == 0 or self.status == 1 and self.lines[-1].startswith("logic=not-proved")
+        return self.status == 0 or self.status == 1 and bool(NOT_PROVED.match(self.lines[-1]))
 
     def complaint(self, changed):
         bad = next((line for line in self.lines if rt.unread(line, changed)), "")
@@ -175,9 +177,18 @@ def with_edits(crate, edits):
     return texts
 
 
-def check(crate, texts, kept=None):
-    ran = rt.checked(crate, texts, ["--jobs", "1"], kept)
+def check(crate, texts, kept=None, modules=()):
+    """A check of a crate with some texts changed, or of these modules alone: of their functions, and of what these call."""
+    ran = rt.checked(crate, texts, ["--jobs", "1", *(f"--only={module}" for module in modules)], kept)
     return Check(ran.returncode, ran.stdout)
+
+
+def modules_of(edits):
+    """The modules in which some edits change bodies, or none where one of them stands in the crate's root."""
+    files = sorted({edit.file for edit in edits})
+    if not files or not all(edit.is_of_bodies for edit in edits) or {"src/lib.rt", "src/main.rt"} & {*files}:
+        return []
+    return [file.removeprefix("src/").removesuffix(".rt").replace("/", "::") for file in files]
 
 
 def judge(edit, ran, texts):
@@ -232,7 +243,8 @@ def try_together(crate, edits, room):
         if before:
             shutil.rmtree(before)
         texts = with_edits(crate, batch)
-        ran = check(crate, texts, kept)
+        # The first round proves all that the others take from it.
+        ran = check(crate, texts, kept, modules_of(batch) if before else ())
         for edit in batch:
             edit.how = "batch"
             if ran.reached_the_prover(texts):
@@ -257,7 +269,7 @@ def try_alone(edit, kept, room):
     any goal of the code counts, and any law of an impl."""
     edit.how = "alone"
     texts, _ = rt.read_edit(str(edit.path), edit.crate.folder)
-    ran = check_over(edit.crate, texts, kept, room)
+    ran = check_over(edit, texts, kept, room)
     edit.by_kit = ran.reached_the_prover(texts) and ran.status == 1
     if not ran.reached_the_prover(texts):
         edit.is_refused, edit.verdict = False, f"BAD EDIT: the prover can't read it, or wasn't reached: {ran.complaint(texts)}"
@@ -265,8 +277,14 @@ def try_alone(edit, kept, room):
         judge(edit, ran, texts)
     else:
         goals = [at for line in ran.lines if (at := GOAL.match(line) or LAW.match(line))]
-        edit.is_refused = bool(goals)
-        edit.verdict = f"`{goals[0][4]}`, {goals[0][1]}:{goals[0][2]}" if goals else f"no goal in src/ fails: {ran.complaint(texts)}"
+        proofs = [at for at in map(OF_A_PROOF.match, ran.lines) if at and at[2] and not NAMES_ALONE.search(at[3])]
+        edit.is_refused = bool(goals or proofs and edit.witness)
+        if goals:
+            edit.verdict = f"`{goals[0][4]}`, {goals[0][1]}:{goals[0][2]}"
+        elif edit.is_refused:
+            edit.verdict = f"the proof by hand of `{proofs[0][2]}`, {proofs[0][1]}; false where {edit.witness}"
+        else:
+            edit.verdict = f"no goal in src/ fails: {ran.complaint(texts)}"
 
 
 def try_without_answers(edit, kept, room):
@@ -278,17 +296,17 @@ def try_without_answers(edit, kept, room):
         edit.is_refused, edit.verdict = True, f"the proof by hand of `{goal}` of {function}; false where {edit.witness}"
         return 0
     texts, _ = rt.read_edit(str(edit.path), edit.crate.folder)
-    judge(edit, check_over(edit.crate, without_answers(edit.crate, answers, texts), kept, room), texts)
+    judge(edit, check_over(edit, without_answers(edit.crate, answers, texts), kept, room), texts)
     edit.is_refused = edit.is_refused and "can be false" in edit.verdict
     if not edit.is_refused:
         edit.verdict = why
     return 1
 
 
-def check_over(crate, texts, kept, room):
-    """A check over a copy of what earlier checks proved, or from nothing."""
+def check_over(edit, texts, kept, room):
+    """A check of an edit's texts over a copy of what earlier checks proved, or from nothing."""
     over = copied(kept, room) if kept else None
-    ran = check(crate, texts, over)
+    ran = check(edit.crate, texts, over, modules_of([edit]) if kept else ())
     if over:
         shutil.rmtree(over)
     return ran
