@@ -152,7 +152,7 @@ def document(octets):
     if len(octets) > LONGEST:
         raise Fault("TooLong")
     try:
-        table = tomllib.loads(octets.decode("utf-8"))
+        table = tomllib.loads(octets.decode("utf-8").removeprefix("\ufeff"))
     except UnicodeDecodeError:
         raise Fault("NotUtf8") from None
     except tomllib.TOMLDecodeError:

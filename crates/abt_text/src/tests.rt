@@ -88,6 +88,67 @@ fn a_read_that_fails_in_the_middle_is_told(rt: HostRuntime) {
     assert!(rt; matches!(answer, Err(TextFault::Read)));
 }
 
+// A reader and a writer of which every call but each third one is interrupted.
+#[derive(Drop)]
+struct Interrupted<I> {
+    inside: I,
+    calls: u64,
+}
+
+impl<I> Interrupted<I> {
+    fn call(&mut self) -> io::Result<()> {
+        self.calls = self.calls.saturating_add(1);
+        if self.calls % 3 != 0 {
+            return Err(Error::from(ErrorKind::Interrupted));
+        }
+        Ok(())
+    }
+}
+
+impl<I: Read> Read for Interrupted<I> {
+    fn read(&mut self, buf: &mut [u8]) -> io::Result<usize> {
+        self.call()?;
+        self.inside.read(buf)
+    }
+}
+
+impl<I: Write> Write for Interrupted<I> {
+    fn write(&mut self, buf: &[u8]) -> io::Result<usize> {
+        self.call()?;
+        self.inside.write(buf)
+    }
+
+    fn flush(&mut self) -> io::Result<()> {
+        self.inside.flush()
+    }
+}
+
+#[test]
+fn an_interrupted_call_is_tried_again(rt: HostRuntime) -> Result<(), Fail> {
+    let alloc = rt.alloc();
+    let source: &[u8] = b"ports = [512000]\n";
+    let mut reader = Interrupted {
+        inside: source,
+        calls: 0,
+    };
+    let text = octets_of(alloc, &mut reader).map_err(|_| Fail::from("read"))?;
+    assert_eq!(rt; text.as_slice(), b"ports = [512000]\n".as_slice());
+    let mut writer = Interrupted {
+        inside: Narrow {
+            piece: 3,
+            room: 100,
+            taken: Vec::new(alloc),
+        },
+        calls: 0,
+    };
+    assert_eq!(rt; put(&mut writer, text.as_slice()), Ok(()));
+    assert_eq!(rt;
+        writer.inside.taken.as_slice(),
+        b"ports = [512000]\n".as_slice()
+    );
+    Ok(())
+}
+
 #[test]
 fn of_a_text_that_breaks_off_the_beginning_went_out(rt: HostRuntime) -> Result<(), Fail> {
     let text = b"total 307200\n";

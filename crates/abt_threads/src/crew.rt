@@ -67,6 +67,13 @@ impl Crew {
         self.sources.push_reserved(handle);
     }
 
+    /// Whether each worker that was to be started was.
+    pub(crate) fn is_complete(&self) -> bool
+        ensures { result ≡ self.now.complete }
+    {
+        self.complete
+    }
+
     /// The same crew, which isn't complete: a worker couldn't be started.
     pub(crate) fn broken_off(mut self) -> Crew
         ensures complete { result.complete ≡ false }

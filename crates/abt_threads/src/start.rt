@@ -1,5 +1,5 @@
 //! Workers that are started.
-ghost use Rattle.std.specs.Prelude.{◌≡◌, ◌≤◌, ◌+◌, [], IsTrue, length, map, vec_len, vec_capacity};
+ghost use Rattle.std.specs.Prelude.{◌≡◌, ◌≤◌, ◌+◌, [], false, IsTrue, length, map, vec_len, vec_capacity};
 ghost use Rattle.abt_relay.specs.Cells.{AreCellsOf};
 ghost use Rattle.abt_threads.specs.Runs.{ScriptsFit};
 ghost use Rattle.abt_threads.specs.Promises.{AreAccessesFrom, AreLinksFrom};
@@ -67,7 +67,8 @@ pub(crate) fn start_links<'run, E, R: Threads + Wait + Sync, G: Gate + Sync>(
     crew
 }
 
-// Starts an access worker for each connection. If one can't be started, no other one is, and the crew isn't complete.
+// Starts an access worker for each connection, if the crew is complete so far. If one can't be started, no other one is, and the
+// crew isn't complete.
 pub(crate) fn start_sources<'run, E, R: Threads + Wait + Sync, G: Gate + Sync>(
     mut crew: Crew,
     scope: &Scope<'run, E>,
@@ -88,7 +89,11 @@ pub(crate) fn start_sources<'run, E, R: Threads + Wait + Sync, G: Gate + Sync>(
     ensures all { IsTrue result.complete → (vec_len result.sources ≡ length scripts.now) × IsTrue crew.complete }
     ensures each { AreAccessesFrom bench.now.net.now 0 scripts.now (map (λ h. h.promise) result.sources.items) }
     ensures links { result.links ≡ crew.links }
+    ensures none { crew.complete ≡ false → result.sources.items ≡ [] }
 {
+    if !crew.is_complete() {
+        return crew;
+    }
     let Bench {
         net,
         cells,

@@ -3,9 +3,29 @@ ghost use Rattle.std.specs.Prelude.{◌≡◌};
 ghost use Rattle.abt_threads.specs.Stopping as stopping;
 
 use abt_relay::Parcel;
-use crossbeam_channel::{SendError, Sender};
+use crossbeam_channel::{Receiver, SendError, Sender};
+use std::alloc::AllocError;
 use std::sync::Wait;
 use std::thread;
+
+// Makes room in a channel for so many stops. A channel keeps the room that it has had, so once the link workers have taken what
+// lies before them, no stop wants memory.
+pub(crate) fn room_for_stops<R: Wait>(
+    rt: &R,
+    to: &Sender<Parcel>,
+    from: &Receiver<Parcel>,
+    workers: usize,
+) -> Result<(), AllocError> {
+    for _stop in 0..workers {
+        if to.send(rt, Parcel::Stop).is_err() {
+            return Err(AllocError);
+        }
+    }
+    for _stop in 0..workers {
+        let _ = from.try_recv(rt);
+    }
+    Ok(())
+}
 
 // Puts so many stops into the channel.
 pub(crate) fn stop_all<R: Wait>(rt: &R, to: &Sender<Parcel>, workers: usize) {

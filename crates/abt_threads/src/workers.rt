@@ -9,6 +9,7 @@ ghost use Rattle.abt_threads.specs.Promises.{AreWorked, IsOwnFault};
 use crate::crew::Crew;
 use crate::fault::RunFault;
 use crate::start::{Bench, start_links, start_sources};
+use crate::stop::room_for_stops;
 use crate::worked::{Worked, worked_of};
 use abt_net::Net;
 use abt_ports::{Gate, PortCell};
@@ -76,6 +77,7 @@ fn run_in<'run, E, R: Threads + Wait + Sync, G: Gate + Sync>(
 {
     let workers = usize::from(plan.workers);
     let (to, from) = unbounded(alloc)?;
+    room_for_stops(rt, &to, &from, workers)?;
     let source_ends = senders(alloc, &to, scripts.len())?;
     let link_ends = pairs(alloc, &to, &from, workers)?;
     drop(from);

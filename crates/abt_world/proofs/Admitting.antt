@@ -1,5 +1,6 @@
 -- A port that is given the connections of a net one by one knows none of them before, and has room for each.
-use Rattle.std.proofs.Common.{◌≡◌, ◌≢◌, ℕ, suc, ◌<◌, ◌≤◌, List, [], ◌∷◌, length, inl, inr, sym, ◌∙◌, arith}
+use Rattle.std.proofs.Common.{◌≡◌, ◌≢◌, ℕ, suc, ◌+◌, ◌<◌, ◌≤◌, List, [], ◌∷◌, length, drop, inl, inr, ap, sym, ◌∙◌, arith}
+use Rattle.std.proofs.lemmas.List.{get_or-drop, get_or_default, length-drop}
 use Rattle.std.specs.Prelude.{Option, Some, None, slice_index_or, AllPairs}
 use Rattle.std.specs.FinMap as map
 use Rattle.std.proofs.lemmas.Bool.{cases_Bool, cond-true, cond-false}
@@ -57,14 +58,17 @@ opening_few id capacity (conn ∷ conns) =
     let few = opening_few id capacity conns in
     joined_few table conn.vc (policer_at conn table.id) (length conns) few
 
--- the first of a net's connections isn't among the others, and the others' channels differ too
+-- each of these connections has a channel of its own
 abbrev pub OwnChannels : List Conn → Type 0
 OwnChannels conns = AllPairs (λ (a b : Conn). a.vc ≢ b.vc) conns
 
-pub first_unknown : (id capacity : ℕ) (conn : Conn) (conns : List Conn) → OwnChannels (conn ∷ conns) →
-    connection_at (opening_table id capacity conns) conn.vc ≡ None
-first_unknown id capacity conn conns own =
-    opening_unknown id capacity conns conn.vc (λ k d within same. own 0 (suc k) d (omega arith) (omega arith) (sym same))
-
-pub others_own : (conn : Conn) (conns : List Conn) → OwnChannels (conn ∷ conns) → OwnChannels conns
-others_own conn conns own = λ i j d later within. own (suc i) (suc j) d (omega arith) (omega arith)
+-- no connection from a place on has the channel of an earlier one
+pub later_others : (conns : List Conn) (before place : ℕ) (conn : Conn) → OwnChannels conns → before < place →
+    conn ≡ slice_index_or conns before conn → (k : ℕ) (d : Conn) → k < length (drop place conns) →
+    (slice_index_or (drop place conns) k d).vc ≢ conn.vc
+later_others conns before place conn own earlier here k d within same =
+    let few = length-drop place conns in
+    let there : slice_index_or (drop place conns) k d ≡ slice_index_or conns (place + k) conn =
+    get_or-drop place conns k d ∙ get_or_default conns (place + k) d conn (omega arith) in
+    own before (place + k) conn (omega arith) (omega arith)
+    (ap (λ (c : Conn). c.vc) (sym here) ∙ sym same ∙ ap (λ (c : Conn). c.vc) there)

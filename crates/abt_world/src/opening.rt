@@ -36,11 +36,12 @@ fn port_with(alloc: Global, id: u16, capacity: u64, conns: &[Conn]) -> Result<Po
     requires count { length conns.now ≤ net_connections_max }
     ensures { IfOk result (λ port. port ≡ opening.opening_table id capacity conns.now) }
 {
-    let Some((first, others)) = conns.split_first() else {
-        return Port::new(alloc, id, capacity);
-    };
-    let mut port = port_with(alloc, id, capacity, others)?;
-    join(&mut port, first)?;
+    let mut port = Port::new(alloc, id, capacity)?;
+    let mut place = conns.len();
+    while place > 0 {
+        place -= 1;
+        join(&mut port, &conns[place])?;
+    }
     Ok(port)
 }
 
