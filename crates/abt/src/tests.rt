@@ -81,6 +81,15 @@ impl Write for Narrow {
     }
 }
 
+/// A text out of its pieces.
+fn joined(alloc: Global, pieces: &[&str]) -> Result<String, Fail> {
+    let mut text = String::new(alloc);
+    for piece in pieces {
+        text.push_str(piece)?;
+    }
+    Ok(text)
+}
+
 /// The plan of some words.
 fn planned<'a>(alloc: Global, words: &'a [&'a str]) -> Result<Plan, Fail>
     ensures { IfOk result IsWithinLimits }

@@ -32,5 +32,17 @@ fn fault(alloc: Global, text: &str) -> Result<Option<ScenarioFault>, Fail> {
 
 /// The scenario of a text.
 fn scenario(alloc: Global, text: &str) -> Result<Scenario, Fail> {
-    reading(alloc, text)?.map_err(|_| Fail::from("no scenario"))
+    match reading(alloc, text)? {
+        Ok(scenario) => Ok(scenario),
+        Err(_) => Err(Fail::from("no scenario")),
+    }
+}
+
+/// A text out of its pieces.
+fn joined(alloc: Global, pieces: &[&str]) -> Result<String, Fail> {
+    let mut text = String::new(alloc);
+    for piece in pieces {
+        text.push_str(piece)?;
+    }
+    Ok(text)
 }

@@ -1,4 +1,6 @@
-use super::{A, B, B2, LA, NB, YA, expect};
+use super::{A, B, B2, LA, NB, YA, expect, joined};
+use std::alloc::Global;
+use std::process::Abort;
 use std::test::Fail;
 
 const FILLER: &str = "6a6a6a6a6a6a6a6a6a6a6a6a6a6a6a6a6a6a6a6a6a6a6a6a6a6a6a6a6a6a";
@@ -63,17 +65,20 @@ fn a_changed_cell_has_its_first_fault(rt: HostRuntime) -> Result<(), Fail> {
             "fault: RateOrder\n",
         ),
     ] {
-        let cell = format!(in alloc; "{head}{FILLER}{check}")?;
-        expect(&rt, alloc, &["cell", cell.as_str()], 1, "", fault)?;
+        is_no_message(&rt, alloc, &[head, FILLER, check], fault)?;
     }
     Ok(())
+}
+
+// Demands the fault of a cell that is given in pieces.
+fn is_no_message(rt: &impl Abort, alloc: Global, pieces: &[&str], fault: &str) -> Result<(), Fail> {
+    let cell = joined(alloc, pieces)?;
+    expect(rt, alloc, &["cell", cell.as_str()], 1, "", fault)
 }
 
 #[test]
 fn ignored_bits_and_the_case_of_digits_say_nothing(rt: HostRuntime) -> Result<(), Fail> {
     let alloc = rt.alloc();
-    let said = "request vpi 1 vci 100 seq 1 floor 0000 ask 5258\n";
-    let served = format!(in alloc; "1 pass {A}\ntotal 307200\n")?;
     for (head, check) in [
         ("0010064c02245258000000000000000000000001", "0262"),
         ("0010064c02445258000000000000000000000001", "0050"),
@@ -81,18 +86,19 @@ fn ignored_bits_and_the_case_of_digits_say_nothing(rt: HostRuntime) -> Result<()
         ("0010064c0204d258000000000000000000000001", "01e9"),
         ("0010064C02045258000000000000000000000001", "038C"),
     ] {
-        let cell = format!(in alloc; "{head}{FILLER}{check}")?;
-        expect(&rt, alloc, &["cell", cell.as_str()], 0, said, "")?;
-        expect(
-            &rt,
-            alloc,
-            &["port", "512000", cell.as_str()],
-            0,
-            served.as_str(),
-            "",
-        )?;
+        is_as_a(&rt, alloc, &[head, FILLER, check])?;
     }
     Ok(())
+}
+
+// Demands that a cell, given in pieces, says what A says, and is served as A is.
+fn is_as_a(rt: &impl Abort, alloc: Global, pieces: &[&str]) -> Result<(), Fail> {
+    let cell = joined(alloc, pieces)?;
+    let said = "request vpi 1 vci 100 seq 1 floor 0000 ask 5258\n";
+    expect(rt, alloc, &["cell", cell.as_str()], 0, said, "")?;
+    let served = joined(alloc, &["1 pass ", A, "\ntotal 307200\n"])?;
+    let words = ["port", "512000", cell.as_str()];
+    expect(rt, alloc, &words, 0, served.as_str(), "")
 }
 
 #[test]
@@ -104,22 +110,11 @@ fn other_texts_are_no_cell(rt: HostRuntime) -> Result<(), Fail> {
     for text in ["", "00"] {
         expect(&rt, alloc, &["cell", text], 1, "", "fault: Length\n")?;
     }
-    let short = format!(in alloc; "0010064c02045258000000000000000000000001{FILLER}03")?;
-    expect(
+    is_no_message(
         &rt,
         alloc,
-        &["cell", short.as_str()],
-        1,
-        "",
+        &["0010064c02045258000000000000000000000001", FILLER, "03"],
         "fault: Length\n",
     )?;
-    let long = format!(in alloc; "{A}00")?;
-    expect(
-        &rt,
-        alloc,
-        &["cell", long.as_str()],
-        1,
-        "",
-        "fault: Length\n",
-    )
+    is_no_message(&rt, alloc, &[A, "00"], "fault: Length\n")
 }

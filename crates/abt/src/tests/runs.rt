@@ -1,7 +1,7 @@
 //! Rows of `abt run`, over readers that are handed in.
 ghost use Rattle.abt_perform.specs.Plans.{IsWithinLimits};
 
-use super::{Narrow, done_alone, planned};
+use super::{Narrow, done_alone, joined, planned};
 use abt_perform::Plan;
 use std::alloc::Global;
 use std::io::{self, Error, ErrorKind, Read};
@@ -137,25 +137,53 @@ fn each_fault_of_a_scenario_is_told_with_its_fields(rt: HostRuntime) -> Result<(
             "fault: EventText 3\n",
         ),
     ] {
-        let text = format!(in alloc; "{head}{tail}")?;
-        expect_run(&rt, alloc, text.as_bytes(), "", fault)?;
+        is_told(&rt, alloc, &[head, tail], fault)?;
     }
+    expect_run(&rt, alloc, b"ports = []\xff", "", "fault: NotUtf8\n")
+}
+
+// Demands the fault of a scenario whose text is given in pieces.
+fn is_told(rt: &impl Abort, alloc: Global, pieces: &[&str], fault: &str) -> Result<(), Fail> {
+    let text = joined(alloc, pieces)?;
+    expect_run(rt, alloc, text.as_bytes(), "", fault)
+}
+
+#[test]
+fn each_fault_of_a_connection_is_told_with_its_number(rt: HostRuntime) -> Result<(), Fail> {
+    let alloc = rt.alloc();
     for (path, fault) in [
         ("[]", "fault: Net PathLength 1\n"),
         ("[0, 0]", "fault: Net PathRepeat 1\n"),
     ] {
-        let text = format!(in alloc;
-            "ports = [512000]\n{TABLE}[[connection]]\nvpi = 1\nvci = 101\npath = {path}\ndelay = 0\ntau = 0\n"
+        is_told(
+            &rt,
+            alloc,
+            &[
+                "ports = [512000]\n",
+                TABLE,
+                "[[connection]]\nvpi = 1\nvci = 101\npath = ",
+                path,
+                "\ndelay = 0\ntau = 0\n",
+            ],
+            fault,
         )?;
-        expect_run(&rt, alloc, text.as_bytes(), "", fault)?;
     }
-    let script = format!(in alloc;
-        "ports = [512000]\n{TABLE}script = [\"start 0\", \"emit 5\"]\n"
+    is_told(
+        &rt,
+        alloc,
+        &[
+            "ports = [512000]\n",
+            TABLE,
+            "script = [\"start 0\", \"emit 5\"]\n",
+        ],
+        "fault: ScriptText 0 2\n",
     )?;
-    expect_run(&rt, alloc, script.as_bytes(), "", "fault: ScriptText 0 2\n")?;
-    let repeat = format!(in alloc; "ports = [512000]\n{TABLE}{TABLE}")?;
-    expect_run(&rt, alloc, repeat.as_bytes(), "", "fault: Net VcRepeat 1\n")?;
-    expect_run(&rt, alloc, b"ports = []\xff", "", "fault: NotUtf8\n")
+    is_told(
+        &rt,
+        alloc,
+        &["ports = [512000]\n", TABLE, TABLE],
+        "fault: Net VcRepeat 1\n",
+    )
 }
 
 #[test]

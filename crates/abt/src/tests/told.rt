@@ -39,13 +39,18 @@ fn help_that_breaks_off_is_told(rt: HostRuntime) -> Result<(), Fail> {
     let text = "Usage: abt\n";
     let help = WordsFault::Help(said(rt.alloc(), text)?);
     for room in 0..text.len() {
-        let mut out = Narrow::new(room);
-        let mut errors = Narrow::new(512);
-        assert_eq!(rt; answer_words(&help, &mut out, &mut errors), 1);
-        assert_eq!(rt; errors.taken(), "fault: write\n".as_bytes());
-        assert_eq!(rt; out.taken(), &text.as_bytes()[..room]);
+        breaks_off(&rt, &help, text, room);
     }
     Ok(())
+}
+
+// Demands that of help its beginning goes out, as far as there is room.
+fn breaks_off(rt: &impl Abort, help: &WordsFault, text: &str, room: usize) {
+    let mut out = Narrow::new(room);
+    let mut errors = Narrow::new(512);
+    assert_eq!(rt; answer_words(help, &mut out, &mut errors), 1);
+    assert_eq!(rt; errors.taken(), "fault: write\n".as_bytes());
+    assert_eq!(rt; Some(out.taken()), text.as_bytes().get(..room));
 }
 
 #[test]
@@ -57,9 +62,14 @@ fn want_of_memory_for_words_is_told(rt: HostRuntime) {
 fn what_is_told_breaks_off_where_the_writer_does(rt: HostRuntime) -> Result<(), Fail> {
     let words = WordsFault::Words(said(rt.alloc(), "error: no\n")?);
     for room in 0..10usize {
-        let mut errors = Narrow::new(room);
-        assert_eq!(rt; answer_words(&words, &mut Narrow::new(512), &mut errors), 2);
-        assert_eq!(rt; errors.taken(), &"error: no\n".as_bytes()[..room]);
+        is_told_in_part(&rt, &words, "error: no\n", room);
     }
     Ok(())
+}
+
+// Demands that of refused words the beginning is told, as far as there is room.
+fn is_told_in_part(rt: &impl Abort, words: &WordsFault, text: &str, room: usize) {
+    let mut errors = Narrow::new(room);
+    assert_eq!(rt; answer_words(words, &mut Narrow::new(512), &mut errors), 2);
+    assert_eq!(rt; Some(errors.taken()), text.as_bytes().get(..room));
 }

@@ -1,7 +1,22 @@
-use super::{ONE, fault};
+use super::{ONE, fault, joined};
 use abt_net::NetFault;
 use abt_scenario::{Key, ScenarioFault};
+use std::alloc::Global;
+use std::process::Abort;
 use std::test::Fail;
+
+// Demands the fault of a text that is given in pieces.
+fn is_told(
+    rt: &impl Abort,
+    alloc: Global,
+    pieces: &[&str],
+    expected: ScenarioFault,
+) -> Result<(), Fail> {
+    let text = joined(alloc, pieces)?;
+    let text = text.as_str();
+    assert_eq!(rt; fault(alloc, text)?, Some(expected), "{text}");
+    Ok(())
+}
 
 #[test]
 fn what_is_no_toml_is_told_so(rt: HostRuntime) -> Result<(), Fail> {
@@ -13,7 +28,7 @@ fn what_is_no_toml_is_told_so(rt: HostRuntime) -> Result<(), Fail> {
         "ports = [9223372036854775808]",
         "ports = [1 2]",
     ] {
-        assert_eq!(rt; fault(alloc, text)?, Some(ScenarioFault::Toml), "{text}");
+        is_told(&rt, alloc, &[text], ScenarioFault::Toml)?;
     }
     Ok(())
 }
@@ -21,10 +36,9 @@ fn what_is_no_toml_is_told_so(rt: HostRuntime) -> Result<(), Fail> {
 #[test]
 fn ports_have_to_be_whole_numbers_from_0_on(rt: HostRuntime) -> Result<(), Fail> {
     let alloc = rt.alloc();
-    let missing = Some(ScenarioFault::MissingKey(Key::Ports));
-    let wrong = Some(ScenarioFault::WrongType(Key::Ports));
-    assert_eq!(rt; fault(alloc, "")?, missing);
-    assert_eq!(rt; fault(alloc, "events = 5\nconnection = 5")?, missing);
+    for text in ["", "events = 5\nconnection = 5"] {
+        is_told(&rt, alloc, &[text], ScenarioFault::MissingKey(Key::Ports))?;
+    }
     for text in [
         "ports = 5",
         "ports = [-1]",
@@ -34,7 +48,7 @@ fn ports_have_to_be_whole_numbers_from_0_on(rt: HostRuntime) -> Result<(), Fail>
         "ports = [1, [2]]",
         "[ports]",
     ] {
-        assert_eq!(rt; fault(alloc, text)?, wrong, "{text}");
+        is_told(&rt, alloc, &[text], ScenarioFault::WrongType(Key::Ports))?;
     }
     Ok(())
 }
@@ -44,17 +58,35 @@ fn all_connections_have_to_be_tables_before_any_key_of_one_is_looked_for(
     rt: HostRuntime,
 ) -> Result<(), Fail> {
     let alloc = rt.alloc();
-    let wrong = Some(ScenarioFault::WrongType(Key::Connection));
     for text in [
         "ports = []\nconnection = 5",
         "ports = []\nconnection = [{}, 5]",
         "ports = []\n[connection]\nvpi = 1",
     ] {
-        assert_eq!(rt; fault(alloc, text)?, wrong, "{text}");
+        is_told(
+            &rt,
+            alloc,
+            &[text],
+            ScenarioFault::WrongType(Key::Connection),
+        )?;
     }
-    let missing = Some(ScenarioFault::MissingKey(Key::Vpi));
-    assert_eq!(rt; fault(alloc, "ports = []\nconnection = [{}]")?, missing);
-    Ok(())
+    is_told(
+        &rt,
+        alloc,
+        &["ports = []\nconnection = [{}]"],
+        ScenarioFault::MissingKey(Key::Vpi),
+    )
+}
+
+// Demands the fault of a scenario with a table of these keys, and with events that are no list.
+fn is_told_of_keys(
+    rt: &impl Abort,
+    alloc: Global,
+    keys: &str,
+    expected: ScenarioFault,
+) -> Result<(), Fail> {
+    let head = "ports = []\nevents = 5\n[[connection]]\n";
+    is_told(rt, alloc, &[head, keys, "\n"], expected)
 }
 
 #[test]
@@ -69,12 +101,7 @@ fn the_first_key_of_a_connection_that_is_missing_is_named(rt: HostRuntime) -> Re
         ("tau = 1\ndelay = 1\npath = []\nvci = 1", Key::Vpi),
     ];
     for (keys, key) in rows {
-        let text = format!(in alloc; "ports = []\nevents = 5\n[[connection]]\n{keys}\n")?;
-        assert_eq!(rt;
-            fault(alloc, text.as_str())?,
-            Some(ScenarioFault::MissingKey(key)),
-            "{keys}"
-        );
+        is_told_of_keys(&rt, alloc, keys, ScenarioFault::MissingKey(key))?;
     }
     Ok(())
 }
@@ -104,12 +131,7 @@ fn a_number_out_of_its_range_is_of_a_wrong_type(rt: HostRuntime) -> Result<(), F
         ),
     ];
     for (keys, key) in rows {
-        let text = format!(in alloc; "ports = []\nevents = 5\n[[connection]]\n{keys}\n")?;
-        assert_eq!(rt;
-            fault(alloc, text.as_str())?,
-            Some(ScenarioFault::WrongType(key)),
-            "{keys}"
-        );
+        is_told_of_keys(&rt, alloc, keys, ScenarioFault::WrongType(key))?;
     }
     Ok(())
 }
@@ -117,63 +139,98 @@ fn a_number_out_of_its_range_is_of_a_wrong_type(rt: HostRuntime) -> Result<(), F
 #[test]
 fn a_connection_is_walked_with_its_script_before_the_next_one(rt: HostRuntime) -> Result<(), Fail> {
     let alloc = rt.alloc();
-    let rows = [
-        ("script = 5", "", ScenarioFault::WrongType(Key::Script)),
-        ("script = []", "", ScenarioFault::MissingKey(Key::Vpi)),
-    ];
-    for (script, next, expected) in rows {
-        let text = format!(in alloc; "{ONE}{script}\n[[connection]]\n{next}\n")?;
-        assert_eq!(rt; fault(alloc, text.as_str())?, Some(expected));
-    }
-    let text = format!(in alloc; "events = [\"crash 0\", 5]\n{ONE}")?;
-    assert_eq!(rt;
-        fault(alloc, text.as_str())?,
-        Some(ScenarioFault::WrongType(Key::Events))
-    );
-    let text = format!(in alloc; "events = {{}}\n{ONE}")?;
-    assert_eq!(rt;
-        fault(alloc, text.as_str())?,
-        Some(ScenarioFault::WrongType(Key::Events))
-    );
-    Ok(())
+    is_told(
+        &rt,
+        alloc,
+        &[ONE, "script = 5", "\n[[connection]]\n", "", "\n"],
+        ScenarioFault::WrongType(Key::Script),
+    )?;
+    is_told(
+        &rt,
+        alloc,
+        &[ONE, "script = []", "\n[[connection]]\n", "", "\n"],
+        ScenarioFault::MissingKey(Key::Vpi),
+    )?;
+    is_told(
+        &rt,
+        alloc,
+        &["events = [\"crash 0\", 5]\n", ONE],
+        ScenarioFault::WrongType(Key::Events),
+    )?;
+    is_told(
+        &rt,
+        alloc,
+        &["events = {}\n", ONE],
+        ScenarioFault::WrongType(Key::Events),
+    )
+}
+
+// Demands that a net is refused so before the texts of its events and scripts are read.
+fn is_no_net(
+    rt: &impl Abort,
+    alloc: Global,
+    pieces: &[&str],
+    expected: NetFault,
+) -> Result<(), Fail> {
+    is_told(rt, alloc, pieces, ScenarioFault::Net(expected))
+}
+
+// Demands the fault of the net of one port whose one connection has this path.
+fn is_no_path(rt: &impl Abort, alloc: Global, path: &str, expected: NetFault) -> Result<(), Fail> {
+    let head = "ports = [5]\n[[connection]]\nvpi = 1\nvci = 1\npath = ";
+    let end = "\ndelay = 0\ntau = 0\nscript = [\"\"]\n";
+    is_no_net(rt, alloc, &[head, path, end], expected)
 }
 
 #[test]
 fn keys_come_before_the_net_and_the_net_before_the_texts(rt: HostRuntime) -> Result<(), Fail> {
     let alloc = rt.alloc();
-    let limit = Some(ScenarioFault::Net(NetFault::Limit));
-    let past = "ports = [1152921504606846977]\nevents = [\"\"]";
-    assert_eq!(rt; fault(alloc, past)?, limit);
-    assert_eq!(rt; fault(alloc, "ports = [9223372036854775807]")?, limit);
-    let later = "ports = [1152921504606846977]\nevents = [5]";
-    assert_eq!(rt;
-        fault(alloc, later)?,
-        Some(ScenarioFault::WrongType(Key::Events))
-    );
-    let connection = 0;
-    let rows = [
-        ("[1]", NetFault::NoPort { connection }),
-        ("[]", NetFault::PathLength { connection }),
-        ("[0, 0]", NetFault::PathRepeat { connection }),
-    ];
-    for (path, net_fault) in rows {
-        let text = format!(in alloc;
-            "ports = [5]\n[[connection]]\nvpi = 1\nvci = 1\npath = {path}\ndelay = 0\ntau = 0\nscript = [\"\"]\n"
-        )?;
-        assert_eq!(rt;
-            fault(alloc, text.as_str())?,
-            Some(ScenarioFault::Net(net_fault))
-        );
+    for text in [
+        "ports = [1152921504606846977]\nevents = [\"\"]",
+        "ports = [9223372036854775807]",
+    ] {
+        is_no_net(&rt, alloc, &[text], NetFault::Limit)?;
     }
-    let text = format!(in alloc;
-        "{ONE}[[connection]]\nvpi = 1\nvci = 100\npath = [0]\ndelay = 0\ntau = 0\n"
+    is_told(
+        &rt,
+        alloc,
+        &["ports = [1152921504606846977]\nevents = [5]"],
+        ScenarioFault::WrongType(Key::Events),
     )?;
-    let repeat = NetFault::VcRepeat { connection: 1 };
-    assert_eq!(rt;
-        fault(alloc, text.as_str())?,
-        Some(ScenarioFault::Net(repeat))
-    );
-    Ok(())
+    let connection = 0;
+    is_no_path(&rt, alloc, "[1]", NetFault::NoPort { connection })?;
+    is_no_path(&rt, alloc, "[]", NetFault::PathLength { connection })?;
+    is_no_path(&rt, alloc, "[0, 0]", NetFault::PathRepeat { connection })?;
+    is_no_net(
+        &rt,
+        alloc,
+        &[
+            ONE,
+            "[[connection]]\nvpi = 1\nvci = 100\npath = [0]\ndelay = 0\ntau = 0\n",
+        ],
+        NetFault::VcRepeat { connection: 1 },
+    )
+}
+
+// Demands that the event of this number says nothing.
+fn is_no_event(rt: &impl Abort, alloc: Global, pieces: &[&str], number: u64) -> Result<(), Fail> {
+    is_told(rt, alloc, pieces, ScenarioFault::EventText { number })
+}
+
+// Demands that the command of this number says nothing.
+fn is_no_command(
+    rt: &impl Abort,
+    alloc: Global,
+    pieces: &[&str],
+    connection: u64,
+    number: u64,
+) -> Result<(), Fail> {
+    is_told(
+        rt,
+        alloc,
+        pieces,
+        ScenarioFault::ScriptText { connection, number },
+    )
 }
 
 #[test]
@@ -186,31 +243,17 @@ fn a_text_that_says_nothing_is_named_by_its_number(rt: HostRuntime) -> Result<()
         ("[\"crash 0\", \"crash 0\", \"crash 0 \", \"\"]", 3),
     ];
     for (events, number) in rows {
-        let text = format!(in alloc; "ports = []\nevents = {events}")?;
-        assert_eq!(rt;
-            fault(alloc, text.as_str())?,
-            Some(ScenarioFault::EventText { number }),
-            "{events}"
-        );
+        is_no_event(&rt, alloc, &["ports = []\nevents = ", events], number)?;
     }
-    let text = format!(in alloc; "{ONE}script = [\"start 0\", \"emit 5\"]\n")?;
-    let emit = ScenarioFault::ScriptText {
-        connection: 0,
-        number: 2,
-    };
-    assert_eq!(rt; fault(alloc, text.as_str())?, Some(emit));
-    let text = format!(in alloc; "events = [\"\"]\n{ONE}script = [\"\"]\n")?;
-    assert_eq!(rt;
-        fault(alloc, text.as_str())?,
-        Some(ScenarioFault::EventText { number: 1 })
-    );
-    let text = format!(in alloc;
-        "{ONE}script = [\"crash\"]\n[[connection]]\nvpi = 2\nvci = 1\npath = [0]\ndelay = 0\ntau = 0\nscript = [\"\"]\n"
+    let emit = "script = [\"start 0\", \"emit 5\"]\n";
+    is_no_command(&rt, alloc, &[ONE, emit], 0, 2)?;
+    is_no_event(
+        &rt,
+        alloc,
+        &["events = [\"\"]\n", ONE, "script = [\"\"]\n"],
+        1,
     )?;
-    let second = ScenarioFault::ScriptText {
-        connection: 1,
-        number: 1,
-    };
-    assert_eq!(rt; fault(alloc, text.as_str())?, Some(second));
-    Ok(())
+    let second =
+        "[[connection]]\nvpi = 2\nvci = 1\npath = [0]\ndelay = 0\ntau = 0\nscript = [\"\"]\n";
+    is_no_command(&rt, alloc, &[ONE, "script = [\"crash\"]\n", second], 1, 1)
 }

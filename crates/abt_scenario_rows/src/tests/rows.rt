@@ -1,38 +1,57 @@
-use super::{ONE, scenario};
+use super::{ONE, joined, scenario};
 use abt_keep::StorePlan;
+use abt_list::Sequence;
 use abt_model::Event;
+use abt_net::{Conn, Net};
 use abt_rate::Rate;
 use abt_script::Command;
+use std::process::Abort;
 use std::test::Fail;
 
 #[test]
 fn a_scenario_has_its_net_its_events_and_its_scripts(rt: HostRuntime) -> Result<(), Fail> {
     let alloc = rt.alloc();
-    let text = format!(in alloc;
-        "title = \"unknown keys are passed over\"\n\
-         events = [\"start 0 0\", \"ask 0 5120\"]\n\
-         {ONE}\
-         script = [\"start 5\", \"listen 7\"]\n\
-         colour = \"blue\"\n\
-         [[connection]]\n\
-         vpi = 4095\n\
-         vci = 65535\n\
-         path = [0]\n\
-         delay = 0\n\
-         tau = 0\n"
+    let text = joined(
+        alloc,
+        &[
+            "title = \"unknown keys are passed over\"\n\
+             events = [\"start 0 0\", \"ask 0 5120\"]\n",
+            ONE,
+            "script = [\"start 5\", \"listen 7\"]\n\
+             colour = \"blue\"\n\
+             [[connection]]\n\
+             vpi = 4095\n\
+             vci = 65535\n\
+             path = [0]\n\
+             delay = 0\n\
+             tau = 0\n",
+        ],
     )?;
     let read = scenario(alloc, text.as_str())?;
-    assert_eq!(rt; read.net.capacities(), [512_000].as_slice());
-    let [first, second] = read.net.conns() else {
+    has_two_connections(&rt, &read.net)?;
+    has_two_events(&rt, read.events.as_slice());
+    has_two_scripts(&rt, read.scripts.as_slice())
+}
+
+fn has_two_connections(rt: &impl Abort, net: &Net) -> Result<(), Fail> {
+    assert_eq!(rt; net.capacities(), [512_000].as_slice());
+    let [first, second] = net.conns() else {
         return Err(Fail::from("not two connections"));
     };
-    assert_eq!(rt; first.vc.vpi(), 1);
-    assert_eq!(rt; first.vc.vci(), 100);
+    has_channel(rt, first, 1, 100);
     assert_eq!(rt; first.path.as_slice(), [0].as_slice());
     assert_eq!(rt; first.delay, 1000);
     assert_eq!(rt; first.tau, 200);
-    assert_eq!(rt; second.vc.vpi(), 4095);
-    assert_eq!(rt; second.vc.vci(), 65535);
+    has_channel(rt, second, 4095, 65535);
+    Ok(())
+}
+
+fn has_channel(rt: &impl Abort, conn: &Conn, vpi: u16, vci: u16) {
+    assert_eq!(rt; conn.vc.vpi(), vpi);
+    assert_eq!(rt; conn.vc.vci(), vci);
+}
+
+fn has_two_events(rt: &impl Abort, found: &[Event]) {
     let rate = Rate::at_most(204_800);
     let plan = StorePlan::Works;
     let events = [
@@ -43,9 +62,12 @@ fn a_scenario_has_its_net_its_events_and_its_scripts(rt: HostRuntime) -> Result<
             plan,
         },
     ];
-    assert_eq!(rt; read.events.as_slice(), events.as_slice());
+    assert_eq!(rt; found, events.as_slice());
+}
+
+fn has_two_scripts(rt: &impl Abort, found: &[Sequence<Command>]) -> Result<(), Fail> {
     let commands = [Command::Start { now: 5 }, Command::Listen { turns: 7 }];
-    let [script, none] = read.scripts.as_slice() else {
+    let [script, none] = found else {
         return Err(Fail::from("not two scripts"));
     };
     assert_eq!(rt; script.as_slice(), commands.as_slice());

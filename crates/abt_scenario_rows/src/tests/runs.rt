@@ -5,7 +5,7 @@ mod streams;
 mod traces;
 
 use abt_scenario::{EngineFault, run_text};
-use std::alloc::Global;
+use std::alloc::{AllocError, Global};
 use std::process::Abort;
 use std::test::Fail;
 use streams::Narrow;
@@ -57,18 +57,35 @@ fn expect(
     end: &str,
 ) -> Result<(), Fail> {
     let mut text = String::from_str(alloc, "events = [")?;
+    push_events(&mut text, rows)?;
+    text.push_str("]\n")?;
+    text.push_str(net)?;
     let mut report = format!(in alloc; "events {}\n", rows.len())?;
-    for (index, (event, answer)) in rows.iter().enumerate() {
-        let word = format!(in alloc; "\"{event}\",")?;
-        text.push_str(word.as_str())?;
+    push_answers(alloc, &mut report, rows)?;
+    report.push_str(end)?;
+    reports(rt, alloc, text.as_str(), report.as_str())
+}
+
+fn push_events(text: &mut String, rows: &[(&str, &str)]) -> Result<(), AllocError> {
+    for (event, _answer) in rows {
+        for piece in ["\"", event, "\","] {
+            text.push_str(piece)?;
+        }
+    }
+    Ok(())
+}
+
+fn push_answers(
+    alloc: Global,
+    report: &mut String,
+    rows: &[(&str, &str)],
+) -> Result<(), AllocError> {
+    for (index, (_event, answer)) in rows.iter().enumerate() {
         let number = index as u64 + 1;
         let line = format!(in alloc; "{number} {answer}\n")?;
         report.push_str(line.as_str())?;
     }
-    text.push_str("]\n")?;
-    text.push_str(net)?;
-    report.push_str(end)?;
-    reports(rt, alloc, text.as_str(), report.as_str())
+    Ok(())
 }
 
 #[test]

@@ -8,18 +8,27 @@ use abt_trace::Trace;
 use std::alloc::{AllocError, Global};
 use std::test::Fail;
 
+fn sequence<T: Copy + Drop>(alloc: Global, items: &[T]) -> Result<Sequence<T>, AllocError> {
+    Ok(Sequence::from(Vec::from_slice(alloc, items)?))
+}
+
+// One connection, for which one hop holds this.
+fn held_alone(alloc: Global, rate: Rate) -> Result<Sequence<Sequence<Rate>>, AllocError> {
+    let mut held = Sequence::new(alloc);
+    held.push(sequence(alloc, &[rate])?)?;
+    Ok(held)
+}
+
 /// The first event was behind a fence, and a source shapes at 600 cells per second where 400 are held for it.
 fn unsafe_trace(alloc: Global) -> Result<Trace, AllocError> {
     let low = Rate::at_most(204_800);
     let high = Rate::at_most(307_200);
     let fenced = Outcome::NotEnabled(Cause::Fenced);
-    let mut held = Sequence::new(alloc);
-    held.push(Sequence::from(Vec::from_slice(alloc, &[low])?))?;
     Ok(Trace {
-        outcomes: Sequence::from(Vec::from_slice(alloc, &[fenced])?),
-        rates: Sequence::from(Vec::from_slice(alloc, &[high])?),
-        held,
-        totals: Sequence::from(Vec::from_slice(alloc, &[204_800])?),
+        outcomes: sequence(alloc, &[fenced])?,
+        rates: sequence(alloc, &[high])?,
+        held: held_alone(alloc, low)?,
+        totals: sequence(alloc, &[204_800])?,
         safe: false,
     })
 }
