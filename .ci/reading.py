@@ -1,7 +1,8 @@
 """Lists the definitions that a clause rests on, by following names from the clause: what a reader has to believe.
 
 A word of specs/ leads to its definition with the comment above it, a type of the code to its declaration, and a type that contracts see
-as a value to its view (`impl Model`). Words of the kit's library lead no further.
+as a value to its view (`impl Model`). Words of the kit's library lead no further. Lines are counted of what a definition says: not
+comments, derives, imports and blank lines, nor a line with nothing but brackets.
 
 docs/READING.md has tables of such definitions. Each stands between a line `<!-- rests on: START.. -->` and a line `<!-- end -->`, where a
 START is `CRATE::FUNCTION LABEL` or a word, `CRATE.FILE.WORD`; what a table above has is left out.
@@ -25,6 +26,7 @@ ROOT = Path(__file__).resolve().parent.parent
 NAME = re.compile(r"[A-Za-z_][\w'-]*")
 USE = re.compile(r"(?:pub )?use\s+Rattle\.([\w.]+?)(?:\.\{([^}]*)\}|\s+as\s+(\w+))\s*;?")
 ITEM = re.compile(r"(?:abbrev|unfoldable|data|record|opaque)?\s*(?:pub )?(?:abbrev |record |data |unfoldable |opaque )?(?:pub )?([\w'-]+)")
+SAYS_NOTHING = re.compile(r"\s*(--|//|#\[|ghost use |[()\[\]{},;]*$)")
 LEADS = ("abbrev", "unfoldable", "data", "record", "pub", "opaque")
 
 
@@ -39,7 +41,7 @@ class Word:
 
     @property
     def lines(self):
-        return self.last - self.first
+        return sum(not SAYS_NOTHING.match(line) for line in text_of_word(self).split("\n"))
 
 
 @cache

@@ -9,7 +9,7 @@ ghost use Rattle.abt_access.specs.Sites.{HasDone};
 use abt_actor::{Outcome, SourceActor, SourceCommand};
 use abt_cell::Vc;
 use abt_journal::Seat;
-use abt_model::Event;
+use abt_model::{Event, Target};
 use abt_source_journal::{Sequence, SourceEntry};
 use std::alloc::{AllocError, Global};
 
@@ -65,17 +65,10 @@ fn entry_of(event: Event, outcome: &Outcome) -> SourceEntry
 fn event_of(number: u16, command: &SourceCommand) -> Event
     ensures { result ≡ commands.event_of number command.now }
 {
-    let conn = number;
-    match *command {
-        SourceCommand::Start { now } => Event::Start { conn, now },
-        SourceCommand::Ask { rate, plan } => Event::Ask { conn, rate, plan },
-        SourceCommand::Again => Event::Again { conn },
-        SourceCommand::Crash => Event::Crash { conn },
-        SourceCommand::Emit { now } => Event::Emit { conn, now },
-        SourceCommand::Told(answer) => Event::Told {
-            conn,
-            seq: answer.seq(),
-            granted: answer.granted(),
-        },
+    let event = command.event();
+    Target::Source {
+        conn: number,
+        event,
     }
+    .event()
 }

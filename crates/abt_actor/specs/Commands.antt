@@ -9,23 +9,19 @@ use Rattle.abt_facts.specs.Source.{SourceState, Down, Idle, Asking, state_of}
 use Rattle.abt_model.specs.declared.command.SourceCommand.{SourceCommand}
 use Rattle.abt_model.specs.declared.command.SourceCommand.TheVariants.{Start, Ask, Again, Crash, Emit, Told}
 use Rattle.abt_model.specs.declared.event.Event.{Event}
-use Rattle.abt_model.specs.declared.event.Event.TheVariants.{Start as StartOf, Ask as AskOf, Again as AgainOf, Crash as CrashOf, Emit as EmitOf, Told as ToldOf}
 use Rattle.abt_model.specs.declared.outcome.Heard.{Heard}
 use Rattle.abt_model.specs.declared.outcome.Heard.TheVariants.{Ignored}
 use Rattle.abt_model.specs.declared.outcome.Outcome.{Outcome}
 use Rattle.abt_model.specs.declared.outcome.Outcome.TheVariants.{Crashed, Told as HasTold}
 use Rattle.abt_source.specs.SourceFacts.{request_of}
 use Rattle.abt_model.specs.Answers.{if_up, start_answer, ask_answer, again_answer, emit_answer, hearing}
+use Rattle.abt_model.specs.Commands.{event_told}
+use Rattle.abt_model.specs.Targets.{event_at_source}
 use Rattle.abt_model.specs.Outcomes.{facts_added}
 
 -- the event that a command is at the source of connection c
 abbrev pub event_of : ℕ → SourceCommand → Event
-event_of c (Start now) = StartOf c now
-event_of c (Ask rate plan) = AskOf c rate plan
-event_of c Again = AgainOf c
-event_of c Crash = CrashOf c
-event_of c (Emit now) = EmitOf c now
-event_of c (Told answer) = ToldOf c answer.terms.seq answer.granted
+event_of c command = event_at_source c (event_told command)
 
 -- a source hears the answer to the request that it waits for, and no other
 abbrev pub heard_by : Channel → List Fact → SourceState → Reply → Heard

@@ -1,5 +1,5 @@
 -- What follows from the answers that a source hears.
-use Rattle.std.proofs.Common.{◌≡◌, ℕ, ◌-◌, ◌≤◌, ◌⊎◌, inl, inr, ap, true, false, List, [], ◌∷◌, ◌∙◌, sym, subst, arith}
+use Rattle.std.proofs.Common.{◌≡◌, ℕ, ◌-◌, ◌≤◌, ◌⊎◌, inl, inr, refl, ap, true, false, List, [], ◌∷◌, ◌∙◌, sym, subst, arith}
 use Rattle.std.specs.Prelude.{◌==◌, not, if◌then◌else◌}
 use Rattle.std.proofs.lemmas.Bool.{false≢true, eqb-true, ne_eqb, cases_lt, false_from_ne_true, and_from, cond_both, not-false}
 use Rattle.abt_facts.specs.declared.fact.Fact.{Fact}
@@ -70,7 +70,7 @@ pub yes_everywhere : (net : Topology) (past : Past) → AllLawful net past → Y
 yes_everywhere net past lawful c s conn known told hop low high =
     let fs = facts_of c past in
     let law = lawful_at net past lawful c conn known in
-    let tells = told_tells fs s (sym (outcome_of-known net past (Told c s true) conn known) ∙ told) in
+    let tells = told_tells fs s (sym (outcome_of-known net past (Told c s true) c conn refl known) ∙ told) in
     let is = heard_everywhere (route_of conn) fs s (tells, law) hop low high in
     (is.0, open_from fs s hop is.0 is.1 is.2)
 

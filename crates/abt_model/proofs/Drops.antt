@@ -30,10 +30,10 @@ use Rattle.abt_model.specs.Past.{Past, facts_of}
 use Rattle.abt_source.specs.SourceFacts.{request_of}
 use Rattle.abt_rate.specs.Limits.{emit_max, number_max}
 use Rattle.abt_model.specs.Answers.{start_max, if_up, start_answer, next_request, stored_answer, again_answer, emit_answer, arrive_answer, is_hop, answer_by}
-use Rattle.abt_model.specs.Outcomes.{conn_of, outcome_at}
+use Rattle.abt_model.specs.Outcomes.{conn_of, outcome_by}
 use Rattle.abt_model.specs.Promises.{disputes, NeverDisputes}
 use Rattle.abt_model.proofs.Chain.{passed_all, passed_asked, at_asked, asked_last, shut_next_passed, turned_passed, back_turned, turned_open}
-use Rattle.abt_model.proofs.Worlds.{cases_option, outcome_of-known, AllLawful, lawful_at}
+use Rattle.abt_model.proofs.Worlds.{cases_option, outcome_of-known, outcome_of-unknown, AllLawful, lawful_at}
 use Rattle.abt_model.proofs.Decisions.{held_by-held, decided, decided_back}
 use Rattle.abt_model.specs.Decision.{reservation_at}
 use Rattle.abt_model.proofs.Lawful.{Route, route_of, IsYesAtHop, IsLawful}
@@ -158,7 +158,10 @@ step_agrees conn reserved capacity fs lawful (Told c s granted) =
     cond_both (not (answer_is_home fs s granted)) _ _ (λ (o : Outcome). disputes o ≡ false) (λ e. refl) (λ e. refl)
 
 pub outcome_agrees : (net : Topology) (past : Past) → AllLawful net past → NeverDisputes net past
-outcome_agrees net past lawful e = elim (cases_option (conn_at net (conn_of e))) [
-  | inl unknown ↦ ap disputes (ap (λ (o : Option Conn). outcome_at net past o e) unknown)
-  | inr known ↦ ap disputes (outcome_of-known net past e known.0 known.1) ∙ step_agrees known.0 _ _ (facts_of (conn_of e) past) (lawful_at net past lawful (conn_of e) known.0 known.1) e
+outcome_agrees net past lawful e = elim (cases_option (conn_of e)) [
+  | inl alone ↦ ap disputes (ap (outcome_by net past e) alone)
+  | inr own ↦ (let c = own.0 in elim (cases_option (conn_at net c)) [
+    | inl unknown ↦ ap disputes (outcome_of-unknown net past e c own.1 unknown)
+    | inr known ↦ ap disputes (outcome_of-known net past e c known.0 own.1 known.1) ∙ step_agrees known.0 _ _ (facts_of c past) (lawful_at net past lawful c known.0 known.1) e
+  ])
 ]

@@ -86,7 +86,7 @@ arrivals_in_range net past rules lawful c cell at conn v known arrived =
     let fs = facts_of c past in
     let l = route_of conn in
     let law = lawful_at net past lawful c conn known in
-    let may = arrive_tells conn fs cell at v (sym (outcome_of-known net past (Arrive c cell at) conn known) ∙ arrived) in
+    let may = arrive_tells conn fs cell at v (sym (outcome_of-known net past (Arrive c cell at) c conn refl known) ∙ arrived) in
     let within = conn_within net rules c conn known in
     let some : 1 ≤ length conn.path = omega (arith, within.has_hop) in
     let finds = arrival (route_of conn) fs law some (timely (route_of conn) fs law some) cell at (held_of fs 1) v may in
@@ -97,7 +97,7 @@ pub arrivals_conform : (net : Topology) (past : Past) → IsWithinRules net → 
 arrivals_conform net past rules lawful c cell at conn v known arrived =
     let fs = facts_of c past in
     let law = lawful_at net past lawful c conn known in
-    let may = arrive_tells conn fs cell at v (sym (outcome_of-known net past (Arrive c cell at) conn known) ∙ arrived) in
+    let may = arrive_tells conn fs cell at v (sym (outcome_of-known net past (Arrive c cell at) c conn refl known) ∙ arrived) in
     let within = conn_within net rules c conn known in
     let some : 1 ≤ length conn.path = omega (arith, within.has_hop) in
     let times = timely (route_of conn) fs law some in

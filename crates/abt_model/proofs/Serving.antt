@@ -1,5 +1,5 @@
 -- A port serves what comes to it as the facts say.
-use Rattle.std.proofs.Common.{◌≡◌, ◌≢◌, ℕ, ◌+◌, ◌-◌, ◌^◌, ◌≤◌, ap, Bool, true, false, List, [], ◌∷◌, ◌++◌, length, ◌∙◌, sym, subst, arith}
+use Rattle.std.proofs.Common.{◌≡◌, ◌≢◌, ℕ, ◌+◌, ◌-◌, ◌^◌, ◌≤◌, refl, ap, Bool, true, false, List, [], ◌∷◌, ◌++◌, length, ◌∙◌, sym, subst, arith}
 use Rattle.std.specs.Prelude.{◌==◌, max, not, if◌then◌else◌, nat_lt, slice_index, unwrap_or, None, Some, Ok}
 use Rattle.std.proofs.lemmas.Bool.{ne_eqb, cond-false, le-ltb, cond_both, not-false}
 use Rattle.abt_rate.specs.Rate.{spacing_of}
@@ -33,7 +33,7 @@ use Rattle.abt_node.specs.Reservation.{Reservation, held_by, decision_of, answer
 use Rattle.abt_node.specs.Table.{sum_of, connection_at, reply_by, table_by, reply_to, answer_by as answer_kept, table_by_answer, arrival_by, arrival_of, policing_after, table_by_arrival}
 use Rattle.abt_model.proofs.Chain.{at_asked, asked_last}
 use Rattle.abt_net.proofs.PathLemmas.{hop_of-port}
-use Rattle.abt_model.proofs.Worlds.{facts_of-own, facts_of-other, outcome_of-known, AllLawful, lawful_at}
+use Rattle.abt_model.proofs.Worlds.{other_conn, facts_of-own, facts_of-other, outcome_of-known, AllLawful, lawful_at}
 use Rattle.abt_model.proofs.AnswerRows.{answer_reserved, request_polices, answer_polices}
 use Rattle.abt_model.proofs.Lawful.{route_of, IsAtHop}
 use Rattle.abt_model.proofs.Tables.{tables_have_rows, table_with, totals_reserved}
@@ -83,7 +83,7 @@ requests_served net past rules lawful c hop seq p conn onward known at_hop said 
     let fs = facts_of c past in
     let after = after_event net past (Request c hop seq) in
     let law = lawful_at net past lawful c conn known in
-    let o_is = outcome_of-known net past (Request c hop seq) conn known in
+    let o_is = outcome_of-known net past (Request c hop seq) c conn refl known in
     let q = slice_index conn.path (hop - 1) in
     let tells = request_tells conn (facts_of c past) (reserved_on net past q) (slice_index net.capacities q) c hop seq onward (sym o_is ∙ said) in
     let way = through conn p hop at_hop tells.0 in
@@ -102,7 +102,7 @@ requests_served net past rules lawful c hop seq p conn onward known at_hop said 
     ∙ hop_decision-decided (route_of conn) conn.vc (facts_of c past) law (reserved_on net past p) (slice_index net.capacities p) hop seq
     ∙ decided_is in
     let now_is : facts_of c after ≡ request_adds hop seq onward ++ facts_of c past =
-    facts_of-own net past (Request c hop seq) ∙ ap (λ (o : Outcome). facts_added (facts_of c past) (Request c hop seq) o ++ facts_of c past) said in
+    facts_of-own net past (Request c hop seq) c refl ∙ ap (λ (o : Outcome). facts_added (facts_of c past) (Request c hop seq) o ++ facts_of c past) said in
     let left : (decision_of (slice_index net.capacities p) (sum_of (port_table net past p) - held_by (reservation_at (facts_of c past) hop)) (reservation_at (facts_of c past) hop) (request_of conn.vc (facts_of c past) seq)).1 ≡ reservation_at (facts_of c after) hop =
     ap (λ sum. (decision_of (slice_index net.capacities p) (sum - held_by (reservation_at (facts_of c past) hop)) (reservation_at (facts_of c past) hop) (request_of conn.vc (facts_of c past) seq)).1) total
     ∙ request_reserved (route_of conn) conn.vc (facts_of c past) law (reserved_on net past p) (slice_index net.capacities p) hop seq number.0
@@ -111,7 +111,7 @@ requests_served net past rules lawful c hop seq p conn onward known at_hop said 
     let polices : policing_by conn.tau (facts_of c after) ≡ policing_by conn.tau (facts_of c past) =
     ap (policing_by conn.tau) now_is ∙ request_polices conn seq hop (facts_of c past) onward in
     let new = kept_with conn (facts_of c past) (facts_of c after) hop _ left polices in
-    let placed = table_with net past after c p conn _ rules known way (new ∙ ap (kept_at conn (facts_of c after)) (sym at_hop)) (λ d differ. facts_of-other net past (Request c hop seq) d differ) in
+    let placed = table_with net past after c p conn _ rules known way (new ∙ ap (kept_at conn (facts_of c after)) (sym at_hop)) (λ d differ. facts_of-other net past (Request c hop seq) d (other_conn c d differ)) in
     (reply, ap (table_by (port_table net past p) (request_of conn.vc (facts_of c past) seq)) row ∙ placed)
 
 pub answers_served : (net : Topology) (past : Past) → IsWithinRules net → AllLawful net past → AnswersServed net past
@@ -119,7 +119,7 @@ answers_served net past rules lawful c hop seq p granted conn back known at_hop 
     let fs = facts_of c past in
     let after = after_event net past (Answer c hop seq granted) in
     let law = lawful_at net past lawful c conn known in
-    let o_is = outcome_of-known net past (Answer c hop seq granted) conn known in
+    let o_is = outcome_of-known net past (Answer c hop seq granted) c conn refl known in
     let q = slice_index conn.path (hop - 1) in
     let tells = answered_tells conn (facts_of c past) (reserved_on net past q) (slice_index net.capacities q) c hop seq granted back (sym o_is ∙ said) in
     let way = through conn p hop at_hop tells.0 in
@@ -130,13 +130,13 @@ answers_served net past rules lawful c hop seq p granted conn back known at_hop 
     answer_reserved (route_of conn) conn.vc (facts_of c past) law seq hop granted (tells.0, tells.1) tells.2
     ∙ ap (λ (d : Returned). (d, reservation_at (answer_adds hop seq granted d ++ facts_of c past) hop)) tells.3 in
     let now_is : facts_of c after ≡ answer_adds hop seq granted back ++ facts_of c past =
-    facts_of-own net past (Answer c hop seq granted) ∙ ap (λ (o : Outcome). facts_added (facts_of c past) (Answer c hop seq granted) o ++ facts_of c past) said in
+    facts_of-own net past (Answer c hop seq granted) c refl ∙ ap (λ (o : Outcome). facts_added (facts_of c past) (Answer c hop seq granted) o ++ facts_of c past) said in
     let left : (answer_of (reservation_at (facts_of c past) hop) (answer_to (request_of conn.vc (facts_of c past) seq) granted)).1 ≡ reservation_at (facts_of c after) hop =
     ap (λ (x : Returned × Reservation). x.1) both ∙ ap (λ (l : List Fact). reservation_at l hop) (sym now_is) in
     let polices : policing_by conn.tau (facts_of c after) ≡ policing_by conn.tau (facts_of c past) =
     ap (policing_by conn.tau) now_is ∙ answer_polices conn seq hop (facts_of c past) granted back in
     let new = kept_with conn (facts_of c past) (facts_of c after) hop _ left polices in
-    let placed = table_with net past after c p conn _ rules known way (new ∙ ap (kept_at conn (facts_of c after)) (sym at_hop)) (λ d differ. facts_of-other net past (Answer c hop seq granted) d differ) in (
+    let placed = table_with net past after c p conn _ rules known way (new ∙ ap (kept_at conn (facts_of c after)) (sym at_hop)) (λ d differ. facts_of-other net past (Answer c hop seq granted) d (other_conn c d differ)) in (
       ap (answer_kept (answer_to (request_of conn.vc (facts_of c past) seq) granted)) row ∙ ap (λ (x : Returned × Reservation). x.0) both,
       ap (table_by_answer (port_table net past p) (answer_to (request_of conn.vc (facts_of c past) seq) granted)) row ∙ placed,
     )
@@ -168,7 +168,7 @@ arrivals_served net past rules lawful c cell at p conn v known at_hop said =
     let fs = facts_of c past in
     let after = after_event net past (Arrive c cell at) in
     let law = lawful_at net past lawful c conn known in
-    let o_is = outcome_of-known net past (Arrive c cell at) conn known in
+    let o_is = outcome_of-known net past (Arrive c cell at) c conn refl known in
     let may = arrive_tells conn (facts_of c past) cell at v (sym o_is ∙ said) in
     let within = conn_within net rules c conn known in
     let some : 1 ≤ length conn.path = omega (arith, within.has_hop) in
@@ -183,7 +183,7 @@ arrivals_served net past rules lawful c cell at p conn v known at_hop said =
     (let low = due_is (taken_of (facts_of c past)) at in let early = finds.1 in let late = may.2 in omega arith) in
     let served = served_at (policing_by conn.tau (facts_of c past)) at (held_by (reservation_at (facts_of c past) 1)) holds range.0 range.1 due in
     let now_is : facts_of c after ≡ Arrived cell at (held_of (facts_of c past) 1) v ∷ facts_of c past =
-    facts_of-own net past (Arrive c cell at) ∙ ap (λ (o : Outcome). facts_added (facts_of c past) (Arrive c cell at) o ++ facts_of c past) said in
+    facts_of-own net past (Arrive c cell at) c refl ∙ ap (λ (o : Outcome). facts_added (facts_of c past) (Arrive c cell at) o ++ facts_of c past) said in
     let conforming : facts_of c after ≡ Arrived cell at (held_by (reservation_at (facts_of c past) 1)) Conforming ∷ facts_of c past =
     now_is ∙ ap (λ (u : Verdict). Arrived cell at (held_of (facts_of c past) 1) u ∷ facts_of c past) finds.0
     ∙ ap (λ r. Arrived cell at r Conforming ∷ facts_of c past) (sym held_is) in
@@ -193,7 +193,7 @@ arrivals_served net past rules lawful c cell at p conn v known at_hop said =
     let new : record (kept_at conn (facts_of c past) 1) { policing = Some (policing_after at (held_by (reservation_at (facts_of c past) 1)) (policing_by conn.tau (facts_of c past))) } ≡ kept_at conn (facts_of c after) 1 =
     ap (λ (x : Policing). record (kept_at conn (facts_of c past) 1) { policing = Some x }) polices
     ∙ ap (λ (x : Reservation). record { reservation = x; policing = Some (policing_by conn.tau (facts_of c after)) }) rows in
-    let placed = table_with net past after c p conn _ rules known way (new ∙ ap (kept_at conn (facts_of c after)) (sym at_hop)) (λ d differ. facts_of-other net past (Arrive c cell at) d differ) in (
+    let placed = table_with net past after c p conn _ rules known way (new ∙ ap (kept_at conn (facts_of c after)) (sym at_hop)) (λ d differ. facts_of-other net past (Arrive c cell at) d (other_conn c d differ)) in (
       ap (arrival_of at) row ∙ served.0 ∙ ap Ok (sym finds.0),
       ap (table_by_arrival (port_table net past p) conn.vc at) row ∙ placed,
     )

@@ -1,6 +1,6 @@
 -- What is reserved on each port stays within its capacity.
 use Rattle.std.proofs.Common.{◌≡◌, ◌≢◌, ℕ, zero, suc, ◌+◌, ◌-◌, ◌≤◌, ◌⊎◌, inl, inr, refl, ap, List, [], ◌∷◌, ◌++◌, ◌∙◌, sym, subst, arith}
-use Rattle.std.specs.Prelude.{◌==◌, slice_index, slice_get, sum_by, All, Some}
+use Rattle.std.specs.Prelude.{◌==◌, slice_index, slice_get, sum_by, All, None, Some}
 use Rattle.std.proofs.lemmas.Bool.{ne_eqb, eq-eqb, cond-false, cond-true, cases_eq, cond_both}
 use Rattle.std.proofs.lemmas.List.Sums.{sum_by-cons}
 use Rattle.std.specs.List.{enumerate_from}
@@ -22,7 +22,7 @@ use Rattle.abt_model.specs.Answers.{answer_by}
 use Rattle.abt_model.specs.Outcomes.{conn_of, port_of, facts_added, after_event}
 use Rattle.abt_model.specs.Run.{facts_from, facts_after}
 use Rattle.abt_model.proofs.Within.{step_within}
-use Rattle.abt_model.proofs.Worlds.{cases_option, facts_of-own, facts_of-other, outcome_of-known, after_event-unknown, AllLawful, lawful_at, after_event_lawful, nothing_lawful, first_asks, others_ask}
+use Rattle.abt_model.proofs.Worlds.{cases_option, other_conn, none_some, facts_of-own, facts_of-other, outcome_of-known, after_event-unknown, AllLawful, lawful_at, after_event_lawful, nothing_lawful, first_asks, others_ask}
 
 -- what a numbered list adds up to
 abbrev pub numbered_sum : (ℕ × Conn → ℕ) → ℕ → List Conn → ℕ
@@ -80,14 +80,14 @@ abbrev pub holding : Past → ℕ → (ℕ × Conn → ℕ)
 holding past p = λ numbered. held_on (facts_of numbered.0 past) numbered.1.path p
 
 -- what the connection of an event holds on a port after it
-on_port : (net : Topology) (past : Past) → AllLawful net past → (e : Event) (p : ℕ) (conn : Conn) → conn_at net (conn_of e) ≡ Some conn →
-    (let old = facts_of (conn_of e) past in
+on_port : (net : Topology) (past : Past) → AllLawful net past → (e : Event) (p c : ℕ) (conn : Conn) → conn_at net c ≡ Some conn →
+    (let old = facts_of c past in
     let q = port_of conn.path e in
     let new = facts_added old e (answer_by conn (reserved_on net past q) (slice_index net.capacities q) old e) ++ old in
     (held_on new conn.path p ≤ held_on old conn.path p) ⊎ (reserved_on net past p - held_on old conn.path p + held_on new conn.path p ≤ slice_index net.capacities p))
-on_port net past lawful e p conn known =
+on_port net past lawful e p c conn known =
     let path = conn.path in
-    let old = facts_of (conn_of e) past in
+    let old = facts_of c past in
     let q = port_of path e in
     let new = facts_added old e (answer_by conn (reserved_on net past q) (slice_index net.capacities q) old e) ++ old in
     elim (cases_eq (hop_of path p) 0) [
@@ -97,7 +97,7 @@ on_port net past lawful e p conn known =
       | inr some ↦ (
           let a : held_on new path p ≡ held_of new (hop_of path p) = cond-false _ _ _ (ne_eqb _ _ some) in
           let b : held_on old path p ≡ held_of old (hop_of path p) = cond-false _ _ _ (ne_eqb _ _ some) in
-          elim (step_within conn (reserved_on net past q) (slice_index net.capacities q) old (lawful_at net past lawful (conn_of e) conn known) e (hop_of path p)) [
+          elim (step_within conn (reserved_on net past q) (slice_index net.capacities q) old (lawful_at net past lawful c conn known) e (hop_of path p)) [
             | inl less ↦ inl (omega (arith, a, b, less))
             | inr fits ↦ (
                 let here : hop_in (target_of e) ≢ 0 = λ z. some (sym fits.0 ∙ z) in
@@ -106,25 +106,38 @@ on_port net past lawful e p conn known =
           ])
     ]
 
-pub after_event_within : (net : Topology) (past : Past) → AllLawful net past → AllWithin net past → (e : Event) → AllWithin net (after_event net past e)
-after_event_within net past lawful within e p = elim (cases_option (conn_at net (conn_of e))) [
-  | inl unknown ↦ subst (λ v. reserved_on net v p ≤ slice_index net.capacities p) (sym (after_event-unknown net past e unknown)) (within p)
+-- an event of no connection leaves what is reserved
+reserved_alone : (net : Topology) (past : Past) (e : Event) (p : ℕ) → conn_of e ≡ None → reserved_on net (after_event net past e) p ≡ reserved_on net past p
+reserved_alone net past e p alone =
+    numbered_same (holding past p) (holding (after_event net past e) p) 0 net.conns
+    (λ d other low. ap (λ (l : List Fact). held_on l other.path p) (facts_of-other net past e d (λ own. none_some d (sym alone ∙ own))))
+
+own_within : (net : Topology) (past : Past) → AllLawful net past → AllWithin net past → (e : Event) (p c : ℕ) → conn_of e ≡ Some c →
+    reserved_on net (after_event net past e) p ≤ slice_index net.capacities p
+own_within net past lawful within e p c own = elim (cases_option (conn_at net c)) [
+  | inl unknown ↦ subst (λ v. reserved_on net v p ≤ slice_index net.capacities p) (sym (after_event-unknown net past e c own unknown)) (within p)
   | inr known ↦ (
-      let c = conn_of e in
       let conn = known.0 in
       let after = after_event net past e in
       let f = holding past p in
       let g = holding after p in
-      let others : (d : ℕ) (other : Conn) → c ≢ d → g (d, other) ≡ f (d, other) = λ d other differ. ap (λ (l : List Fact). held_on l other.path p) (facts_of-other net past e d differ) in
+      let others : (d : ℕ) (other : Conn) → c ≢ d → g (d, other) ≡ f (d, other) =
+      λ d other differ. ap (λ (l : List Fact). held_on l other.path p) (facts_of-other net past e d (λ whose. other_conn c d differ (sym own ∙ whose))) in
       let moved : reserved_on net after p + f (c, conn) ≡ reserved_on net past p + g (c, conn) = numbered_change f g c 0 c net.conns conn (omega arith) known.1 others in
       let least : f (c, conn) ≤ reserved_on net past p = numbered_least f c 0 c net.conns conn (omega arith) known.1 in
-      let now_is = facts_of-own net past e ∙ ap (λ (o : Outcome). facts_added (facts_of c past) e o ++ facts_of c past) (outcome_of-known net past e conn known.1) in
+      let now_is = facts_of-own net past e c own ∙ ap (λ (o : Outcome). facts_added (facts_of c past) e o ++ facts_of c past) (outcome_of-known net past e c conn own known.1) in
       let mine = ap (λ (l : List Fact). held_on l conn.path p) now_is in
       let old = within p in
-      elim (on_port net past lawful e p conn known.1) [
+      elim (on_port net past lawful e p c conn known.1) [
         | inl less ↦ omega (arith, moved, least, old, less, mine)
         | inr fits ↦ omega (arith, moved, least, old, fits, mine)
       ])
+]
+
+pub after_event_within : (net : Topology) (past : Past) → AllLawful net past → AllWithin net past → (e : Event) → AllWithin net (after_event net past e)
+after_event_within net past lawful within e p = elim (cases_option (conn_of e)) [
+  | inl alone ↦ subst (λ r. r ≤ slice_index net.capacities p) (sym (reserved_alone net past e p alone)) (within p)
+  | inr own ↦ own_within net past lawful within e p own.0 own.1
 ]
 
 held_on-nothing : (path : List ℕ) (p : ℕ) → held_on [] path p ≡ 0

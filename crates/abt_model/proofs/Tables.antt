@@ -18,10 +18,10 @@ use Rattle.abt_cell.specs.Channel.{Channel, channel_cmp, same_channel}
 use Rattle.abt_model.specs.Past.{Past, facts_of}
 use Rattle.abt_net.specs.Paths.{hop_of}
 use Rattle.abt_model.specs.Outcomes.{conn_of, facts_added, after_event}
-use Rattle.abt_model.specs.PortTable.{kept_at, kept_from, port_table, hop_visited, TotalsAreReserved, TablesHaveRows, TablesStay}
+use Rattle.abt_model.specs.PortTable.{kept_at, kept_from, port_table, hop_visited, VisitsBy, TotalsAreReserved, TablesHaveRows, TablesStay}
 use Rattle.abt_node.specs.Table.{Connection, held_at, connection_at, with_connection}
 use Rattle.abt_model.proofs.Sums.{numbered_sum, holding}
-use Rattle.abt_model.proofs.Worlds.{facts_of-own, facts_of-other, outcome_of-known, AllLawful, lawful_at}
+use Rattle.abt_model.proofs.Worlds.{conn_cases, facts_of-own, facts_of-other, outcome_of-known, AllLawful, lawful_at}
 use Rattle.abt_model.proofs.AnswerRows.{step_stays}
 use Rattle.abt_model.proofs.Lawful.{route_of}
 use Rattle.abt_model.proofs.Decisions.{held_by-held}
@@ -234,14 +234,12 @@ pub tables_stay : (net : Topology) (past : Past) → IsWithinRules net → AllLa
 tables_stay net past rules lawful e p rate away = tables_same net past (after_event net past e) p (λ q. find_same past (after_event net past e) p 0 net.conns q (λ i conn at is through. (
     let number : i ≡ 0 + i = omega arith in
     subst (λ (m : ℕ). kept_at conn (facts_of m (after_event net past e)) (hop_of conn.path p) ≡ kept_at conn (facts_of m past) (hop_of conn.path p)) number (
-    elim (cases_eq (conn_of e) i) [
+    elim (conn_cases e i) [
       | inl own ↦ (
-          let known : conn_at net (conn_of e) ≡ Some conn = ap (slice_get net.conns) own ∙ at in
-          let fs = facts_of (conn_of e) past in
-          let now_is = facts_of-own net past e ∙ ap (λ (o : Outcome). facts_added (facts_of (conn_of e) past) e o ++ facts_of (conn_of e) past) (outcome_of-known net past e conn known) in
-          let elsewhere : hop_visited e ≢ hop_of conn.path p = λ same. away (conn, known, (let some : hop_of conn.path p ≢ 0 = through in omega arith), sym same) in
-          let stays = step_stays conn _ _ (facts_of (conn_of e) past) (lawful_at net past lawful (conn_of e) conn known) e (hop_of conn.path p) (let some : hop_of conn.path p ≢ 0 = through in omega arith) elsewhere in
-          subst (λ (m : ℕ). kept_at conn (facts_of m (after_event net past e)) (hop_of conn.path p) ≡ kept_at conn (facts_of m past) (hop_of conn.path p)) own
-          (ap (λ (l : List Fact). kept_at conn l (hop_of conn.path p)) now_is ∙ stays))
+          let now_is = facts_of-own net past e i own ∙ ap (λ (o : Outcome). facts_added (facts_of i past) e o ++ facts_of i past) (outcome_of-known net past e i conn own at) in
+          let elsewhere : hop_visited e ≢ hop_of conn.path p =
+          λ same. away (subst (VisitsBy net e p) (sym own) (conn, at, (let some : hop_of conn.path p ≢ 0 = through in omega arith), sym same)) in
+          let stays = step_stays conn _ _ (facts_of i past) (lawful_at net past lawful i conn at) e (hop_of conn.path p) (let some : hop_of conn.path p ≢ 0 = through in omega arith) elsewhere in
+          ap (λ (l : List Fact). kept_at conn l (hop_of conn.path p)) now_is ∙ stays)
       | inr differ ↦ ap (λ (l : List Fact). kept_at conn l (hop_of conn.path p)) (facts_of-other net past e i differ)
     ]))))

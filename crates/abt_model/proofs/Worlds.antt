@@ -13,7 +13,7 @@ use Rattle.abt_model.specs.Events.{AsksRate}
 use Rattle.abt_model.specs.Past.{Past, facts_of, with_facts}
 use Rattle.abt_model.specs.Reserved.{reserved_on}
 use Rattle.abt_model.specs.Answers.{answer_by}
-use Rattle.abt_model.specs.Outcomes.{conn_of, port_of, outcome_at, outcome_of, facts_added, after_event}
+use Rattle.abt_model.specs.Outcomes.{conn_of, port_of, outcome_at, outcome_by, outcome_of, facts_added, past_by, after_event}
 use Rattle.abt_model.proofs.Lawful.{route_of, IsLawful}
 use Rattle.abt_model.proofs.Steps.{down_adds, step_lawful}
 
@@ -29,24 +29,49 @@ pub facts_of-with_facts_other : (c d : ℕ) (fs : List Fact) (past : Past) → c
 facts_of-with_facts_other c d [] past differ = refl
 facts_of-with_facts_other c d (f ∷ fs) past differ = cond-false _ _ _ (ne_eqb c d differ) ∙ facts_of-with_facts_other c d fs past differ
 
--- the facts of a connection after an event of its own, and after one of another
-pub facts_of-own : (net : Topology) (past : Past) (e : Event) →
-    facts_of (conn_of e) (after_event net past e) ≡ facts_added (facts_of (conn_of e) past) e (outcome_of net past e) ++ facts_of (conn_of e) past
-facts_of-own net past e = facts_of-with_facts (conn_of e) (facts_added (facts_of (conn_of e) past) e (outcome_of net past e)) past
+pub none_some : (d : ℕ) → None ≡ Some d → ⊥
+none_some d same = absurd (cc)
 
-pub facts_of-other : (net : Topology) (past : Past) (e : Event) (d : ℕ) → conn_of e ≢ d → facts_of d (after_event net past e) ≡ facts_of d past
-facts_of-other net past e d differ = facts_of-with_facts_other (conn_of e) d _ past differ
+-- whether an event is of this connection
+owner_cases : (o : Option ℕ) (d : ℕ) → (o ≡ Some d) ⊎ (o ≢ Some d)
+owner_cases None d = inr (λ same. none_some d same)
+owner_cases (Some c) d = elim (cases_eq c d) [ inl same ↦ inl (ap Some same) | inr differ ↦ inr (λ same. differ (cc)) ]
+
+pub conn_cases : (e : Event) (d : ℕ) → (conn_of e ≡ Some d) ⊎ (conn_of e ≢ Some d)
+conn_cases e d = owner_cases (conn_of e) d
+
+pub other_conn : (c d : ℕ) → c ≢ d → Some c ≢ Some d
+other_conn c d differ same = differ (cc)
+
+-- the facts of a connection after an event of its own, and after one of another or of none
+pub facts_of-own : (net : Topology) (past : Past) (e : Event) (c : ℕ) → conn_of e ≡ Some c →
+    facts_of c (after_event net past e) ≡ facts_added (facts_of c past) e (outcome_of net past e) ++ facts_of c past
+facts_of-own net past e c own =
+    ap (λ (o : Option ℕ). facts_of c (past_by past e (outcome_of net past e) o)) own
+    ∙ facts_of-with_facts c (facts_added (facts_of c past) e (outcome_of net past e)) past
+
+other_facts : (past : Past) (e : Event) (outcome : Outcome) (o : Option ℕ) (d : ℕ) → o ≢ Some d → facts_of d (past_by past e outcome o) ≡ facts_of d past
+other_facts past e outcome None d differ = refl
+other_facts past e outcome (Some c) d differ = facts_of-with_facts_other c d _ past (λ same. differ (ap Some same))
+
+pub facts_of-other : (net : Topology) (past : Past) (e : Event) (d : ℕ) → conn_of e ≢ Some d → facts_of d (after_event net past e) ≡ facts_of d past
+facts_of-other net past e d differ = other_facts past e (outcome_of net past e) (conn_of e) d differ
 
 -- the outcome of an event of a connection of the net
-pub outcome_of-known : (net : Topology) (past : Past) (e : Event) (conn : Conn) → conn_at net (conn_of e) ≡ Some conn →
-    outcome_of net past e ≡ answer_by conn (reserved_on net past (port_of conn.path e)) (slice_index net.capacities (port_of conn.path e)) (facts_of (conn_of e) past) e
-outcome_of-known net past e conn known = ap (λ (o : Option Conn). outcome_at net past o e) known
+pub outcome_of-known : (net : Topology) (past : Past) (e : Event) (c : ℕ) (conn : Conn) → conn_of e ≡ Some c → conn_at net c ≡ Some conn →
+    outcome_of net past e ≡ answer_by conn (reserved_on net past (port_of conn.path e)) (slice_index net.capacities (port_of conn.path e)) (facts_of c past) e
+outcome_of-known net past e c conn own known =
+    ap (outcome_by net past e) own ∙ ap (λ (o : Option Conn). outcome_at net past c o e) known
 
-pub after_event-unknown : (net : Topology) (past : Past) (e : Event) → conn_at net (conn_of e) ≡ None → after_event net past e ≡ past
-after_event-unknown net past e unknown =
-    let o : outcome_of net past e ≡ NotEnabled Unknown = ap (λ (o : Option Conn). outcome_at net past o e) unknown in
-    ap (λ (o : Outcome). with_facts (conn_of e) (facts_added (facts_of (conn_of e) past) e o) past) o
-    ∙ ap (λ (l : List Fact). with_facts (conn_of e) l past) (down_adds (facts_of (conn_of e) past) e Unknown)
+-- and of one that it doesn't have
+pub outcome_of-unknown : (net : Topology) (past : Past) (e : Event) (c : ℕ) → conn_of e ≡ Some c → conn_at net c ≡ None → outcome_of net past e ≡ NotEnabled Unknown
+outcome_of-unknown net past e c own unknown = ap (outcome_by net past e) own ∙ ap (λ (o : Option Conn). outcome_at net past c o e) unknown
+
+pub after_event-unknown : (net : Topology) (past : Past) (e : Event) (c : ℕ) → conn_of e ≡ Some c → conn_at net c ≡ None → after_event net past e ≡ past
+after_event-unknown net past e c own unknown =
+    ap (past_by past e (outcome_of net past e)) own
+    ∙ ap (λ (o : Outcome). with_facts c (facts_added (facts_of c past) e o) past) (outcome_of-unknown net past e c own unknown)
+    ∙ ap (λ (l : List Fact). with_facts c l past) (down_adds (facts_of c past) e Unknown)
 
 -- the facts of a connection are lawful, and those of none are none
 abbrev pub IsConnLawful : Option Conn → List Fact → Type 0
@@ -59,20 +84,20 @@ AllLawful net past = (c : ℕ) → IsConnLawful (conn_at net c) (facts_of c past
 pub lawful_at : (net : Topology) (past : Past) → AllLawful net past → (c : ℕ) (conn : Conn) → conn_at net c ≡ Some conn → IsLawful (route_of conn) (facts_of c past)
 lawful_at net past lawful c conn known = subst (λ o. IsConnLawful o (facts_of c past)) known (lawful c)
 
-own_lawful : (net : Topology) (past : Past) → AllLawful net past → (e : Event) → AsksRate e → IsConnLawful (conn_at net (conn_of e)) (facts_of (conn_of e) (after_event net past e))
-own_lawful net past lawful e rate = elim (cases_option (conn_at net (conn_of e))) [
-  | inl unknown ↦ subst (λ w. IsConnLawful (conn_at net (conn_of e)) (facts_of (conn_of e) w)) (sym (after_event-unknown net past e unknown)) (lawful (conn_of e))
+own_lawful : (net : Topology) (past : Past) → AllLawful net past → (e : Event) → AsksRate e → (c : ℕ) → conn_of e ≡ Some c → IsConnLawful (conn_at net c) (facts_of c (after_event net past e))
+own_lawful net past lawful e rate c own = elim (cases_option (conn_at net c)) [
+  | inl unknown ↦ subst (λ w. IsConnLawful (conn_at net c) (facts_of c w)) (sym (after_event-unknown net past e c own unknown)) (lawful c)
   | inr known ↦ (
       let conn = known.0 in
-      let fs = facts_of (conn_of e) past in
-      let is = facts_of-own net past e ∙ ap (λ (o : Outcome). facts_added fs e o ++ fs) (outcome_of-known net past e conn known.1) in
-      subst (λ o. IsConnLawful o (facts_of (conn_of e) (after_event net past e))) (sym known.1) (
-      subst (IsLawful (route_of conn)) (sym is) (step_lawful conn _ _ fs (lawful_at net past lawful (conn_of e) conn known.1) e rate)))
+      let fs = facts_of c past in
+      let is = facts_of-own net past e c own ∙ ap (λ (o : Outcome). facts_added fs e o ++ fs) (outcome_of-known net past e c conn own known.1) in
+      subst (λ o. IsConnLawful o (facts_of c (after_event net past e))) (sym known.1) (
+      subst (IsLawful (route_of conn)) (sym is) (step_lawful conn _ _ fs (lawful_at net past lawful c conn known.1) e rate)))
 ]
 
 pub after_event_lawful : (net : Topology) (past : Past) → AllLawful net past → (e : Event) → AsksRate e → AllLawful net (after_event net past e)
-after_event_lawful net past lawful e rate d = elim (cases_eq (conn_of e) d) [
-  | inl same ↦ subst (λ q. IsConnLawful (conn_at net q) (facts_of q (after_event net past e))) same (own_lawful net past lawful e rate)
+after_event_lawful net past lawful e rate d = elim (conn_cases e d) [
+  | inl own ↦ own_lawful net past lawful e rate d own
   | inr differ ↦ subst (IsConnLawful (conn_at net d)) (sym (facts_of-other net past e d differ)) (lawful d)
 ]
 

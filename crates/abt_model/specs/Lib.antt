@@ -1,5 +1,6 @@
 pub mod Events
 pub mod Targets
+pub mod Commands
 pub mod Past
 pub mod Reserved
 pub mod Decision

@@ -24,22 +24,28 @@ use Rattle.abt_model.specs.Past.{Past, facts_of, with_facts}
 use Rattle.abt_model.specs.Reserved.{reserved_on, capacity_of}
 use Rattle.abt_model.specs.Answers.{answer_by}
 
--- the connection of an event, and the port that it comes to, by the path of its connection
-abbrev pub conn_of : Event → ℕ
+-- the connection of an event, if it is of one, and the port that it comes to, by the path of its connection
+abbrev pub conn_of : Event → Option ℕ
 conn_of event = conn_in (target_of event)
 
 abbrev pub port_of : List ℕ → Event → ℕ
 port_of path event = port_in path (target_of event)
 
-abbrev pub outcome_at : Topology → Past → Option Conn → Event → Outcome
-outcome_at net past None event = NotEnabled Unknown
-outcome_at net past (Some conn) event =
+-- what an event of connection c answers
+abbrev pub outcome_at : Topology → Past → (c : ℕ) → Option Conn → Event → Outcome
+outcome_at net past c None event = NotEnabled Unknown
+outcome_at net past c (Some conn) event =
     let port = port_of conn.path event in
-    answer_by conn (reserved_on net past port) (capacity_of net past port) (facts_of (conn_of event) past) event
+    answer_by conn (reserved_on net past port) (capacity_of net past port) (facts_of c past) event
+
+-- what an event answers: one of a connection by its facts, and of a port alone none is known
+abbrev pub outcome_by : Topology → Past → Event → Option ℕ → Outcome
+outcome_by net past event None = NotEnabled Unknown
+outcome_by net past event (Some c) = outcome_at net past c (conn_at net c) event
 
 -- what an event answers after this past
 abbrev pub outcome_of : Topology → Past → Event → Outcome
-outcome_of net past event = outcome_at net past (conn_at net (conn_of event)) event
+outcome_of net past event = outcome_by net past event (conn_of event)
 
 -- a request that comes to the first hop is delivered, whatever becomes of it
 abbrev pub delivery : (hop seq : ℕ) → List Fact
@@ -71,7 +77,11 @@ facts_added facts (Told c seq granted) (HasTold Raised) = FactHeard seq true ∷
 facts_added facts (Told c seq granted) (HasTold Refused) = FactHeard seq false ∷ []
 facts_added facts event outcome = []
 
+-- the past with the facts that an event adds by what it answers: those of its connection, if it is of one
+abbrev pub past_by : Past → Event → Outcome → Option ℕ → Past
+past_by past event outcome None = past
+past_by past event outcome (Some c) = with_facts c (facts_added (facts_of c past) event outcome) past
+
 -- the past after an event
 abbrev pub after_event : Topology → Past → Event → Past
-after_event net past event =
-    with_facts (conn_of event) (facts_added (facts_of (conn_of event) past) event (outcome_of net past event)) past
+after_event net past event = past_by past event (outcome_of net past event) (conn_of event)

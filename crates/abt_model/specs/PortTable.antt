@@ -63,9 +63,13 @@ port_table net past p = record {
 abbrev pub hop_visited : Event → ℕ
 hop_visited event = hop_in (target_of event)
 
--- an event comes to a port
+-- an event comes to a port: one of a connection to that at a hop of its path
+abbrev pub VisitsBy : Topology → Event → ℕ → Option ℕ → Type 0
+VisitsBy net event p None = ⊥
+VisitsBy net event p (Some c) = (conn : Conn) × (conn_at net c ≡ Some conn) × (1 ≤ hop_visited event) × (hop_of conn.path p ≡ hop_visited event)
+
 abbrev pub Visits : Topology → Event → ℕ → Type 0
-Visits net event p = (conn : Conn) × (conn_at net (conn_of event) ≡ Some conn) × (1 ≤ hop_visited event) × (hop_of conn.path p ≡ hop_visited event)
+Visits net event p = VisitsBy net event p (conn_of event)
 
 -- The total of a port's table is what is reserved on it, and at most its capacity.
 abbrev pub TotalsAreReserved : Topology → Past → Type 0

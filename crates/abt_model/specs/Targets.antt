@@ -1,5 +1,5 @@
 -- Where an event happens: at the source of a connection, at a hop of its path, or at the end of that path.
-use Rattle.std.specs.Prelude.{ℕ, ◌-◌, List, slice_index}
+use Rattle.std.specs.Prelude.{ℕ, ◌-◌, List, slice_index, Option, Some}
 use Rattle.abt_model.specs.declared.event.Event.{Event}
 use Rattle.abt_model.specs.declared.event.Event.TheVariants.{Start, Ask, Again, Crash, Emit, Arrive, Request, Turn, Answer, Told}
 use Rattle.abt_model.specs.declared.target.SourceEvent.{SourceEvent}
@@ -41,11 +41,11 @@ event_at (Source c event) = event_at_source c event
 event_at (Hop c event) = event_at_hop c event
 event_at (End c seq) = Turn c seq
 
--- the connection
-abbrev pub conn_in : Target → ℕ
-conn_in (Source c event) = c
-conn_in (Hop c event) = c
-conn_in (End c seq) = c
+-- the connection, if it is of one
+abbrev pub conn_in : Target → Option ℕ
+conn_in (Source c event) = Some c
+conn_in (Hop c event) = Some c
+conn_in (End c seq) = Some c
 
 -- the hop that something comes to: a cell comes to the first
 abbrev pub hop_met_by : HopEvent → ℕ

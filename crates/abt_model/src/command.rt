@@ -1,4 +1,8 @@
 //! What one source can be told to do.
+ghost use Rattle.std.specs.Prelude.{◌≡◌};
+ghost use Rattle.abt_model.specs.Commands.{event_told};
+
+use crate::target::SourceEvent;
 use abt_cell::Answer;
 use abt_keep::StorePlan;
 use abt_rate::Rate;
@@ -19,4 +23,23 @@ pub enum SourceCommand {
     Emit { now: u64 },
     /// Take an answer.
     Told(Answer),
+}
+
+impl SourceCommand {
+    /// The event of that name.
+    pub fn event(&self) -> SourceEvent
+        ensures value { result ≡ event_told self.now }
+    {
+        match *self {
+            SourceCommand::Start { now } => SourceEvent::Start { now },
+            SourceCommand::Ask { rate, plan } => SourceEvent::Ask { rate, plan },
+            SourceCommand::Again => SourceEvent::Again,
+            SourceCommand::Crash => SourceEvent::Crash,
+            SourceCommand::Emit { now } => SourceEvent::Emit { now },
+            SourceCommand::Told(answer) => SourceEvent::Told {
+                seq: answer.seq(),
+                granted: answer.granted(),
+            },
+        }
+    }
 }

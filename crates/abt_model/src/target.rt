@@ -73,8 +73,8 @@ impl Event {
         }
     }
 
-    /// The connection that it is of, as its place in the net, from 0.
-    pub fn conn(&self) -> u16
+    /// The connection that it is of, if it is of one, as its place in the net, from 0.
+    pub fn conn(&self) -> Option<u16>
         ensures value { result ≡ conn_of self.now }
     {
         self.target().conn()
@@ -151,13 +151,14 @@ impl Target {
         }
     }
 
-    /// The connection, as its place in the net, from 0.
-    pub fn conn(&self) -> u16
+    /// The connection, if it is of one, as its place in the net, from 0.
+    pub fn conn(&self) -> Option<u16>
         ensures value { result ≡ conn_in self.now }
     {
         match *self {
-            Target::Source { conn, .. } | Target::Hop { conn, .. } | Target::End { conn, .. } =>
-                conn,
+            Target::Source { conn, .. } | Target::Hop { conn, .. } | Target::End { conn, .. } => {
+                Some(conn)
+            }
         }
     }
 }

@@ -114,7 +114,7 @@ impl<'net> Walk<'net> {
         let conn = event.conn();
         let step = self.answer(alloc, event)?;
         for fact in step.added {
-            if let Some(fact) = fact {
+            if let (Some(conn), Some(fact)) = (conn, fact) {
                 self.facts.push(ConnectionFact { conn, fact })?;
             }
         }
@@ -122,7 +122,9 @@ impl<'net> Walk<'net> {
     }
 
     fn answer(&self, alloc: Global, event: &Event) -> Result<Step, AllocError> {
-        let number = event.conn();
+        let Some(number) = event.conn() else {
+            return Ok(not_enabled(Cause::Unknown));
+        };
         let Some(conn) = self.net.conns().get(usize::from(number)) else {
             return Ok(not_enabled(Cause::Unknown));
         };

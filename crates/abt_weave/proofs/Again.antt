@@ -124,29 +124,28 @@ home_below net rules c conn known less more below seq true home =
 home_below net rules c conn known less more below seq false home =
     shut_below net c conn seq 1 (record { rules = rules; known = known; low = omega arith; high = (let h = (conn_within net rules c conn known).has_hop in omega (arith, h)) }) less more below home
 
-at_source : (net : Topology) (past : Past) (conn : Conn) (event : Event) → conn_at net (conn_of event) ≡ Some conn → is_told event && not (is_enabled (outcome_of net past event)) ≡ false → IsAtSource (facts_of (conn_of event) past) event
-at_source net past conn (Told c seq granted) known on =
-    let known_is = outcome_of-known net past (Told c seq granted) conn known in
-    home_told (facts_of c past) c seq granted (answer_is_home (facts_of c past) seq granted) (sym (ap is_enabled known_is) ∙ on_is (is_enabled (outcome_of net past (Told c seq granted))) on)
+at_source : (net : Topology) (past : Past) (c : ℕ) (conn : Conn) (event : Event) → conn_of event ≡ Some c → conn_at net c ≡ Some conn → is_told event && not (is_enabled (outcome_of net past event)) ≡ false → IsAtSource (facts_of c past) event
+at_source net past c conn (Told d seq granted) whose known on =
+    let known_is = outcome_of-known net past (Told d seq granted) c conn whose known in
+    home_told (facts_of c past) d seq granted (answer_is_home (facts_of c past) seq granted) (sym (ap is_enabled known_is) ∙ on_is (is_enabled (outcome_of net past (Told d seq granted))) on)
   where
     on_is : (b : Bool) → not b ≡ false → b ≡ true
     on_is true h = refl
     on_is false h = sym h
-at_source net past conn other known on = tt
+at_source net past c conn other whose known on = tt
 
-source_below : (net : Topology) → IsWithinRules net → (conn : Conn) (less more : List Event) → IsBelow net less more → (event : Event) → conn_at net (conn_of event) ≡ Some conn → IsAtSource (facts_of (conn_of event) (past_of net less)) event →
-    IsAtSource (facts_of (conn_of event) (past_of net more)) event
-source_below net rules conn less more below (Told c seq granted) known home = home_below net rules c conn known less more below seq granted home
-source_below net rules conn less more below other known home = tt
+source_below : (net : Topology) → IsWithinRules net → (c : ℕ) (conn : Conn) (less more : List Event) → IsBelow net less more → (event : Event) → conn_at net c ≡ Some conn → IsAtSource (facts_of c (past_of net less)) event →
+    IsAtSource (facts_of c (past_of net more)) event
+source_below net rules c conn less more below (Told d seq granted) known home = home_below net rules c conn known less more below seq granted home
+source_below net rules c conn less more below other known home = tt
 
 -- what a source did where its journal stood so, it does again there
-pub own_again : (net : Topology) → IsWithinRules net → (less more : List Event) → IsBelow net less more → (conn : Conn) (event : Event) → conn_at net (conn_of event) ≡ Some conn → is_own_of (conn_of event) event ≡ true →
-    is_told event && not (is_enabled (outcome_of net (past_of net less) event)) ≡ false → entries_on net (conn_of event) less ≡ entries_on net (conn_of event) more →
+pub own_again : (net : Topology) → IsWithinRules net → (less more : List Event) → IsBelow net less more → (c : ℕ) (conn : Conn) (event : Event) → conn_of event ≡ Some c → conn_at net c ≡ Some conn → is_own_of c event ≡ true →
+    is_told event && not (is_enabled (outcome_of net (past_of net less) event)) ≡ false → entries_on net c less ≡ entries_on net c more →
     outcome_of net (past_of net less) event ≡ outcome_of net (past_of net more) event
-own_again net rules less more below conn event known mine on same =
-    let c = conn_of event in
-    let home = at_source net (past_of net less) conn event known on in
+own_again net rules less more below c conn event whose known mine on same =
+    let home = at_source net (past_of net less) c conn event whose known on in
     let facts : own (facts_of c (past_of net less)) ≡ own (facts_of c (past_of net more)) = own_replayed net c less ∙ ap (facts_done []) same ∙ sym (own_replayed net c more) in
-    outcome_of-known net (past_of net less) event conn known
-    ∙ own_answer conn c _ _ _ _ (facts_of c (past_of net less)) (facts_of c (past_of net more)) facts event mine home (source_below net rules conn less more below event known home)
-    ∙ sym (outcome_of-known net (past_of net more) event conn known)
+    outcome_of-known net (past_of net less) event c conn whose known
+    ∙ own_answer conn c _ _ _ _ (facts_of c (past_of net less)) (facts_of c (past_of net more)) facts event mine home (source_below net rules c conn less more below event known home)
+    ∙ sym (outcome_of-known net (past_of net more) event c conn whose known)

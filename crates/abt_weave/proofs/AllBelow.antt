@@ -30,7 +30,7 @@ use Rattle.abt_weave.proofs.Again.{own_again}
 use Rattle.abt_weave.proofs.Ends.{own_or_visit}
 use Rattle.abt_weave.proofs.Leavings.{all_reversed}
 use Rattle.abt_weave.proofs.NoneWoven.{AreBegun, begun_before, HaveEnded, cases_less, step_due, entry_due, PortHas, ConnHas, below_on, visit_low, fits_again, again_at, ArrivesAlone}
-use Rattle.abt_weave.proofs.OwnEvents.{made_own, own_fits}
+use Rattle.abt_weave.proofs.OwnEvents.{own_here, made_own, own_fits}
 use Rattle.abt_weave.specs.OneFault.{AreJournalsOf}
 use Rattle.abt_weave.proofs.Places.{less_if, Names, IsFirstStep, named_now, named_low, step_named}
 use Rattle.abt_cell.specs.Channel.{Channel}
@@ -49,11 +49,11 @@ step_had net js ended earlier event v end begun is less =
     get_beginning (steps_on net v.port ended) (port_journal js v.port) (length (steps_on net v.port earlier)) (step_next net earlier v) (end.stands.placed.ports v.port) less
     (step_due net js event earlier v begun (visit_low net end.rules (past_of net earlier) event v is) is)
 
-entry_had : (net : Topology) (js : Journaled) (ended earlier : List Event) (event : Event) (x : SourceEntry) → HaveEnded net js ended → AreBegun net js (event ∷ earlier) → conn_of event < length net.conns → entry_made net earlier event ≡ Some x →
-    length (entries_on net (conn_of event) earlier) < length (entries_on net (conn_of event) ended) → slice_get (entries_on net (conn_of event) ended) (length (entries_on net (conn_of event) earlier)) ≡ Some x
-entry_had net js ended earlier event x end begun low made less =
-    get_beginning (entries_on net (conn_of event) ended) (source_journal js (conn_of event)) (length (entries_on net (conn_of event) earlier)) x (end.stands.placed.conns (conn_of event)) less
-    (entry_due net js event earlier x begun low made)
+entry_had : (net : Topology) (js : Journaled) (ended earlier : List Event) (event : Event) (c : ℕ) (x : SourceEntry) → HaveEnded net js ended → AreBegun net js (event ∷ earlier) → conn_of event ≡ Some c → c < length net.conns → entry_made net earlier event ≡ Some x →
+    length (entries_on net c earlier) < length (entries_on net c ended) → slice_get (entries_on net c ended) (length (entries_on net c earlier)) ≡ Some x
+entry_had net js ended earlier event c x end begun whose low made less =
+    get_beginning (entries_on net c ended) (source_journal js c) (length (entries_on net c earlier)) x (end.stands.placed.conns c) less
+    (entry_due net js event earlier c x begun whose low made)
 
 pub conn_there : (net : Topology) (c : ℕ) → c < length net.conns → (conn : Conn) × (conn_at net c ≡ Some conn)
 conn_there net c low = elim (cases_option (conn_at net c)) [
@@ -69,29 +69,29 @@ conn_there net c low = elim (cases_option (conn_at net c)) [
 -- what a source did, where no port has a part in it
 own_has : (net : Topology) (js : Journaled) (ended earlier : List Event) (event : Event) → HaveEnded net js ended → All AsksRate earlier → AreBegun net js (event ∷ earlier) → IsBelow net earlier ended → visit net (past_of net earlier) event ≡ None →
     ConnHas net ended earlier event
-own_has net js ended earlier event end rates begun below nowhere x made low =
-    let c = conn_of event in
+own_has net js ended earlier event end rates begun below nowhere c x whose made low =
     elim (cases_less (entries_on net c earlier) (entries_on net c ended) (below.conns c low)) [
-      | inl less ↦ entry_had net js ended earlier event x end begun low made less
+      | inl less ↦ entry_had net js ended earlier event c x end begun whose low made less
       | inr same ↦ absurd (
           let past = past_of net earlier in
           let did = own_or_visit net end.rules earlier event x nowhere made in
           let made_did = made ∙ ap (λ (y : SourceEntry). Some y) did.1 in
           let its = made_own (place_at_first net earlier event) event (outcome_of net past event) event did.0 made_did in
           let conn = conn_there net c low in
-          let again = own_again net end.rules earlier ended below conn.0 event conn.1 its.own its.enabled same in
+          let mine = own_here its.c c event its.own whose in
+          let again = own_again net end.rules earlier ended below c conn.0 event whose conn.1 mine its.enabled same in
           let told : outcome_of net (past_of net ended) event ≡ did.0 = sym again ∙ sym its.outcome_is in
           let enabled : is_told event && not (is_enabled (outcome_of net (past_of net ended) event)) ≡ false = ap (λ o. is_told event && not (is_enabled o)) (sym again) ∙ its.enabled in
-          let due = entry_due net js event earlier x begun low made in
+          let due = entry_due net js event earlier c x begun whose low made in
           let next : next_entry net js ended c ≡ Some (Did event did.0) = ap (λ (l : List SourceEntry). slice_get (source_journal js c) (length l)) (sym same) ∙ due ∙ ap (λ (y : SourceEntry). Some y) did.1 in
-          end.stands.still [] tt event (own_fits net js ended c event did.0 its.own told enabled next))
+          end.stands.still [] tt event (own_fits net js ended c event did.0 mine told enabled next))
     ]
 
 -- an entry that stands beside a step names its place
 visit_entry : (net : Topology) → IsWithinRules net → (earlier : List Event) (event : Event) (v : Visit) (x : SourceEntry) → visit net (past_of net earlier) event ≡ Some v → entry_made net earlier event ≡ Some x → Names x (length (steps_on net v.port earlier))
 visit_entry net rules earlier event v x is made =
     let parts = visit_is net (past_of net earlier) event v is in
-    let beside = made_beside net earlier event v.port (length (steps_on net v.port earlier)) parts.conn (outcome_of net (past_of net earlier) event) v.input (facts_of (conn_of event) (past_of net earlier)) parts.known parts.port refl parts.input
+    let beside = made_beside net earlier event v.port (length (steps_on net v.port earlier)) parts.c parts.conn (outcome_of net (past_of net earlier) event) v.input (facts_of parts.c (past_of net earlier)) parts.whose parts.known parts.port refl parts.input
     (reply_enabled (outcome_of net (past_of net earlier) event) v.reply parts.reply) in
     names_beside (length (steps_on net v.port earlier)) event x (sym beside ∙ made)
   where
@@ -108,9 +108,9 @@ first_step vc facts other input h place x beside = absurd (cc)
 
 step_first : (net : Topology) (earlier : List Event) (event : Event) (v : Visit) (x : SourceEntry) → (parts : IsVisit net (past_of net earlier) event v) → entry_made net earlier event ≡ Some x → IsFirstStep parts.conn.vc v.input
 step_first net earlier event v x parts made =
-    let beside = made_beside net earlier event v.port (length (steps_on net v.port earlier)) parts.conn (outcome_of net (past_of net earlier) event) v.input (facts_of (conn_of event) (past_of net earlier)) parts.known parts.port refl parts.input
+    let beside = made_beside net earlier event v.port (length (steps_on net v.port earlier)) parts.c parts.conn (outcome_of net (past_of net earlier) event) v.input (facts_of parts.c (past_of net earlier)) parts.whose parts.known parts.port refl parts.input
     (reply_enabled (outcome_of net (past_of net earlier) event) v.reply parts.reply) in
-    first_step parts.conn.vc (facts_of (conn_of event) (past_of net earlier)) event v.input parts.input (length (steps_on net v.port earlier)) x (sym beside ∙ made)
+    first_step parts.conn.vc (facts_of parts.c (past_of net earlier)) event v.input parts.input (length (steps_on net v.port earlier)) x (sym beside ∙ made)
 
 -- a cell that comes leaves an entry
 silent : (net : Topology) (earlier ended : List Event) (event : Event) (v : Visit) → visit net (past_of net earlier) event ≡ Some v → entry_made net earlier event ≡ None → ArrivesAlone net earlier ended event
@@ -122,18 +122,18 @@ silent net earlier ended (Arrive c cell at) v is none =
     let clash = sym none ∙ made in absurd (cc)
 silent net earlier ended other v is none = tt
 
-pub alone_if : (net : Topology) (earlier ended : List Event) (event : Event) → entries_on net (conn_of event) earlier ≡ entries_on net (conn_of event) ended → ArrivesAlone net earlier ended event
-alone_if net earlier ended (Arrive c cell at) same = same
-alone_if net earlier ended other same = tt
+pub alone_if : (net : Topology) (earlier ended : List Event) (event : Event) (c : ℕ) → conn_of event ≡ Some c → entries_on net c earlier ≡ entries_on net c ended → ArrivesAlone net earlier ended event
+alone_if net earlier ended (Arrive d cell at) c whose same = subst (λ n. entries_on net n earlier ≡ entries_on net n ended) (some_same (sym whose)) same
+alone_if net earlier ended other c whose same = tt
 
 -- what comes to a port, by the port and by the source beside it
 both_have : (net : Topology) (js : Journaled) (ended earlier : List Event) (event : Event) (v : Visit) → HaveEnded net js ended → All AsksRate earlier → AreBegun net js (event ∷ earlier) → IsBelow net earlier ended →
     visit net (past_of net earlier) event ≡ Some v → IsBelow net (event ∷ earlier) ended
 both_have net js ended earlier event v end rates begun below is =
     let past = past_of net earlier in
-    let c = conn_of event in
     let p = v.port in
     let parts = visit_is net past event v is in
+    let c = parts.c in
     let conn = parts.conn in
     let c_low = slice_get_within net.conns c conn parts.known in
     let p_low = visit_low net end.rules past event v is in
@@ -146,20 +146,21 @@ both_have net js ended earlier event v end rates begun below is =
     = λ less has. below_on net js ended earlier event below (port_has less) has in
     elim (cases_option (entry_made net earlier event)) [
       | inl none ↦ (
-          let alone : ConnHas net ended earlier event = λ x made low. (let clash = sym none ∙ made in absurd (cc)) in
+          let alone : ConnHas net ended earlier event = λ d x whose made low. (let clash = sym none ∙ made in absurd (cc)) in
           elim (cases_less (steps_on net p earlier) (steps_on net p ended) begins_p) [
             | inl less ↦ on less alone
             | inr same ↦ absurd (fits_again net js ended earlier event v end begun
-                (again_at net js ended earlier end rates below event v is same (silent net earlier ended event v is none)) is same (λ x made. (let clash = sym none ∙ made in absurd (cc))))
+                (again_at net js ended earlier end rates below event v is same (silent net earlier ended event v is none)) is same (λ d x whose made. (let clash = sym none ∙ made in absurd (cc))))
           ])
       | inr some ↦ (
           let x = some.0 in
           let names = visit_entry net end.rules earlier event v x is some.1 in
-          let now = named_now net end.rules earlier c conn event x (length (steps_on net p earlier)) parts.known refl some.1 names in
+          let now = named_now net end.rules earlier c conn event x (length (steps_on net p earlier)) parts.known parts.whose some.1 names in
           let first : p ≡ slice_index conn.path 0 = (let same : v ≡ now.1.v = some_same (sym is ∙ now.1.visits) in ap (λ (w : Visit). w.port) same ∙ now.1.first) in
           elim (cases_less (steps_on net p earlier) (steps_on net p ended) begins_p) [
             | inl less ↦ (elim (cases_less (entries_on net c earlier) (entries_on net c ended) begins_c) [
-              | inl fewer ↦ on less (λ y made low. entry_had net js ended earlier event y end begun low made fewer)
+              | inl fewer ↦ on less (λ d y whose made low. (let here : c ≡ d = some_same (sym parts.whose ∙ whose) in
+                  entry_had net js ended earlier event d y end begun whose low made (subst (λ n. length (entries_on net n earlier) < length (entries_on net n ended)) here fewer)))
               | inr same ↦ absurd (
                   let had = step_had net js ended earlier event v end begun is less in
                   let here : slice_get (steps_on net (slice_index conn.path 0) ended) (length (steps_on net p earlier)) ≡ Some (step_next net earlier v) = subst (λ q. slice_get (steps_on net q ended) (length (steps_on net p earlier)) ≡ Some (step_next net earlier v)) first had in
@@ -170,11 +171,12 @@ both_have net js ended earlier event v end rates begun below is =
             ])
             | inr same ↦ (elim (cases_less (entries_on net c earlier) (entries_on net c ended) begins_c) [
               | inl fewer ↦ absurd (
-                  let had = entry_had net js ended earlier event x end begun c_low some.1 fewer in
+                  let had = entry_had net js ended earlier event c x end begun parts.whose c_low some.1 fewer in
                   let before = named_low net end.rules c conn parts.known ended (length (entries_on net c earlier)) (length (steps_on net p earlier)) x had names in
                   let there : length (steps_on net (slice_index conn.path 0) ended) ≡ length (steps_on net p earlier) = ap (λ q. length (steps_on net q ended)) (sym first) ∙ ap (λ l. length l) (sym same) in
                   omega (arith, before, there))
-              | inr level ↦ absurd (fits_again net js ended earlier event v end begun (again_at net js ended earlier end rates below event v is same (alone_if net earlier ended event level)) is same (λ y made. level))
+              | inr level ↦ absurd (fits_again net js ended earlier event v end begun (again_at net js ended earlier end rates below event v is same (alone_if net earlier ended event c parts.whose level)) is same
+                  (λ d y whose made. subst (λ n. entries_on net n earlier ≡ entries_on net n ended) (some_same (sym parts.whose ∙ whose)) level))
             ])
           ])
     ]

@@ -40,7 +40,7 @@ arrived_is place cell (Some (ArrivedAt found named)) h =
 
 -- an event that is found
 pub record IsFound (c hop place : ℕ) (input : PortInput) (placed : List SourceEntry) (next : Option SourceEntry) (event : Event) : Type 0 where
-  pub conn : conn_of event ≡ c
+  pub conn : conn_of event ≡ Some c
   pub hop_is : hop_visited event ≡ hop
   pub brings : input_told (channel_of input) placed event ≡ Some input
   pub beside : (x : SourceEntry) → entry_beside place event ≡ Some x → next ≡ Some x
@@ -103,21 +103,24 @@ or_sent : (hop place : ℕ) (next : Option SourceEntry) → ((x : SourceEntry) �
 or_sent hop place next beside true first = ap (is_sent_at place) (beside (Sent place) (cond-true _ _ _ first)) ∙ eq-eqb place place refl
 or_sent hop place next beside false later = refl
 
-pub only : (place : ℕ) (vc : Channel) (input : PortInput) (placed : List SourceEntry) (next : Option SourceEntry) (event : Event) →
-    input_told vc placed event ≡ Some input → ((x : SourceEntry) → entry_beside place event ≡ Some x → next ≡ Some x) → IsOnly (conn_of event) (hop_visited event) place vc input placed next event
-only place vc input placed next (Request c hop seq) brings beside =
-    subst (λ i. IsOnly c hop place vc i placed next (Request c hop seq)) (some_same brings) (record {
+pub only : (place c : ℕ) (vc : Channel) (input : PortInput) (placed : List SourceEntry) (next : Option SourceEntry) (event : Event) →
+    conn_of event ≡ Some c → input_told vc placed event ≡ Some input → ((x : SourceEntry) → entry_beside place event ≡ Some x → next ≡ Some x) → IsOnly c (hop_visited event) place vc input placed next event
+only place c vc input placed next (Request d hop seq) whose brings beside =
+    subst (λ n. IsOnly n hop place vc input placed next (Request d hop seq)) (some_same whose)
+    (subst (λ i. IsOnly d hop place vc i placed next (Request d hop seq)) (some_same brings) (record {
       is = cond-true _ _ _ (and_from _ _ (and_from _ _ (eq-eqb (floor_in placed seq) (floor_in placed seq) refl) (eq-eqb (ask_in placed seq) (ask_in placed seq) refl)) (or_sent hop place next beside (hop == 1) refl));
       channel = refl;
-    })
-only place vc input placed next (Answer c hop seq granted) brings beside =
-    subst (λ i. IsOnly c hop place vc i placed next (Answer c hop seq granted)) (some_same brings) (record {
+    }))
+only place c vc input placed next (Answer d hop seq granted) whose brings beside =
+    subst (λ n. IsOnly n hop place vc input placed next (Answer d hop seq granted)) (some_same whose)
+    (subst (λ i. IsOnly d hop place vc i placed next (Answer d hop seq granted)) (some_same brings) (record {
       is = cond-true _ _ _ (and_from _ _ (eq-eqb (floor_in placed seq) (floor_in placed seq) refl) (eq-eqb (ask_in placed seq) (ask_in placed seq) refl));
       channel = refl;
-    })
-only place vc input placed next (Arrive c cell at) brings beside =
-    subst (λ i. IsOnly c 1 place vc i placed next (Arrive c cell at)) (some_same brings) (record {
-      is = ap (λ o. option_map (λ n. Arrive c n at) (cell_arrived_at place o)) (beside (ArrivedAt cell place) refl) ∙ ap (option_map (λ n. Arrive c n at)) (cond-true _ _ _ (eq-eqb place place refl));
+    }))
+only place c vc input placed next (Arrive d cell at) whose brings beside =
+    subst (λ n. IsOnly n 1 place vc input placed next (Arrive d cell at)) (some_same whose)
+    (subst (λ i. IsOnly d 1 place vc i placed next (Arrive d cell at)) (some_same brings) (record {
+      is = ap (λ o. option_map (λ n. Arrive d n at) (cell_arrived_at place o)) (beside (ArrivedAt cell place) refl) ∙ ap (option_map (λ n. Arrive d n at)) (cond-true _ _ _ (eq-eqb place place refl));
       channel = refl;
-    })
-only place vc input placed next other brings beside = absurd (cc)
+    }))
+only place c vc input placed next other whose brings beside = absurd (cc)

@@ -9,7 +9,6 @@ use Rattle.abt_cell.specs.Channel.{Channel}
 use Rattle.abt_net.specs.Topology.{Topology, conn_at}
 use Rattle.abt_model.specs.declared.event.Event.{Event}
 use Rattle.abt_model.specs.Answers.{is_hop}
-use Rattle.abt_model.specs.Outcomes.{conn_of}
 use Rattle.abt_model.specs.PortTable.{hop_visited}
 use Rattle.abt_journal.specs.declared.entry.Entry.{Entry}
 use Rattle.abt_journal.specs.declared.input.PortInput.{PortInput}
@@ -61,40 +60,41 @@ pub coming_found : (net : Topology) (js : Journaled) (earlier : List Event) (p c
     Some event ≡ event_by c hop place input (reverse (take come entries)) (slice_get entries come) → IsComing net js earlier p place input c event
 coming_found net js earlier p c hop k place input vc entries come event stop channel same beside at is =
     let its = found c hop place input (reverse (take come entries)) (slice_get entries come) event (sym is) in
-    let whose : conn_of event ≡ k = its.conn ∙ sym same in
-    let placed : reverse (take come entries) ≡ reverse (entries_on net (conn_of event) earlier) = ap (λ l. reverse l) beside.placed ∙ ap (λ n. reverse (entries_on net n earlier)) (sym whose) in
+    let placed : reverse (take come entries) ≡ reverse (entries_on net c earlier) = ap (λ l. reverse l) beside.placed ∙ ap (λ n. reverse (entries_on net n earlier)) same in
     record {
       conn = its.conn;
       comes = record {
+        c = c;
+        whose = its.conn;
         conn = stop.conn;
-        known = ap (conn_at net) its.conn ∙ stop.known;
+        known = stop.known;
         within = subst (λ j. is_hop (length stop.conn.path) j ≡ true) (sym its.hop_is) stop.within;
         port = ap (λ j. slice_index stop.conn.path (j - 1)) its.hop_is ∙ stop.port;
-        brings = ap (λ (w : Channel). input_told w (reverse (entries_on net (conn_of event) earlier)) event) (stop.channel ∙ channel)
+        brings = ap (λ (w : Channel). input_told w (reverse (entries_on net c earlier)) event) (stop.channel ∙ channel)
             ∙ ap (λ (l : List SourceEntry). input_told (channel_of input) l event) (sym placed) ∙ its.brings;
         at = at;
-        beside = λ x e. ap (next_entry net js earlier) whose ∙ sym beside.next ∙ its.beside x e;
+        beside = λ x e. ap (next_entry net js earlier) (sym same) ∙ sym beside.next ∙ its.beside x e;
       };
     }
 
 -- what comes stops at the port
-pub comes_stop : (net : Topology) (js : Journaled) (earlier : List Event) (p place : ℕ) (input : PortInput) (vc : Channel) (event : Event) → vc ≡ channel_of input → Comes net js earlier p place input event →
-    IsStop net vc p (conn_of event) (hop_visited event)
+pub comes_stop : (net : Topology) (js : Journaled) (earlier : List Event) (p place : ℕ) (input : PortInput) (vc : Channel) (event : Event) → vc ≡ channel_of input → (comes : Comes net js earlier p place input event) →
+    IsStop net vc p comes.c (hop_visited event)
 comes_stop net js earlier p place input vc event channel comes =
-    let its = only place comes.conn.vc input (reverse (entries_on net (conn_of event) earlier)) (next_entry net js earlier (conn_of event)) event comes.brings comes.beside in
+    let its = only place comes.c comes.conn.vc input (reverse (entries_on net comes.c earlier)) (next_entry net js earlier comes.c) event comes.whose comes.brings comes.beside in
     record { conn = comes.conn; known = comes.known; channel = sym its.channel ∙ sym channel; within = comes.within; port = comes.port }
 
 -- and is the candidate
 pub coming_only : (net : Topology) (js : Journaled) (earlier : List Event) (p c hop k place : ℕ) (input : PortInput) (entries : List SourceEntry) (come : ℕ) (event : Event) →
-    c ≡ conn_of event → hop ≡ hop_visited event → k ≡ c → IsBeside net js earlier k entries come → Comes net js earlier p place input event →
+    (comes : Comes net js earlier p place input event) → c ≡ comes.c → hop ≡ hop_visited event → k ≡ c → IsBeside net js earlier k entries come →
     event_by c hop place input (reverse (take come entries)) (slice_get entries come) ≡ Some event
-coming_only net js earlier p c hop k place input entries come event whose hops same beside comes =
-    let its = only place comes.conn.vc input (reverse (entries_on net (conn_of event) earlier)) (next_entry net js earlier (conn_of event)) event comes.brings comes.beside in
-    let here : k ≡ conn_of event = same ∙ whose in
+coming_only net js earlier p c hop k place input entries come event comes whose hops same beside =
+    let its = only place comes.c comes.conn.vc input (reverse (entries_on net comes.c earlier)) (next_entry net js earlier comes.c) event comes.whose comes.brings comes.beside in
+    let here : k ≡ comes.c = same ∙ whose in
     ap (λ n. event_by n hop place input (reverse (take come entries)) (slice_get entries come)) whose
-    ∙ ap (λ n. event_by (conn_of event) n place input (reverse (take come entries)) (slice_get entries come)) hops
-    ∙ ap (λ l. event_by (conn_of event) (hop_visited event) place input (reverse l) (slice_get entries come)) (beside.placed ∙ ap (λ n. entries_on net n earlier) here)
-    ∙ ap (λ o. event_by (conn_of event) (hop_visited event) place input (reverse (entries_on net (conn_of event) earlier)) o) (beside.next ∙ ap (next_entry net js earlier) here)
+    ∙ ap (λ n. event_by comes.c n place input (reverse (take come entries)) (slice_get entries come)) hops
+    ∙ ap (λ l. event_by comes.c (hop_visited event) place input (reverse l) (slice_get entries come)) (beside.placed ∙ ap (λ n. entries_on net n earlier) here)
+    ∙ ap (λ o. event_by comes.c (hop_visited event) place input (reverse (entries_on net comes.c earlier)) o) (beside.next ∙ ap (next_entry net js earlier) here)
     ∙ its.is
 
 -- the place of a port is how many steps it has had

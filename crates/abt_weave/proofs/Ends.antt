@@ -11,7 +11,7 @@ use Rattle.abt_model.specs.declared.event.Event.TheVariants.{Arrive, Request, Tu
 use Rattle.abt_model.specs.declared.outcome.Outcome.{Outcome}
 use Rattle.abt_model.specs.Outcomes.{conn_of, outcome_at, outcome_of}
 use Rattle.abt_model.specs.Past.{Past, facts_of}
-use Rattle.abt_model.proofs.Worlds.{cases_option}
+use Rattle.abt_model.proofs.Worlds.{outcome_of-unknown, cases_option}
 use Rattle.abt_journal.specs.declared.entry.Entry.{Entry}
 use Rattle.abt_journal.specs.declared.input.PortInput.{PortInput}
 use Rattle.abt_source_journal.specs.declared.entry.SourceEntry.{SourceEntry}
@@ -23,23 +23,24 @@ use Rattle.abt_weave.specs.Actors.{actor_count}
 use Rattle.abt_weave.specs.Board.{AreSettled}
 use Rattle.abt_weave.proofs.Candidates.{cond_some, and_both}
 use Rattle.abt_weave.specs.OneFault.{AreJournalsOf}
+use Rattle.abt_weave.proofs.OwnEvents.{own_conn, made_own}
 use Rattle.abt_weave.proofs.Numbers.{source_settled, port_settled}
 use Rattle.abt_weave.proofs.PortEvents.{some_same, visit_made, has_reply}
 use Rattle.abt_weave.proofs.PortLooks.{first_hop}
 
-conn_known : (net : Topology) (past : Past) (event : Event) → is_enabled (outcome_of net past event) ≡ true → (conn : Conn) × (conn_at net (conn_of event) ≡ Some conn)
-conn_known net past event on = elim (cases_option (conn_at net (conn_of event))) [
-  | inl unknown ↦ absurd (false≢true (sym (ap (λ (o : Option Conn). is_enabled (outcome_at net past o event)) unknown) ∙ on))
+conn_known : (net : Topology) (past : Past) (event : Event) (c : ℕ) → conn_of event ≡ Some c → is_enabled (outcome_of net past event) ≡ true → (conn : Conn) × (conn_at net c ≡ Some conn)
+conn_known net past event c whose on = elim (cases_option (conn_at net c)) [
+  | inl unknown ↦ absurd (false≢true (sym (ap is_enabled (outcome_of-unknown net past event c whose unknown)) ∙ on))
   | inr known ↦ known
 ]
 
-seen_visit : (net : Topology) → IsWithinRules net → (past : Past) (event : Event) → ((conn : Conn) → (input : PortInput) × (input_of conn.vc (facts_of (conn_of event) past) event ≡ Some input)) →
+seen_visit : (net : Topology) → IsWithinRules net → (past : Past) (event : Event) (c : ℕ) → conn_of event ≡ Some c → ((conn : Conn) → (input : PortInput) × (input_of conn.vc (facts_of c past) event ≡ Some input)) →
     is_enabled (outcome_of net past event) ≡ true → visit net past event ≡ None → ⊥
-seen_visit net rules past event brings on none =
-    let known = conn_known net past event on in
+seen_visit net rules past event c whose brings on none =
+    let known = conn_known net past event c whose on in
     let input = brings known.0 in
-    let reply = has_reply net past event known.0 input.0 known.1 (first_hop net rules (conn_of event) known.0 known.1) input.1 on in
-    let made = visit_made net past event known.0 input.0 reply.reply known.1 input.1 reply.is in
+    let reply = has_reply net past event c known.0 input.0 whose known.1 (first_hop net rules c known.0 known.1) input.1 on in
+    let made = visit_made net past event c known.0 input.0 reply.reply whose known.1 input.1 reply.is in
     let clash = sym none ∙ made in cc
 
 -- what comes to no port is something that its source did
@@ -51,11 +52,11 @@ own_or_visit net rules earlier (Told c seq granted) x none h =
 own_or_visit net rules earlier (Request c hop seq) x none h =
     let o = outcome_of net (past_of net earlier) (Request c hop seq) in
     let both = cond_some (is_enabled o && hop == 1) (Some (Sent (place_at_first net earlier (Request c hop seq)))) x h in
-    absurd (seen_visit net rules (past_of net earlier) (Request c hop seq) (λ conn. (_, refl)) (and_both (is_enabled o) (hop == 1) both.0).0 none)
+    absurd (seen_visit net rules (past_of net earlier) (Request c hop seq) c refl (λ conn. (_, refl)) (and_both (is_enabled o) (hop == 1) both.0).0 none)
 own_or_visit net rules earlier (Arrive c cell at) x none h =
     let o = outcome_of net (past_of net earlier) (Arrive c cell at) in
     let both = cond_some (is_enabled o) (Some (ArrivedAt cell (place_at_first net earlier (Arrive c cell at)))) x h in
-    absurd (seen_visit net rules (past_of net earlier) (Arrive c cell at) (λ conn. (_, refl)) both.0 none)
+    absurd (seen_visit net rules (past_of net earlier) (Arrive c cell at) c refl (λ conn. (_, refl)) both.0 none)
 own_or_visit net rules earlier (Turn c seq) x none h = absurd (cc)
 own_or_visit net rules earlier (Answer c hop seq granted) x none h = absurd (cc)
 own_or_visit net rules earlier other x none h = (outcome_of net (past_of net earlier) other, sym (some_same h))
@@ -91,10 +92,13 @@ all_still net js are rules earlier marks placed settled = record {
           | inl nothing ↦ (elim fits.falls [ inl a ↦ a none | inr b ↦ b nothing ])
           | inr entry ↦ (
               let done = own_or_visit net rules after event entry.0 none entry.1 in
-              let c = conn_of event in
-              let low : c < length net.conns = subst (λ n. c < n) are.conns (entries_low js c (length (entries_on net c after)) entry.0 (fits.entry entry.0 entry.1)) in
+              let made = entry.1 ∙ ap (λ (y : SourceEntry). Some y) done.1 in
+              let its = made_own (place_at_first net after event) event (outcome_of net (past_of net after) event) event done.0 made in
+              let c = its.c in
+              let whose = own_conn c event its.own in
+              let low : c < length net.conns = subst (λ n. c < n) are.conns (entries_low js c (length (entries_on net c after)) entry.0 (fits.entry c entry.0 whose entry.1)) in
               let mark = mark_at marks c (omega (arith, low, settled.count_is)) in
-              (source_settled net js earlier marks c mark.0 settled low mark.1).stuck turns event event done.0 all refl (entry.1 ∙ ap (λ (y : SourceEntry). Some y) done.1) fits)
+              (source_settled net js earlier marks c mark.0 settled low mark.1).stuck turns event event done.0 all whose made fits)
         ])
       ]);
 }

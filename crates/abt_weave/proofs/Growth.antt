@@ -12,18 +12,19 @@ use Rattle.abt_source_journal.specs.declared.entry.SourceEntry.{SourceEntry}
 use Rattle.abt_woven.specs.Projections.{Step, Visit, past_of, visit, step_at, steps_on, entry_made, entry_at, entries_on}
 use Rattle.abt_woven.proofs.Asked.{other_same}
 
-pub entries_other : (net : Topology) (earlier : List Event) (event : Event) (d : ℕ) → conn_of event ≢ d → entries_on net d (event ∷ earlier) ≡ entries_on net d earlier
+pub entries_other : (net : Topology) (earlier : List Event) (event : Event) (d : ℕ) → conn_of event ≢ Some d → entries_on net d (event ∷ earlier) ≡ entries_on net d earlier
 entries_other net earlier event d differ = other_same (conn_of event) d (entries_on net d earlier) differ (entry_made net earlier event)
 
 pub entries_none : (net : Topology) (earlier : List Event) (event : Event) (d : ℕ) → entry_made net earlier event ≡ None → entries_on net d (event ∷ earlier) ≡ entries_on net d earlier
 entries_none net earlier event d none =
     ap (λ (o : Option SourceEntry). entries_on net d earlier ++ entry_at (conn_of event) d o) none ∙ append-nil (entries_on net d earlier)
 
-pub entries_one : (net : Topology) (earlier : List Event) (event : Event) (c : ℕ) (x : SourceEntry) → entry_made net earlier event ≡ Some x → conn_of event ≡ c →
+pub entries_one : (net : Topology) (earlier : List Event) (event : Event) (c : ℕ) (x : SourceEntry) → entry_made net earlier event ≡ Some x → conn_of event ≡ Some c →
     length (entries_on net c (event ∷ earlier)) ≡ length (entries_on net c earlier) + 1
 entries_one net earlier event c x made same =
     ap (λ (o : Option SourceEntry). length (entries_on net c earlier ++ entry_at (conn_of event) c o)) made
-    ∙ ap (λ (l : List SourceEntry). length (entries_on net c earlier ++ l)) (cond-true _ _ _ (eq-eqb (conn_of event) c same))
+    ∙ ap (λ (own : Option ℕ). length (entries_on net c earlier ++ entry_at own c (Some x))) same
+    ∙ ap (λ (l : List SourceEntry). length (entries_on net c earlier ++ l)) (cond-true _ _ _ (eq-eqb c c refl))
     ∙ length-append (entries_on net c earlier) (x ∷ [])
 
 pub steps_none : (net : Topology) (earlier : List Event) (event : Event) (p : ℕ) → visit net (past_of net earlier) event ≡ None → steps_on net p (event ∷ earlier) ≡ steps_on net p earlier

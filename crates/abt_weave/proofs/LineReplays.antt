@@ -23,7 +23,7 @@ use Rattle.abt_model.specs.declared.outcome.Outcome.{Outcome}
 use Rattle.abt_model.specs.declared.outcome.Outcome.TheVariants.{Started, Asked, AskRefused, Crashed, Emitted, Arrived, Requested, Turned, Answered, Told as HasTold, NotEnabled}
 use Rattle.abt_model.specs.Outcomes.{conn_of, outcome_of, facts_added, after_event, request_adds, answer_adds}
 use Rattle.abt_model.specs.Past.{facts_of}
-use Rattle.abt_model.proofs.Worlds.{cases_option, facts_of-own, facts_of-other}
+use Rattle.abt_model.proofs.Worlds.{conn_cases, cases_option, facts_of-own, facts_of-other}
 use Rattle.abt_journal.specs.declared.input.PortInput.{PortInput}
 use Rattle.abt_journal.specs.declared.input.PortInput.TheVariants.{Request as RequestIn, Arrive as ArriveIn}
 use Rattle.abt_source_journal.specs.declared.entry.SourceEntry.{SourceEntry}
@@ -140,21 +140,21 @@ line_none facts place other outcome none = absurd (cc)
 line_did : (facts : List Fact) (place : ℕ) (event : Event) (outcome : Outcome) (done : Event) (told : Outcome) → entry_of place event outcome ≡ Some (Did done told) → line (facts_added facts event outcome) ≡ facts_added (line facts) done told
 line_did facts place event outcome done told made = did_is (made_own place event outcome done told made)
   where
-    each : (event : Event) (outcome : Outcome) → is_own_of (conn_of event) event ≡ true → line (facts_added facts event outcome) ≡ facts_added (line facts) event outcome
-    each (Start c now) Started own = ap (λ (n : ℕ). FactStarted now n ∷ []) (sym (stored_of-line facts))
-    each (Ask c rate plan) (Asked request) own = line_seq facts request
-    each (Ask c rate FailsAfter) (AskRefused Keep) own = ap (λ (n : ℕ). Stored (n + 1) ∷ []) (sym (last_of-line facts))
-    each (Crash c) Crashed own = refl
-    each (Emit c now) (Emitted cell next) own = ap (λ (n : ℕ). FactEmitted cell now n ∷ []) (sym (rate_of-line facts))
-    each (Told c seq granted) (HasTold Raised) own = refl
-    each (Arrive c cell at) outcome own = absurd (false≢true own)
-    each (Request c hop seq) outcome own = absurd (false≢true own)
-    each (Turn c seq) outcome own = absurd (false≢true own)
-    each (Answer c hop seq granted) outcome own = absurd (false≢true own)
-    each event outcome own = refl
+    each : (d : ℕ) (event : Event) (outcome : Outcome) → is_own_of d event ≡ true → line (facts_added facts event outcome) ≡ facts_added (line facts) event outcome
+    each d (Start c now) Started own = ap (λ (n : ℕ). FactStarted now n ∷ []) (sym (stored_of-line facts))
+    each d (Ask c rate plan) (Asked request) own = line_seq facts request
+    each d (Ask c rate FailsAfter) (AskRefused Keep) own = ap (λ (n : ℕ). Stored (n + 1) ∷ []) (sym (last_of-line facts))
+    each d (Crash c) Crashed own = refl
+    each d (Emit c now) (Emitted cell next) own = ap (λ (n : ℕ). FactEmitted cell now n ∷ []) (sym (rate_of-line facts))
+    each d (Told c seq granted) (HasTold Raised) own = refl
+    each d (Arrive c cell at) outcome own = absurd (false≢true own)
+    each d (Request c hop seq) outcome own = absurd (false≢true own)
+    each d (Turn c seq) outcome own = absurd (false≢true own)
+    each d (Answer c hop seq granted) outcome own = absurd (false≢true own)
+    each d event outcome own = refl
 
     did_is : IsDone event outcome done told → line (facts_added facts event outcome) ≡ facts_added (line facts) done told
-    did_is its = each event outcome its.own ∙ ap (λ e. facts_added (line facts) e outcome) (sym its.event_is) ∙ ap (facts_added (line facts) done) (sym its.outcome_is)
+    did_is its = each its.c event outcome its.own ∙ ap (λ e. facts_added (line facts) e outcome) (sym its.event_is) ∙ ap (facts_added (line facts) done) (sym its.outcome_is)
 
 stepped : (net : Topology) (earlier : List Event) (event : Event) (v : Visit) (p : ℕ) → visit net (past_of net earlier) event ≡ Some v → v.port ≡ p →
     slice_get (steps_on net p (event ∷ earlier)) (length (steps_on net p earlier)) ≡ Some (record { place = length (steps_on net p earlier); input = v.input; reply = v.reply })
@@ -162,7 +162,7 @@ stepped net earlier event v p is here = subst (λ q. slice_get (steps_on net q (
     (ap (λ l. slice_get l (length (steps_on net v.port earlier))) (step_made net earlier event v is) ∙ get_last (steps_on net v.port earlier) _)
 
 -- what an event that leaves an entry adds to the line
-line_entry : (net : Topology) → IsWithinRules net → (earlier : List Event) (c : ℕ) (conn : Conn) (event : Event) (x : SourceEntry) → conn_at net c ≡ Some conn → conn_of event ≡ c → entry_made net earlier event ≡ Some x →
+line_entry : (net : Topology) → IsWithinRules net → (earlier : List Event) (c : ℕ) (conn : Conn) (event : Event) (x : SourceEntry) → conn_at net c ≡ Some conn → conn_of event ≡ Some c → entry_made net earlier event ≡ Some x →
     line (facts_added (facts_of c (past_of net earlier)) event (outcome_of net (past_of net earlier) event)) ++ line (facts_of c (past_of net earlier))
     ≡ lined (steps_on net (slice_index conn.path 0) (event ∷ earlier)) (line (facts_of c (past_of net earlier))) (x ∷ [])
 line_entry net rules earlier c conn event (Did done told) known whose made =
@@ -226,12 +226,12 @@ line_replayed net rules c conn known (event ∷ earlier) =
     let entries = entries_on net c earlier in
     let there : AreThere steps entries = λ i n x at names. named_low net rules c conn known earlier i n x at names in
     let before : line facts ≡ lined (steps ++ later) [] entries = line_replayed net rules c conn known earlier ∙ sym (lined_later steps later [] entries there) in
-    elim (cases_eq (conn_of event) c) [
+    elim (conn_cases event c) [
       | inr differ ↦ ap line (facts_of-other net past event c differ) ∙ before ∙ ap (lined (steps ++ later) []) (sym (entries_other net earlier event c differ))
       | inl same ↦ (
           let outcome = outcome_of net past event in
           let now : line (facts_of c (after_event net past event)) ≡ line (facts_added facts event outcome) ++ line facts =
-          ap line (subst (λ d. facts_of d (after_event net past event) ≡ facts_added (facts_of d past) event outcome ++ facts_of d past) same (facts_of-own net past event)) ∙ line-append (facts_added facts event outcome) facts in
+          ap line (facts_of-own net past event c same) ∙ line-append (facts_added facts event outcome) facts in
           elim (cases_option (entry_made net earlier event)) [
             | inl none ↦ now ∙ ap (λ (l : List Fact). l ++ line facts) (line_none facts (place_at_first net earlier event) event outcome none) ∙ before
                 ∙ ap (lined (steps ++ later) []) (sym (entries_none net earlier event c none))

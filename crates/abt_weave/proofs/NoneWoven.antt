@@ -20,7 +20,7 @@ use Rattle.abt_model.proofs.Chain.{turned_passed}
 use Rattle.abt_model.proofs.Lawful.{route_of}
 use Rattle.abt_model.proofs.Served.{conn_within}
 use Rattle.abt_model.proofs.Steps.{is_hop_tells}
-use Rattle.abt_model.proofs.Worlds.{cases_option, outcome_of-known, lawful_at, facts_of-own}
+use Rattle.abt_model.proofs.Worlds.{conn_cases, cases_option, outcome_of-known, lawful_at, facts_of-own}
 use Rattle.abt_model.specs.PortTable.{hop_visited}
 use Rattle.abt_source_journal.specs.declared.entry.SourceEntry.{SourceEntry}
 use Rattle.abt_woven.specs.Projections.{Step, Visit, past_of, visit, step_at, steps_on, entry_made, entry_at, entries_on}
@@ -69,12 +69,11 @@ step_due net js event earlier v begun low is =
     get_whole (steps_on net v.port (event ∷ earlier)) (port_journal js v.port) (length (steps_on net v.port earlier)) (step_next net earlier v) (begun.ports v.port low)
     (ap (λ l. slice_get l (length (steps_on net v.port earlier))) (step_made net earlier event v is) ∙ get_last (steps_on net v.port earlier) (step_next net earlier v))
 
-pub entry_due : (net : Topology) (js : Journaled) (event : Event) (earlier : List Event) (x : SourceEntry) → AreBegun net js (event ∷ earlier) → conn_of event < length net.conns → entry_made net earlier event ≡ Some x →
-    slice_get (source_journal js (conn_of event)) (length (entries_on net (conn_of event) earlier)) ≡ Some x
-entry_due net js event earlier x begun low made =
-    let c = conn_of event in
+pub entry_due : (net : Topology) (js : Journaled) (event : Event) (earlier : List Event) (c : ℕ) (x : SourceEntry) → AreBegun net js (event ∷ earlier) → conn_of event ≡ Some c → c < length net.conns → entry_made net earlier event ≡ Some x →
+    slice_get (source_journal js c) (length (entries_on net c earlier)) ≡ Some x
+entry_due net js event earlier c x begun whose low made =
     get_whole (entries_on net c (event ∷ earlier)) (source_journal js c) (length (entries_on net c earlier)) x (begun.conns c low)
-    (ap (λ l. slice_get l (length (entries_on net c earlier))) (entries_made net earlier event c x made refl) ∙ get_last (entries_on net c earlier) x)
+    (ap (λ l. slice_get l (length (entries_on net c earlier))) (entries_made net earlier event c x made whose) ∙ get_last (entries_on net c earlier) x)
 
 -- a list below another stays so by an event whose entries the other has already
 port_on : (net : Topology) (js : Journaled) (ended earlier : List Event) (event : Event) (p : ℕ) → IsBeginning (steps_on net p earlier) (steps_on net p ended) →
@@ -94,9 +93,9 @@ port_on net js ended earlier event p begins has = elim (cases_option (visit net 
 ]
 
 conn_on : (net : Topology) (ended earlier : List Event) (event : Event) (c : ℕ) → IsBeginning (entries_on net c earlier) (entries_on net c ended) →
-    ((x : SourceEntry) → entry_made net earlier event ≡ Some x → conn_of event ≡ c → slice_get (entries_on net c ended) (length (entries_on net c earlier)) ≡ Some x) →
+    ((x : SourceEntry) → entry_made net earlier event ≡ Some x → conn_of event ≡ Some c → slice_get (entries_on net c ended) (length (entries_on net c earlier)) ≡ Some x) →
     IsBeginning (entries_on net c (event ∷ earlier)) (entries_on net c ended)
-conn_on net ended earlier event c begins has = elim (cases_eq (conn_of event) c) [
+conn_on net ended earlier event c begins has = elim (conn_cases event c) [
   | inr differ ↦ subst (λ l. IsBeginning l (entries_on net c ended)) (sym (entries_other net earlier event c differ)) begins
   | inl same ↦ (elim (cases_option (entry_made net earlier event)) [
     | inl none ↦ subst (λ l. IsBeginning l (entries_on net c ended)) (sym (entries_none net earlier event c none)) begins
@@ -109,13 +108,13 @@ abbrev pub PortHas : Topology → List Event → List Event → Event → Type 0
 PortHas net ended earlier event = (v : Visit) → visit net (past_of net earlier) event ≡ Some v → slice_get (steps_on net v.port ended) (length (steps_on net v.port earlier)) ≡ Some (step_next net earlier v)
 
 abbrev pub ConnHas : Topology → List Event → List Event → Event → Type 0
-ConnHas net ended earlier event = (x : SourceEntry) → entry_made net earlier event ≡ Some x → conn_of event < length net.conns → slice_get (entries_on net (conn_of event) ended) (length (entries_on net (conn_of event) earlier)) ≡ Some x
+ConnHas net ended earlier event = (c : ℕ) (x : SourceEntry) → conn_of event ≡ Some c → entry_made net earlier event ≡ Some x → c < length net.conns → slice_get (entries_on net c ended) (length (entries_on net c earlier)) ≡ Some x
 
 pub below_on : (net : Topology) (js : Journaled) (ended earlier : List Event) (event : Event) → IsBelow net earlier ended → PortHas net ended earlier event → ConnHas net ended earlier event → IsBelow net (event ∷ earlier) ended
 below_on net js ended earlier event below port conn = record {
   ports = λ p low. port_on net js ended earlier event p (below.ports p low) (λ v is here. subst (λ q. slice_get (steps_on net q ended) (length (steps_on net q earlier)) ≡ Some (step_next net earlier v)) here (port v is));
   conns = λ c low. conn_on net ended earlier event c (below.conns c low)
-      (λ x made same. subst (λ d. slice_get (entries_on net d ended) (length (entries_on net d earlier)) ≡ Some x) same (conn x made (subst (λ d. d < length net.conns) (sym same) low)));
+      (λ x made same. conn c x same made low);
 }
 
 -- a port that an event comes to is one of the net
@@ -123,9 +122,9 @@ pub visit_low : (net : Topology) → IsWithinRules net → (past : Past) (event 
 visit_low net rules past event v is =
     let parts = visit_is net past event v is in
     let enabled = reply_enabled (outcome_of net past event) v.reply parts.reply in
-    let reply = has_reply net past event parts.conn v.input parts.known (first_hop net rules (conn_of event) parts.conn parts.known) parts.input enabled in
+    let reply = has_reply net past event parts.c parts.conn v.input parts.whose parts.known (first_hop net rules parts.c parts.conn parts.known) parts.input enabled in
     let hop = is_hop_tells (length parts.conn.path) (hop_visited event) reply.within in
-    subst (λ n. n < length net.capacities) parts.port ((conn_within net rules (conn_of event) parts.conn parts.known).in_net (hop_visited event - 1) 0 (omega (arith, hop.0, hop.1)))
+    subst (λ n. n < length net.capacities) parts.port ((conn_within net rules parts.c parts.conn parts.known).in_net (hop_visited event - 1) 0 (omega (arith, hop.0, hop.1)))
 
 -- An event comes again where all has ended, also after Turns.
 pub record AgainAt (net : Topology) (ended earlier : List Event) (event : Event) (v : Visit) : Type 0 where
@@ -135,7 +134,7 @@ pub record AgainAt (net : Topology) (ended earlier : List Event) (event : Event)
 
 -- what stands in the way of an end: an event that fits
 pub fits_again : (net : Topology) (js : Journaled) (ended earlier : List Event) (event : Event) (v : Visit) → HaveEnded net js ended → AreBegun net js (event ∷ earlier) → AgainAt net ended earlier event v → visit net (past_of net earlier) event ≡ Some v →
-    steps_on net v.port earlier ≡ steps_on net v.port ended → ((x : SourceEntry) → entry_made net earlier event ≡ Some x → entries_on net (conn_of event) earlier ≡ entries_on net (conn_of event) ended) → ⊥
+    steps_on net v.port earlier ≡ steps_on net v.port ended → ((c : ℕ) (x : SourceEntry) → conn_of event ≡ Some c → entry_made net earlier event ≡ Some x → entries_on net c earlier ≡ entries_on net c ended) → ⊥
 fits_again net js ended earlier event v end begun at is same beside =
     let more = at.turns ++ ended in
     let parts = visit_is net (past_of net earlier) event v is in
@@ -150,11 +149,11 @@ fits_again net js ended earlier event v end begun at is same beside =
       step = λ w also.
           (let here : v ≡ w = some_same (sym at.again.visits ∙ also) in
           subst (λ (u : Visit). next_step net js more u.port ≡ Some (step_next net more u)) here next);
-      entry = λ x also.
+      entry = λ c x whose also.
           (let made = sym at.again.beside ∙ also in
-          let c_low = slice_get_within net.conns (conn_of event) parts.conn parts.known in
-          ap (λ (l : List SourceEntry). slice_get (source_journal js (conn_of event)) (length l)) (entries_turns net ended at.turns at.all (conn_of event) ∙ sym (beside x made))
-          ∙ entry_due net js event earlier x begun c_low made);
+          let c_low = subst (λ d. d < length net.conns) (some_same (sym parts.whose ∙ whose)) (slice_get_within net.conns parts.c parts.conn parts.known) in
+          ap (λ (l : List SourceEntry). slice_get (source_journal js c) (length l)) (entries_turns net ended at.turns at.all c ∙ sym (beside c x whose made))
+          ∙ entry_due net js event earlier c x begun whose c_low made);
     })
 
 pub both_are : (net : Topology) (js : Journaled) (ended earlier : List Event) → HaveEnded net js ended → All AsksRate earlier → IsBelow net earlier ended → AreBoth net earlier ended
@@ -193,8 +192,8 @@ can_turn net js ended earlier end rates below c seq conn known turned =
           let within = conn_within net end.rules c conn known in
           let passed = turned_passed (route_of conn) (facts_of c (past_of net earlier)) (lawful_at net (past_of net earlier) (past_lawful net earlier rates) c conn known) seq turned in
           let through = passed_below net c conn seq (length conn.path) (record { rules = end.rules; known = known; low = (let h = within.has_hop in omega (arith, h)); high = omega arith }) earlier ended below passed in
-          let happens : outcome_of net past (Turn c seq) ≡ Turned = outcome_of-known net past (Turn c seq) conn known ∙ turn_on (was_passed facts seq (length conn.path)) through in
-          let now : facts_of c (past_of net (Turn c seq ∷ ended)) ≡ FactTurned seq ∷ facts = facts_of-own net past (Turn c seq) ∙ ap (λ o. facts_added facts (Turn c seq) o ++ facts) happens in
+          let happens : outcome_of net past (Turn c seq) ≡ Turned = outcome_of-known net past (Turn c seq) c conn refl known ∙ turn_on (was_passed facts seq (length conn.path)) through in
+          let now : facts_of c (past_of net (Turn c seq ∷ ended)) ≡ FactTurned seq ∷ facts = facts_of-own net past (Turn c seq) c refl ∙ ap (λ o. facts_added facts (Turn c seq) o ++ facts) happens in
           record {
             turns = Turn c seq ∷ [];
             all = (record { conn = c; seq = seq; is = refl; happens = happens }, tt);

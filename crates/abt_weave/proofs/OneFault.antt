@@ -26,8 +26,8 @@ use Rattle.abt_weave.proofs.AllBelow.{all_below, conn_there, alone_if, entries_t
 use Rattle.abt_weave.proofs.Ends.{whole_beginning}
 use Rattle.abt_weave.proofs.Leavings.{all_reversed}
 use Rattle.abt_weave.proofs.NoneWoven.{AreBegun, HaveEnded, visit_low, again_at}
-use Rattle.abt_weave.proofs.OwnEvents.{made_own, own_made}
-use Rattle.abt_weave.proofs.PortEvents.{visit_is}
+use Rattle.abt_weave.proofs.OwnEvents.{own_here, made_own, own_made}
+use Rattle.abt_weave.proofs.PortEvents.{some_same, visit_is}
 use Rattle.abt_weave.proofs.SentBelow.{IsBelow}
 
 -- two lists of events that stand still before the journals of a net
@@ -79,13 +79,12 @@ source_again net js one other ends c m =
     let more = m.turns ++ one in
     let event = m.event in
     let low : c < length net.conns = subst (λ n. c < n) ends.journals.conns (entries_there js c (length (entries_on net c more)) (Did event m.told) m.next) in
-    let lowe : conn_of event < length net.conns = subst (λ d. d < length net.conns) (sym m.here) low in
-    let conn = conn_there net (conn_of event) lowe in
+    let conn = conn_there net c low in
     let its = made_own (place_at_first net more event) event (outcome_of net (past_of net more) event) event m.outcome m.does in
-    let level = entries_there_too net js one other m.turns [] ends m.turned tt (conn_of event) lowe in
-    let again = own_again net ends.there.rules more other (ends_below net js one other ends m.turns m.turned) conn.0 event conn.1 its.own its.enabled level in
-    let enabled : is_told event && not (is_enabled (outcome_of net (past_of net other) event)) ≡ false = ap (λ o. is_told event && not (is_enabled o)) (sym again) ∙ its.enabled in
-    let level_c = entries_there_too net js one other m.turns [] ends m.turned tt c low in (
+    let level = entries_there_too net js one other m.turns [] ends m.turned tt c low in
+    let mine = own_here its.c c event its.own m.here in
+    let again = own_again net ends.there.rules more other (ends_below net js one other ends m.turns m.turned) c conn.0 event m.here conn.1 mine its.enabled level in
+    let enabled : is_told event && not (is_enabled (outcome_of net (past_of net other) event)) ≡ false = ap (λ o. is_told event && not (is_enabled o)) (sym again) ∙ its.enabled in (
       low,
       record {
         turns = [];
@@ -93,9 +92,9 @@ source_again net js one other ends c m =
         event = event;
         here = m.here;
         outcome = outcome_of net (past_of net other) event;
-        does = own_made (place_at_first net other event) (conn_of event) event (outcome_of net (past_of net other) event) its.own enabled;
+        does = own_made (place_at_first net other event) c event (outcome_of net (past_of net other) event) mine enabled;
         told = m.told;
-        next = ap (λ (l : List SourceEntry). slice_get (source_journal js c) (length l)) (sym level_c) ∙ m.next;
+        next = ap (λ (l : List SourceEntry). slice_get (source_journal js c) (length l)) (sym level) ∙ m.next;
       },
     )
 
@@ -106,11 +105,11 @@ port_again net js one other ends p m =
     let low_v = visit_low net ends.here.rules (past_of net more) event m.visits m.comes in
     let low : p < length net.capacities = subst (λ q. q < length net.capacities) m.here low_v in
     let parts = visit_is net (past_of net more) event m.visits m.comes in
-    let lowc : conn_of event < length net.conns = slice_get_within net.conns (conn_of event) parts.conn parts.known in
+    let lowc : parts.c < length net.conns = slice_get_within net.conns parts.c parts.conn parts.known in
     let at = again_at net js other more ends.there (turns_ask net one m.turns m.turned ends.here.rates) (ends_below net js one other ends m.turns m.turned) event m.visits m.comes
-    (steps_there_too net js one other m.turns [] ends m.turned tt m.visits.port low_v) (alone_if net more other event (entries_there_too net js one other m.turns [] ends m.turned tt (conn_of event) lowc)) in
+    (steps_there_too net js one other m.turns [] ends m.turned tt m.visits.port low_v) (alone_if net more other event parts.c parts.whose (entries_there_too net js one other m.turns [] ends m.turned tt parts.c lowc)) in
     let level = steps_there_too net js one other m.turns at.turns ends m.turned at.all p low in
-    let level_c = entries_there_too net js one other m.turns at.turns ends m.turned at.all (conn_of event) lowc in
+    let level_c = entries_there_too net js one other m.turns at.turns ends m.turned at.all parts.c lowc in
     record {
       turns = at.turns;
       turned = at.all;
@@ -122,8 +121,9 @@ port_again net js one other ends p m =
       next = ap (λ (l : List Step). slice_get (port_journal js p) (length l)) (sym level) ∙ m.next;
       place = m.place ∙ ap (λ (l : List Step). length l) level;
       input = m.input;
-      beside = λ x made.
-          ap (λ (l : List SourceEntry). slice_get (source_journal js (conn_of event)) (length l)) (sym level_c) ∙ m.beside x (sym at.again.beside ∙ made);
+      beside = λ d x whose made.
+          (let here : parts.c ≡ d = some_same (sym parts.whose ∙ whose) in
+          ap (λ (l : List SourceEntry). slice_get (source_journal js d) (length l)) (sym (subst (λ n. entries_on net n more ≡ entries_on net n (at.turns ++ other)) here level_c)) ∙ m.beside d x whose (sym at.again.beside ∙ made));
     }
 
 -- what is left at one end is left at the other

@@ -24,18 +24,22 @@ use Rattle.abt_model.specs.Past.{Past, facts_of}
 use Rattle.abt_model.specs.Targets.{target_of, event_at, event_at_source, conn_in}
 use Rattle.abt_model.proofs.Targets.{event_there}
 use Rattle.abt_model.specs.PortTable.{hop_visited}
-use Rattle.abt_woven.specs.Projections.{Visit, reply_of, is_enabled, is_told_by, input_in, input_of, visit_by, visit, entry_by, entry_in, entry_of, place_at_first, past_of, entry_made}
+use Rattle.abt_woven.specs.Projections.{Visit, reply_of, is_enabled, is_told_by, input_in, input_of, visit_by, visit_of, visit, entry_by, entry_in, entry_of, place_at_first, past_of, entry_made}
 use Rattle.abt_woven.specs.Stuck.{Journaled, source_journal, next_entry, Fits, AreTurns}
 use Rattle.abt_woven.proofs.Turns.{outcome_turns, entries_turns}
 use Rattle.abt_weave.specs.Candidates.{is_at_source, is_own_of, is_told_in, is_told}
 use Rattle.abt_weave.specs.Board.{IsSourceSettled}
 
 -- an event that brings nothing to a port comes to none
-pub unvisited_by : (past : Past) (event : Event) → ((conn : Conn) (facts : List Fact) → input_of conn.vc facts event ≡ None) → (r : Option PortReply) (o : Option Conn) → visit_by past event r o ≡ None
-unvisited_by past event none r None = refl
-unvisited_by past event none None (Some conn) = refl
-unvisited_by past event none (Some reply) (Some conn) =
-    ap (option_map (λ (input : PortInput). let v : Visit = record { port = slice_index conn.path (hop_visited event - 1); input = input; reply = reply } in v)) (none conn (facts_of (conn_of event) past))
+unvisited_at : (event : Event) → ((conn : Conn) (facts : List Fact) → input_of conn.vc facts event ≡ None) → (r : Option PortReply) (facts : List Fact) (o : Option Conn) → visit_by event r facts o ≡ None
+unvisited_at event none r facts None = refl
+unvisited_at event none None facts (Some conn) = refl
+unvisited_at event none (Some reply) facts (Some conn) =
+    ap (option_map (λ (input : PortInput). let v : Visit = record { port = slice_index conn.path (hop_visited event - 1); input = input; reply = reply } in v)) (none conn facts)
+
+pub unvisited_by : (net : Topology) (past : Past) (event : Event) → ((conn : Conn) (facts : List Fact) → input_of conn.vc facts event ≡ None) → (r : Option PortReply) (own : Option ℕ) → visit_of net past event r own ≡ None
+unvisited_by net past event none r None = refl
+unvisited_by net past event none r (Some c) = unvisited_at event none r (facts_of c past) (conn_at net c)
 
 own_input : (c : ℕ) (t : Target) → is_at_source c t ≡ true → (vc : Channel) (request : ℕ → Terms) → input_in vc request t ≡ None
 own_input c (Source d x) h vc request = refl
@@ -43,14 +47,24 @@ own_input c other h vc request = absurd (false≢true h)
 
 -- it comes to no port
 pub own_visit : (net : Topology) (past : Past) (c : ℕ) (event : Event) → is_own_of c event ≡ true → visit net past event ≡ None
-own_visit net past c event own = unvisited_by past event (λ conn facts. own_input c (target_of event) own conn.vc (request_of conn.vc facts)) (reply_of (outcome_of net past event)) (conn_at net (conn_of event))
+own_visit net past c event own = unvisited_by net past event (λ conn facts. own_input c (target_of event) own conn.vc (request_of conn.vc facts)) (reply_of (outcome_of net past event)) (conn_of event)
 
-own_number : (c : ℕ) (t : Target) → is_at_source c t ≡ true → conn_in t ≡ c
-own_number c (Source d x) h = eqb-true d c h
+own_number : (c : ℕ) (t : Target) → is_at_source c t ≡ true → conn_in t ≡ Some c
+own_number c (Source d x) h = ap Some (eqb-true d c h)
 own_number c other h = absurd (false≢true h)
 
-pub own_conn : (c : ℕ) (event : Event) → is_own_of c event ≡ true → conn_of event ≡ c
+pub own_conn : (c : ℕ) (event : Event) → is_own_of c event ≡ true → conn_of event ≡ Some c
 own_conn c event h = own_number c (target_of event) h
+
+pub some_is : (e d : ℕ) → Some e ≡ Some d → e ≡ d
+some_is e d same = cc
+
+-- a source's own event is of no other connection
+own_is : (c d : ℕ) (event : Event) → is_own_of c event ≡ true → conn_of event ≡ Some d → d ≡ c
+own_is c d event own whose = some_is d c (sym whose ∙ own_conn c event own)
+
+pub own_here : (c d : ℕ) (event : Event) → is_own_of c event ≡ true → conn_of event ≡ Some d → is_own_of d event ≡ true
+own_here c d event own whose = subst (λ n. is_own_of n event ≡ true) (sym (own_is c d event own whose)) own
 
 stands : (told on : Bool) → told && not on ≡ false → not told || on ≡ true
 stands true true h = refl
@@ -69,12 +83,13 @@ own_made place c event outcome own h = made_there place c (target_of event) outc
 pub record IsDone (event : Event) (outcome : Outcome) (done : Event) (told : Outcome) : Type 0 where
   pub event_is : done ≡ event
   pub outcome_is : told ≡ outcome
-  pub own : is_own_of (conn_of event) event ≡ true
+  pub c : ℕ
+  pub own : is_own_of c event ≡ true
   pub enabled : is_told event && not (is_enabled outcome) ≡ false
 
 -- the same by where it happens
 abbrev IsDoneAt : Target → Outcome → Event → Outcome → Type 0
-IsDoneAt t outcome done told = (done ≡ event_at t) × (told ≡ outcome) × (is_at_source (conn_in t) t ≡ true) × (is_told_in t && not (is_enabled outcome) ≡ false)
+IsDoneAt t outcome done told = (done ≡ event_at t) × (told ≡ outcome) × ((c : ℕ) × (is_at_source c t ≡ true)) × (is_told_in t && not (is_enabled outcome) ≡ false)
 
 done_source : (d : ℕ) (x : SourceEvent) (outcome : Outcome) (done : Event) (told : Outcome) (answer on : Bool) → (if not answer || on then Some (Did (event_at_source d x) outcome) else None) ≡ Some (Did done told) →
     (done ≡ event_at_source d x) × (told ≡ outcome) × (answer && not on ≡ false)
@@ -93,14 +108,14 @@ beside_not_done place (hop.Request j s) on done told h = sent_not_done place (on
 beside_not_done place (hop.Answer j s granted) on done told h = cc
 
 done_there : (place : ℕ) (t : Target) (outcome : Outcome) (done : Event) (told : Outcome) → entry_in place t outcome ≡ Some (Did done told) → IsDoneAt t outcome done told
-done_there place (Source d x) outcome done told h = (let its = done_source d x outcome done told (is_told_by x) (is_enabled outcome) h in (its.0, its.1, eq-eqb d d refl, its.2))
+done_there place (Source d x) outcome done told h = (let its = done_source d x outcome done told (is_told_by x) (is_enabled outcome) h in (its.0, its.1, (d, eq-eqb d d refl), its.2))
 done_there place (Hop d x) outcome done told h = absurd (beside_not_done place x (is_enabled outcome) done told h)
 done_there place (End d s) outcome done told h = absurd (cc)
 
 pub made_own : (place : ℕ) (event : Event) (outcome : Outcome) (done : Event) (told : Outcome) → entry_of place event outcome ≡ Some (Did done told) → IsDone event outcome done told
 made_own place event outcome done told h =
     let its = done_there place (target_of event) outcome done told h in
-    record { event_is = its.0 ∙ event_there event; outcome_is = its.1; own = its.2; enabled = its.3 }
+    record { event_is = its.0 ∙ event_there event; outcome_is = its.1; c = its.2.0; own = its.2.1; enabled = its.3 }
 
 -- Turns change nothing of it
 pub own_turns : (net : Topology) (earlier turns : List Event) → AreTurns net earlier turns → (c : ℕ) (event : Event) → is_own_of c event ≡ true →
@@ -122,9 +137,9 @@ own_fits net journals earlier c event told own answers enabled next =
     record {
       falls = inr (λ none. let clash = sym none ∙ made in cc);
       step = λ v is. (let clash = sym nowhere ∙ is in absurd (cc));
-      entry = λ x is.
+      entry = λ d x whose is.
           (let same : Some (Did event (outcome_of net (past_of net earlier) event)) ≡ Some x = sym made ∙ is in
-          ap (next_entry net journals earlier) (own_conn c event own) ∙ next ∙ ap (λ o. Some (Did event o)) (sym answers) ∙ same);
+          ap (next_entry net journals earlier) (own_is c d event own whose) ∙ next ∙ ap (λ o. Some (Did event o)) (sym answers) ∙ same);
     }
 
 -- where the next entry of a source is nothing that it does
@@ -133,11 +148,11 @@ pub settled_none : (net : Topology) (journals : Journaled) (earlier : List Event
 settled_none net journals earlier c none = record {
   stuck = λ turns event done outcome all here made fits.
       (let own = made_own (place_at_first net (turns ++ earlier) event) event (outcome_of net (past_of net (turns ++ earlier)) event) done outcome made in
-      none done outcome (sym (next_turns net journals earlier turns all c) ∙ ap (next_entry net journals (turns ++ earlier)) (sym here) ∙ fits.entry (Did done outcome) made)
-      (subst (λ d. is_own_of c d ≡ true) (sym own.event_is) (subst (λ d. is_own_of d event ≡ true) here own.own)));
+      none done outcome (sym (next_turns net journals earlier turns all c) ∙ fits.entry c (Did done outcome) here made)
+      (subst (λ d. is_own_of c d ≡ true) (sym own.event_is) (own_here own.c c event own.own here)));
   marks = λ m.
       (let own = made_own (place_at_first net (m.turns ++ earlier) m.event) m.event (outcome_of net (past_of net (m.turns ++ earlier)) m.event) m.event m.outcome m.does in
-      none m.event m.told (sym (next_turns net journals earlier m.turns m.turned c) ∙ m.next) (subst (λ d. is_own_of d m.event ≡ true) m.here own.own));
+      none m.event m.told (sym (next_turns net journals earlier m.turns m.turned c) ∙ m.next) (own_here own.c c m.event own.own m.here));
 }
 
 -- where it is an answer that can't be told
@@ -147,14 +162,14 @@ settled_absent net journals earlier c event told next tells off =
     let never : (turns : List Event) (other : Event) (y : Outcome) → AreTurns net earlier turns → other ≡ event → entry_made net (turns ++ earlier) other ≡ Some (Did other y) → ⊥
     = λ turns other y all same made.
     (let own = made_own (place_at_first net (turns ++ earlier) other) other (outcome_of net (past_of net (turns ++ earlier)) other) other y made in
-    let answers = own_turns net earlier turns all (conn_of other) other own.own in
+    let answers = own_turns net earlier turns all own.c other own.own in
     let silent : is_enabled (outcome_of net (past_of net (turns ++ earlier)) other) ≡ false = ap is_enabled answers ∙ ap (λ e. is_enabled (outcome_of net (past_of net earlier) e)) same ∙ off in
     let yes : is_told other ≡ true = ap is_told same ∙ tells in
     false≢true (sym own.enabled ∙ ap (λ b. b && not (is_enabled (outcome_of net (past_of net (turns ++ earlier)) other))) yes ∙ ap not silent)) in
     record {
       stuck = λ turns other done outcome all here made fits.
           (let own = made_own (place_at_first net (turns ++ earlier) other) other (outcome_of net (past_of net (turns ++ earlier)) other) done outcome made in
-          let at : Some (Did event told) ≡ Some (Did done outcome) = sym next ∙ sym (next_turns net journals earlier turns all c) ∙ ap (next_entry net journals (turns ++ earlier)) (sym here) ∙ fits.entry (Did done outcome) made in
+          let at : Some (Did event told) ≡ Some (Did done outcome) = sym next ∙ sym (next_turns net journals earlier turns all c) ∙ fits.entry c (Did done outcome) here made in
           let same : done ≡ event = cc in
           never turns other outcome all (sym own.event_is ∙ same) (made ∙ ap (λ d. Some (Did d outcome)) own.event_is));
       marks = λ m.
@@ -169,10 +184,10 @@ pub settled_differs : (net : Topology) (journals : Journaled) (earlier : List Ev
 settled_differs net journals earlier c event told next own differ enabled = record {
   stuck = λ turns other done outcome all here made fits.
       (let its = made_own (place_at_first net (turns ++ earlier) other) other (outcome_of net (past_of net (turns ++ earlier)) other) done outcome made in
-      let at : Some (Did event told) ≡ Some (Did done outcome) = sym next ∙ sym (next_turns net journals earlier turns all c) ∙ ap (next_entry net journals (turns ++ earlier)) (sym here) ∙ fits.entry (Did done outcome) made in
+      let at : Some (Did event told) ≡ Some (Did done outcome) = sym next ∙ sym (next_turns net journals earlier turns all c) ∙ fits.entry c (Did done outcome) here made in
       let same : other ≡ event = (let first : done ≡ event = cc in sym its.event_is ∙ first) in
       let answers : told ≡ outcome = cc in
-      differ (ap (outcome_of net (past_of net earlier)) (sym same) ∙ sym (own_turns net earlier turns all (conn_of other) other its.own) ∙ sym its.outcome_is ∙ sym answers));
+      differ (ap (outcome_of net (past_of net earlier)) (sym same) ∙ sym (own_turns net earlier turns all its.c other its.own) ∙ sym its.outcome_is ∙ sym answers));
   marks = record {
     turns = [];
     turned = tt;

@@ -21,7 +21,7 @@ use Rattle.abt_model.specs.declared.outcome.Outcome.{Outcome}
 use Rattle.abt_model.specs.declared.outcome.Outcome.TheVariants.{Started, Asked, AskRefused, Crashed, Emitted, Arrived, Requested, Turned, Answered, Told as HasTold}
 use Rattle.abt_model.specs.Outcomes.{conn_of, outcome_of, facts_added, after_event, request_adds, answer_adds}
 use Rattle.abt_model.specs.Past.{facts_of}
-use Rattle.abt_model.proofs.Worlds.{facts_of-own, facts_of-other}
+use Rattle.abt_model.proofs.Worlds.{conn_cases, facts_of-own, facts_of-other}
 use Rattle.abt_source_journal.specs.declared.entry.SourceEntry.{SourceEntry}
 use Rattle.abt_source_journal.specs.declared.entry.SourceEntry.TheVariants.{Did, Sent, Arrived as ArrivedAt}
 use Rattle.abt_woven.specs.Projections.{is_enabled, past_of, entry_of, entry_made, place_at_first, entry_at, entries_on}
@@ -86,19 +86,19 @@ own_alike facts place (Told c seq granted) (HasTold Raised) = refl
 own_alike facts place event outcome = refl
 
 -- an entry of the source's own stands in its projection
-made_own : (d c : ℕ) (o : Option SourceEntry) → d ≡ c → entry_at d c o ≡ as_list o
-made_own d c None same = refl
-made_own d c (Some x) same = cond-true _ _ _ (eq-eqb d c same)
+made_own : (own : Option ℕ) (c : ℕ) (o : Option SourceEntry) → own ≡ Some c → entry_at own c o ≡ as_list o
+made_own own c None same = refl
+made_own own c (Some x) same = ap (λ (d : Option ℕ). entry_at d c (Some x)) same ∙ cond-true _ _ _ (eq-eqb c c refl)
 
 pub own_replayed : (net : Topology) (c : ℕ) (earlier : List Event) → own (facts_of c (past_of net earlier)) ≡ facts_done [] (entries_on net c earlier)
 own_replayed net c [] = refl
-own_replayed net c (event ∷ earlier) = elim (cases_eq (conn_of event) c) [
+own_replayed net c (event ∷ earlier) = elim (conn_cases event c) [
   | inl same ↦ (
       let past = past_of net earlier in
       let outcome = outcome_of net past event in
       let made = entry_made net earlier event in
       let facts : facts_of c (after_event net past event) ≡ facts_added (facts_of c past) event outcome ++ facts_of c past =
-      subst (λ d. facts_of d (after_event net past event) ≡ facts_added (facts_of d past) event outcome ++ facts_of d past) same (facts_of-own net past event) in
+      facts_of-own net past event c same in
       ap own facts
       ∙ own-append (facts_added (facts_of c past) event outcome) (facts_of c past)
       ∙ own_alike (facts_of c past) (place_at_first net earlier event) event outcome

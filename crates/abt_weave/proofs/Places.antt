@@ -17,7 +17,7 @@ use Rattle.abt_source.specs.SourceFacts.{request_of}
 use Rattle.abt_model.specs.Past.{facts_of}
 use Rattle.abt_net.specs.Paths.{hop_of}
 use Rattle.abt_model.proofs.Served.{conn_within}
-use Rattle.abt_model.proofs.Worlds.{cases_option}
+use Rattle.abt_model.proofs.Worlds.{cases_option, conn_cases}
 use Rattle.abt_model.specs.PortTable.{hop_visited}
 use Rattle.abt_journal.specs.declared.input.PortInput.{PortInput}
 use Rattle.abt_journal.specs.declared.input.PortInput.TheVariants.{Request as RequestIn, Answer as AnswerIn, Arrive as ArriveIn}
@@ -60,20 +60,19 @@ pub record IsBesideStep (net : Topology) (earlier : List Event) (c : ℕ) (conn 
 first_at : (net : Topology) (c : ℕ) (conn : Conn) → conn_at net c ≡ Some conn → first_port (conn_at net c) ≡ slice_index conn.path 0
 first_at net c conn known = ap first_port known
 
-visits_first : (net : Topology) → IsWithinRules net → (earlier : List Event) (c : ℕ) (conn : Conn) (event : Event) (input : PortInput) → conn_at net c ≡ Some conn → conn_of event ≡ c → hop_visited event ≡ 1 →
-    input_of conn.vc (facts_of (conn_of event) (past_of net earlier)) event ≡ Some input → is_enabled (outcome_of net (past_of net earlier) event) ≡ true → IsBesideStep net earlier c conn event
+visits_first : (net : Topology) → IsWithinRules net → (earlier : List Event) (c : ℕ) (conn : Conn) (event : Event) (input : PortInput) → conn_at net c ≡ Some conn → conn_of event ≡ Some c → hop_visited event ≡ 1 →
+    input_of conn.vc (facts_of c (past_of net earlier)) event ≡ Some input → is_enabled (outcome_of net (past_of net earlier) event) ≡ true → IsBesideStep net earlier c conn event
 visits_first net rules earlier c conn event input known whose one brings on =
     let past = past_of net earlier in
-    let there : conn_at net (conn_of event) ≡ Some conn = ap (conn_at net) whose ∙ known in
-    let reply = has_reply net past event conn input there (first_hop net rules (conn_of event) conn there) brings on in
+    let reply = has_reply net past event c conn input whose known (first_hop net rules c conn known) brings on in
     record {
       v = record { port = slice_index conn.path (hop_visited event - 1); input = input; reply = reply.reply };
-      visits = visit_made net past event conn input reply.reply there brings reply.is;
+      visits = visit_made net past event c conn input reply.reply whose known brings reply.is;
       first = ap (λ n. slice_index conn.path (n - 1)) one;
     }
 
 -- an entry that is made beside a step names the place that the step takes
-pub named_now : (net : Topology) → IsWithinRules net → (earlier : List Event) (c : ℕ) (conn : Conn) (event : Event) (x : SourceEntry) (n : ℕ) → conn_at net c ≡ Some conn → conn_of event ≡ c →
+pub named_now : (net : Topology) → IsWithinRules net → (earlier : List Event) (c : ℕ) (conn : Conn) (event : Event) (x : SourceEntry) (n : ℕ) → conn_at net c ≡ Some conn → conn_of event ≡ Some c →
     entry_made net earlier event ≡ Some x → Names x n → (n ≡ length (steps_on net (slice_index conn.path 0) earlier)) × IsBesideStep net earlier c conn event
 named_now net rules earlier c conn (Request d hop seq) x n known whose made names =
     let event = Request d hop seq in
@@ -82,7 +81,7 @@ named_now net rules earlier c conn (Request d hop seq) x n known whose made name
     let parts = and_both (is_enabled o) (hop == 1) both.0 in
     let is : x ≡ Sent (place_at_first net earlier event) = sym (some_same both.1) in
     let place : place_at_first net earlier event ≡ n = subst (λ y. Names y n) is names in
-    let first = first_at net d conn (ap (conn_at net) whose ∙ known) in
+    let first = first_at net d conn (ap (conn_at net) (some_same whose) ∙ known) in
     (sym place ∙ ap (λ p. length (steps_on net p earlier)) first, visits_first net rules earlier c conn event _ known whose (eqb-true hop 1 parts.1) refl parts.0)
 named_now net rules earlier c conn (Arrive d cell at) x n known whose made names =
     let event = Arrive d cell at in
@@ -90,7 +89,7 @@ named_now net rules earlier c conn (Arrive d cell at) x n known whose made names
     let both = cond_some (is_enabled o) (Some (ArrivedAt cell (place_at_first net earlier event))) x made in
     let is : x ≡ ArrivedAt cell (place_at_first net earlier event) = sym (some_same both.1) in
     let place : place_at_first net earlier event ≡ n = subst (λ y. Names y n) is names in
-    let first = first_at net d conn (ap (conn_at net) whose ∙ known) in
+    let first = first_at net d conn (ap (conn_at net) (some_same whose) ∙ known) in
     (sym place ∙ ap (λ p. length (steps_on net p earlier)) first, visits_first net rules earlier c conn event _ known whose refl refl both.0)
 named_now net rules earlier c conn (Told d seq granted) x n known whose made names =
     let event = Told d seq granted in
@@ -102,11 +101,12 @@ named_now net rules earlier c conn (Answer d hop seq granted) x n known whose ma
 named_now net rules earlier c conn other x n known whose made names = absurd (subst (λ y. Names y n) (sym (some_same made)) names)
 
 -- the entries of a source after an event
-pub entries_made : (net : Topology) (earlier : List Event) (event : Event) (c : ℕ) (x : SourceEntry) → entry_made net earlier event ≡ Some x → conn_of event ≡ c →
+pub entries_made : (net : Topology) (earlier : List Event) (event : Event) (c : ℕ) (x : SourceEntry) → entry_made net earlier event ≡ Some x → conn_of event ≡ Some c →
     entries_on net c (event ∷ earlier) ≡ entries_on net c earlier ++ x ∷ []
 entries_made net earlier event c x made same =
     ap (λ (o : Option SourceEntry). entries_on net c earlier ++ entry_at (conn_of event) c o) made
-    ∙ ap (λ (l : List SourceEntry). entries_on net c earlier ++ l) (cond-true _ _ _ (eq-eqb (conn_of event) c same))
+    ∙ ap (λ (own : Option ℕ). entries_on net c earlier ++ entry_at own c (Some x)) same
+    ∙ ap (λ (l : List SourceEntry). entries_on net c earlier ++ l) (cond-true _ _ _ (eq-eqb c c refl))
 
 -- whatever place an entry names, there is a step
 pub named_low : (net : Topology) → IsWithinRules net → (c : ℕ) (conn : Conn) → conn_at net c ≡ Some conn → (earlier : List Event) (i n : ℕ) (x : SourceEntry) → slice_get (entries_on net c earlier) i ≡ Some x → Names x n →
@@ -116,7 +116,7 @@ named_low net rules c conn known (event ∷ earlier) i n x at names =
     let p = slice_index conn.path 0 in
     let old : slice_get (entries_on net c earlier) i ≡ Some x → n < length (steps_on net p (event ∷ earlier))
     = λ before. (let low = named_low net rules c conn known earlier i n x before names in let more = steps_grow net p earlier event in omega (arith, low, more)) in
-    elim (cases_eq (conn_of event) c) [
+    elim (conn_cases event c) [
       | inr differ ↦ old (ap (λ l. slice_get l i) (sym (entries_other net earlier event c differ)) ∙ at)
       | inl same ↦ (elim (cases_option (entry_made net earlier event)) [
         | inl none ↦ old (ap (λ l. slice_get l i) (sym (entries_none net earlier event c none)) ∙ at)
@@ -191,14 +191,15 @@ named_new net rules earlier c conn event v known is here first =
     let p = slice_index conn.path 0 in
     let n = length (steps_on net p earlier) in
     let parts = visit_is net past event v is in
-    let its = first_event parts.conn.vc (facts_of (conn_of event) past) event v.input parts.input conn.vc first in
-    let whose : conn_of event ≡ c = own_number net rules (conn_of event) c parts.conn conn parts.known known (sym its.0) in
-    let same : parts.conn ≡ conn = some_same (sym parts.known ∙ ap (conn_at net) whose ∙ known) in
+    let its = first_event parts.conn.vc (facts_of parts.c past) event v.input parts.input conn.vc first in
+    let at_c : parts.c ≡ c = own_number net rules parts.c c parts.conn conn parts.known known (sym its.0) in
+    let whose : conn_of event ≡ Some c = parts.whose ∙ ap Some at_c in
+    let same : parts.conn ≡ conn = some_same (sym parts.known ∙ ap (conn_at net) at_c ∙ known) in
     let within = conn_within net rules c conn known in
     let one : hop_visited event ≡ 1 =
     sym (hop_here net past rules event v parts) ∙ ap (λ q. hop_of parts.conn.path q) here ∙ ap (λ (k : Conn). hop_of k.path p) same ∙ hop_at conn.path 0 within.visits_once within.has_hop in
     let enabled = reply_enabled (outcome_of net past event) v.reply parts.reply in
-    let made = made_beside net earlier event p n parts.conn (outcome_of net past event) v.input (facts_of (conn_of event) past) parts.known (parts.port ∙ here) refl parts.input enabled in
+    let made = made_beside net earlier event p n parts.c parts.conn (outcome_of net past event) v.input (facts_of parts.c past) parts.whose parts.known (parts.port ∙ here) refl parts.input enabled in
     let x = its.1 n one in
     record {
       i = length (entries_on net c earlier);

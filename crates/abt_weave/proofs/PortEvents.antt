@@ -32,42 +32,46 @@ use Rattle.abt_journal.specs.declared.input.PortReply.TheVariants.{Arrived as Ar
 use Rattle.abt_source_journal.specs.declared.entry.SourceEntry.{SourceEntry}
 use Rattle.abt_source_journal.specs.declared.entry.SourceEntry.TheVariants.{Sent, Arrived as ArrivedAt}
 use Rattle.abt_woven.specs.Asked.{floor_in}
-use Rattle.abt_woven.specs.Projections.{Visit, reply_of, is_enabled, input_of, visit_by, visit, entry_of, first_port, place_at_first, past_of, entry_made, steps_on, entries_on}
+use Rattle.abt_woven.specs.Projections.{Visit, reply_of, is_enabled, input_of, visit_by, visit_of, visit, entry_of, first_port, place_at_first, past_of, entry_made, steps_on, entries_on}
 use Rattle.abt_woven.specs.Stuck.{Journaled, next_step, step_next, next_entry, Fits}
 use Rattle.abt_woven.proofs.Asked.{floor_told, ask_told}
 use Rattle.abt_weave.specs.Comes.{input_told, entry_beside, Comes}
 
 -- what the facts bring to a port is what the source's projection does
-pub told_same : (net : Topology) (earlier : List Event) (vc : Channel) (event : Event) →
-    input_of vc (facts_of (conn_of event) (past_of net earlier)) event ≡ input_told vc (reverse (entries_on net (conn_of event) earlier)) event
-told_same net earlier vc (Request c hop seq) =
+pub told_same : (net : Topology) (earlier : List Event) (vc : Channel) (c : ℕ) (event : Event) →
+    input_of vc (facts_of c (past_of net earlier)) event ≡ input_told vc (reverse (entries_on net c earlier)) event
+told_same net earlier vc c (Request d hop seq) =
     ap (λ (n : ℕ). Some (RequestIn (record { vc = vc; seq = seq; floor = n; ask = ask_of (facts_of c (past_of net earlier)) seq }))) (floor_told net c seq earlier)
     ∙ ap (λ (n : ℕ). Some (RequestIn (record { vc = vc; seq = seq; floor = floor_in (reverse (entries_on net c earlier)) seq; ask = n }))) (ask_told net c seq earlier)
-told_same net earlier vc (Answer c hop seq granted) =
+told_same net earlier vc c (Answer d hop seq granted) =
     ap (λ (n : ℕ). Some (AnswerIn (record { terms = record { vc = vc; seq = seq; floor = n; ask = ask_of (facts_of c (past_of net earlier)) seq }; granted = granted }))) (floor_told net c seq earlier)
     ∙ ap (λ (n : ℕ). Some (AnswerIn (record { terms = record { vc = vc; seq = seq; floor = floor_in (reverse (entries_on net c earlier)) seq; ask = n }; granted = granted }))) (ask_told net c seq earlier)
-told_same net earlier vc other = refl
+told_same net earlier vc c other = refl
 
 -- A visit is of an event that comes to the port of its hop.
 pub record IsVisit (net : Topology) (past : Past) (event : Event) (v : Visit) : Type 0 where
+  pub c : ℕ
+  pub whose : conn_of event ≡ Some c
   pub conn : Conn
-  pub known : conn_at net (conn_of event) ≡ Some conn
+  pub known : conn_at net c ≡ Some conn
   pub port : slice_index conn.path (hop_visited event - 1) ≡ v.port
-  pub input : input_of conn.vc (facts_of (conn_of event) past) event ≡ Some v.input
+  pub input : input_of conn.vc (facts_of c past) event ≡ Some v.input
   pub reply : reply_of (outcome_of net past event) ≡ Some v.reply
 
 mapped : {A B : Type 0} → (f : A → B) (o : Option A) (y : B) → option_map f o ≡ Some y → (x : A) × (o ≡ Some x) × (y ≡ f x)
 mapped f None y h = absurd (cc)
 mapped f (Some x) y h = (x, refl, cc)
 
-visit_parts : (net : Topology) (past : Past) (event : Event) (v : Visit) (r : Option PortReply) (o : Option Conn) → reply_of (outcome_of net past event) ≡ r → conn_at net (conn_of event) ≡ o →
-    visit_by past event r o ≡ Some v → IsVisit net past event v
-visit_parts net past event v r None re known h = absurd (cc)
-visit_parts net past event v None (Some conn) re known h = absurd (cc)
-visit_parts net past event v (Some reply) (Some conn) re known h =
+visit_parts : (net : Topology) (past : Past) (event : Event) (v : Visit) (r : Option PortReply) (c : ℕ) (o : Option Conn) → reply_of (outcome_of net past event) ≡ r → conn_of event ≡ Some c → conn_at net c ≡ o →
+    visit_by event r (facts_of c past) o ≡ Some v → IsVisit net past event v
+visit_parts net past event v r c None re whose known h = absurd (cc)
+visit_parts net past event v None c (Some conn) re whose known h = absurd (cc)
+visit_parts net past event v (Some reply) c (Some conn) re whose known h =
     let f = λ (input : PortInput). (let made : Visit = record { port = slice_index conn.path (hop_visited event - 1); input = input; reply = reply } in made) in
-    let parts = mapped f (input_of conn.vc (facts_of (conn_of event) past) event) v h in
+    let parts = mapped f (input_of conn.vc (facts_of c past) event) v h in
     record {
+      c = c;
+      whose = whose;
       conn = conn;
       known = known;
       port = sym (ap (λ (w : Visit). w.port) parts.2);
@@ -75,19 +79,32 @@ visit_parts net past event v (Some reply) (Some conn) re known h =
       reply = re ∙ ap (λ (w : Visit). Some w.reply) (sym parts.2);
     }
 
+visit_owner : (net : Topology) (past : Past) (event : Event) (v : Visit) (r : Option PortReply) (own : Option ℕ) → reply_of (outcome_of net past event) ≡ r → conn_of event ≡ own →
+    visit_of net past event r own ≡ Some v → IsVisit net past event v
+visit_owner net past event v r None re whose h = absurd (cc)
+visit_owner net past event v r (Some c) re whose h = visit_parts net past event v r c (conn_at net c) re whose refl h
+
 pub visit_is : (net : Topology) (past : Past) (event : Event) (v : Visit) → visit net past event ≡ Some v → IsVisit net past event v
-visit_is net past event v h = visit_parts net past event v (reply_of (outcome_of net past event)) (conn_at net (conn_of event)) refl refl h
+visit_is net past event v h = visit_owner net past event v (reply_of (outcome_of net past event)) (conn_of event) refl refl h
 
 pub some_same : {A : Type 0} → {x y : A} → Some x ≡ Some y → x ≡ y
 some_same h = cc
 
+-- the connection of a visit is that of its event
+pub known_at : (net : Topology) (past : Past) (c : ℕ) (event : Event) (v : Visit) → (parts : IsVisit net past event v) → conn_of event ≡ Some c → conn_at net c ≡ Some parts.conn
+known_at net past c event v parts own = ap (conn_at net) (some_same (sym own ∙ parts.whose)) ∙ parts.known
+
+pub input_at : (net : Topology) (past : Past) (c : ℕ) (event : Event) (v : Visit) → (parts : IsVisit net past event v) → conn_of event ≡ Some c → input_of parts.conn.vc (facts_of c past) event ≡ Some v.input
+input_at net past c event v parts own = ap (λ d. input_of parts.conn.vc (facts_of d past) event) (some_same (sym own ∙ parts.whose)) ∙ parts.input
+
 -- and the other way round
-pub visit_made : (net : Topology) (past : Past) (event : Event) (conn : Conn) (input : PortInput) (reply : PortReply) → conn_at net (conn_of event) ≡ Some conn →
-    input_of conn.vc (facts_of (conn_of event) past) event ≡ Some input → reply_of (outcome_of net past event) ≡ Some reply →
+pub visit_made : (net : Topology) (past : Past) (event : Event) (c : ℕ) (conn : Conn) (input : PortInput) (reply : PortReply) → conn_of event ≡ Some c → conn_at net c ≡ Some conn →
+    input_of conn.vc (facts_of c past) event ≡ Some input → reply_of (outcome_of net past event) ≡ Some reply →
     visit net past event ≡ Some (record { port = slice_index conn.path (hop_visited event - 1); input = input; reply = reply })
-visit_made net past event conn input reply known brings re =
-    ap (λ (r : Option PortReply). visit_by past event r (conn_at net (conn_of event))) re
-    ∙ ap (λ (o : Option Conn). visit_by past event (Some reply) o) known
+visit_made net past event c conn input reply whose known brings re =
+    ap (λ (r : Option PortReply). visit_of net past event r (conn_of event)) re
+    ∙ ap (visit_of net past event (Some reply)) whose
+    ∙ ap (λ (o : Option Conn). visit_by event (Some reply) (facts_of c past) o) known
     ∙ ap (option_map (λ (input : PortInput). (let made : Visit = record { port = slice_index conn.path (hop_visited event - 1); input = input; reply = reply } in made))) brings
 
 pub reply_enabled : (outcome : Outcome) (reply : PortReply) → reply_of outcome ≡ Some reply → is_enabled outcome ≡ true
@@ -133,12 +150,12 @@ by_reply conn r u facts (Answer c hop seq granted) input one brings h = answer_r
 by_reply conn r u facts (Arrive c cell at) input one brings h = arrived_reply conn facts c cell at one h
 by_reply conn r u facts other input one brings h = absurd (cc)
 
-pub has_reply : (net : Topology) (past : Past) (event : Event) (conn : Conn) (input : PortInput) → conn_at net (conn_of event) ≡ Some conn → is_hop (length conn.path) 1 ≡ true →
-    input_of conn.vc (facts_of (conn_of event) past) event ≡ Some input → is_enabled (outcome_of net past event) ≡ true → HasReply conn (outcome_of net past event) event
-has_reply net past event conn input known one brings h =
-    let is = outcome_of-known net past event conn known in
+pub has_reply : (net : Topology) (past : Past) (event : Event) (c : ℕ) (conn : Conn) (input : PortInput) → conn_of event ≡ Some c → conn_at net c ≡ Some conn → is_hop (length conn.path) 1 ≡ true →
+    input_of conn.vc (facts_of c past) event ≡ Some input → is_enabled (outcome_of net past event) ≡ true → HasReply conn (outcome_of net past event) event
+has_reply net past event c conn input whose known one brings h =
+    let is = outcome_of-known net past event c conn whose known in
     subst (λ o. HasReply conn o event) (sym is)
-    (by_reply conn (reserved_on net past (port_of conn.path event)) (slice_index net.capacities (port_of conn.path event)) (facts_of (conn_of event) past) event input one brings (ap is_enabled (sym is) ∙ h))
+    (by_reply conn (reserved_on net past (port_of conn.path event)) (slice_index net.capacities (port_of conn.path event)) (facts_of c past) event input one brings (ap is_enabled (sym is) ∙ h))
 
 -- what an event that happens and comes to a port is to its source
 beside_request : (net : Topology) (earlier : List Event) (c hop seq p place : ℕ) (conn : Conn) (outcome : Outcome) → conn_at net c ≡ Some conn → slice_index conn.path (hop - 1) ≡ p → place ≡ length (steps_on net p earlier) →
@@ -164,31 +181,33 @@ beside_arrival net earlier c cell a p place conn outcome known port at h =
     ap (λ (o : Option Conn). length (steps_on net (first_port o) earlier)) known ∙ ap (λ (q : ℕ). length (steps_on net q earlier)) port ∙ sym at in
     cond-true _ _ _ h ∙ ap (λ (n : ℕ). Some (ArrivedAt cell n)) here
 
-pub made_beside : (net : Topology) (earlier : List Event) (event : Event) (p place : ℕ) (conn : Conn) (outcome : Outcome) (input : PortInput) (facts : List Fact) → conn_at net (conn_of event) ≡ Some conn → slice_index conn.path (hop_visited event - 1) ≡ p →
+pub made_beside : (net : Topology) (earlier : List Event) (event : Event) (p place c : ℕ) (conn : Conn) (outcome : Outcome) (input : PortInput) (facts : List Fact) → conn_of event ≡ Some c → conn_at net c ≡ Some conn → slice_index conn.path (hop_visited event - 1) ≡ p →
     place ≡ length (steps_on net p earlier) → input_of conn.vc facts event ≡ Some input → is_enabled outcome ≡ true → entry_of (place_at_first net earlier event) event outcome ≡ entry_beside place event
-made_beside net earlier (Request c hop seq) p place conn outcome input facts known port at brings h = beside_request net earlier c hop seq p place conn outcome known port at h
-made_beside net earlier (Arrive c cell a) p place conn outcome input facts known port at brings h = beside_arrival net earlier c cell a p place conn outcome known port at h
-made_beside net earlier (Answer c hop seq granted) p place conn outcome input facts known port at brings h = refl
-made_beside net earlier other p place conn outcome input facts known port at brings h = absurd (cc)
+made_beside net earlier (Request d hop seq) p place c conn outcome input facts whose known port at brings h = beside_request net earlier d hop seq p place conn outcome (ap (conn_at net) (some_same whose) ∙ known) port at h
+made_beside net earlier (Arrive d cell a) p place c conn outcome input facts whose known port at brings h = beside_arrival net earlier d cell a p place conn outcome (ap (conn_at net) (some_same whose) ∙ known) port at h
+made_beside net earlier (Answer d hop seq granted) p place c conn outcome input facts whose known port at brings h = refl
+made_beside net earlier other p place c conn outcome input facts whose known port at brings h = absurd (cc)
 
 -- a visit is of an event that comes
 pub visit_comes : (net : Topology) (journals : Journaled) (earlier : List Event) (event : Event) (v : Visit) (p place : ℕ) (input : PortInput) →
-    ((conn : Conn) → conn_at net (conn_of event) ≡ Some conn → is_hop (length conn.path) 1 ≡ true) → visit net (past_of net earlier) event ≡ Some v → v.port ≡ p →
-    place ≡ length (steps_on net p earlier) → input ≡ v.input → ((x : SourceEntry) → entry_made net earlier event ≡ Some x → next_entry net journals earlier (conn_of event) ≡ Some x) →
+    ((c : ℕ) (conn : Conn) → conn_at net c ≡ Some conn → is_hop (length conn.path) 1 ≡ true) → visit net (past_of net earlier) event ≡ Some v → v.port ≡ p →
+    place ≡ length (steps_on net p earlier) → input ≡ v.input → ((c : ℕ) (x : SourceEntry) → conn_of event ≡ Some c → entry_made net earlier event ≡ Some x → next_entry net journals earlier c ≡ Some x) →
     Comes net journals earlier p place input event
 visit_comes net journals earlier event v p place input one is here at same beside =
     let past = past_of net earlier in
     let parts = visit_is net past event v is in
     let enabled = reply_enabled (outcome_of net past event) v.reply parts.reply in
-    let reply = has_reply net past event parts.conn v.input parts.known (one parts.conn parts.known) parts.input enabled in
+    let reply = has_reply net past event parts.c parts.conn v.input parts.whose parts.known (one parts.c parts.conn parts.known) parts.input enabled in
     record {
+      c = parts.c;
+      whose = parts.whose;
       conn = parts.conn;
       known = parts.known;
       within = reply.within;
       port = parts.port ∙ here;
-      brings = sym (told_same net earlier parts.conn.vc event) ∙ parts.input ∙ ap (λ (i : PortInput). Some i) (sym same);
+      brings = sym (told_same net earlier parts.conn.vc parts.c event) ∙ parts.input ∙ ap (λ (i : PortInput). Some i) (sym same);
       at = at;
-      beside = λ x e. beside x (made_beside net earlier event p place parts.conn (outcome_of net past event) v.input (facts_of (conn_of event) past) parts.known (parts.port ∙ here) at parts.input enabled ∙ e);
+      beside = λ x e. beside parts.c x parts.whose (made_beside net earlier event p place parts.c parts.conn (outcome_of net past event) v.input (facts_of parts.c past) parts.whose parts.known (parts.port ∙ here) at parts.input enabled ∙ e);
     }
 
 -- what comes with the reply of the next step fits
@@ -196,8 +215,8 @@ pub comes_fits : (net : Topology) (journals : Journaled) (earlier : List Event) 
     reply_of (outcome_of net (past_of net earlier) event) ≡ Some reply → next_step net journals earlier p ≡ Some (record { place = place; input = input; reply = reply }) → Fits net journals earlier event
 comes_fits net journals earlier event p place input reply comes replies next =
     let past = past_of net earlier in
-    let brings = told_same net earlier comes.conn.vc event ∙ comes.brings in
-    let is = visit_made net past event comes.conn input reply comes.known brings replies in
+    let brings = told_same net earlier comes.conn.vc comes.c event ∙ comes.brings in
+    let is = visit_made net past event comes.c comes.conn input reply comes.whose comes.known brings replies in
     let enabled = reply_enabled (outcome_of net past event) reply replies in
     record {
       falls = inl (λ none. (let clash = sym none ∙ is in cc));
@@ -207,6 +226,7 @@ comes_fits net journals earlier event p place input reply comes replies next =
           subst (λ (w : Visit). next_step net journals earlier w.port ≡ Some (step_next net earlier w)) here
           (subst (λ q. next_step net journals earlier q ≡ Some (record { place = length (steps_on net q earlier); input = input; reply = reply })) (sym comes.port)
           (next ∙ ap (λ n. Some (record { place = n; input = input; reply = reply })) comes.at)));
-      entry = λ x same.
-          comes.beside x (sym (made_beside net earlier event p place comes.conn (outcome_of net past event) input (facts_of (conn_of event) past) comes.known comes.port comes.at brings enabled) ∙ same);
+      entry = λ d x own same.
+          ap (next_entry net journals earlier) (some_same (sym own ∙ comes.whose))
+          ∙ comes.beside x (sym (made_beside net earlier event p place comes.c comes.conn (outcome_of net past event) input (facts_of comes.c past) comes.whose comes.known comes.port comes.at brings enabled) ∙ same);
     }

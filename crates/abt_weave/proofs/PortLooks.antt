@@ -55,24 +55,28 @@ steps_next net js earlier turns all p = ap (λ (l : List Step). slice_get (port_
 -- what comes after Turns comes before them, and the other way round
 pub comes_before : (net : Topology) (js : Journaled) (earlier turns : List Event) → AreTurns net earlier turns → (p place : ℕ) (input : PortInput) (event : Event) → Comes net js (turns ++ earlier) p place input event → Comes net js earlier p place input event
 comes_before net js earlier turns all p place input event comes = record {
+  c = comes.c;
+  whose = comes.whose;
   conn = comes.conn;
   known = comes.known;
   within = comes.within;
   port = comes.port;
-  brings = ap (λ (l : List SourceEntry). input_told comes.conn.vc (reverse l) event) (sym (entries_turns net earlier turns all (conn_of event))) ∙ comes.brings;
+  brings = ap (λ (l : List SourceEntry). input_told comes.conn.vc (reverse l) event) (sym (entries_turns net earlier turns all comes.c)) ∙ comes.brings;
   at = comes.at ∙ ap (λ (l : List Step). length l) (steps_turns net earlier turns all p);
-  beside = λ x e. sym (next_turns net js earlier turns all (conn_of event)) ∙ comes.beside x e;
+  beside = λ x e. sym (next_turns net js earlier turns all comes.c) ∙ comes.beside x e;
 }
 
 pub comes_after : (net : Topology) (js : Journaled) (earlier turns : List Event) → AreTurns net earlier turns → (p place : ℕ) (input : PortInput) (event : Event) → Comes net js earlier p place input event → Comes net js (turns ++ earlier) p place input event
 comes_after net js earlier turns all p place input event comes = record {
+  c = comes.c;
+  whose = comes.whose;
   conn = comes.conn;
   known = comes.known;
   within = comes.within;
   port = comes.port;
-  brings = ap (λ (l : List SourceEntry). input_told comes.conn.vc (reverse l) event) (entries_turns net earlier turns all (conn_of event)) ∙ comes.brings;
+  brings = ap (λ (l : List SourceEntry). input_told comes.conn.vc (reverse l) event) (entries_turns net earlier turns all comes.c) ∙ comes.brings;
   at = comes.at ∙ sym (ap (λ (l : List Step). length l) (steps_turns net earlier turns all p));
-  beside = λ x e. next_turns net js earlier turns all (conn_of event) ∙ comes.beside x e;
+  beside = λ x e. next_turns net js earlier turns all comes.c ∙ comes.beside x e;
 }
 
 -- An event that would be the next step, by what it replies.
@@ -93,7 +97,7 @@ would_fit net js rules earlier turns p step event v next all is here fits =
       record {
         turned = all;
         comes = comes_before net js earlier turns all p step.place step.input event
-            (visit_comes net js after event v p step.place step.input (first_hop net rules (conn_of event)) is here place input (λ x e. fits.entry x e));
+            (visit_comes net js after event v p step.place step.input (first_hop net rules) is here place input (λ c x whose e. fits.entry c x whose e));
         replies = (visit_is net (past_of net after) event v is).reply;
       },
       sym (ap (λ (s : Step). s.reply) same),
@@ -107,7 +111,7 @@ would_mismatch net js rules earlier p step next m =
     record {
       turned = m.turned;
       comes = comes_before net js earlier m.turns m.turned p step.place step.input m.event
-          (visit_comes net js after m.event m.visits p step.place step.input (first_hop net rules (conn_of m.event)) m.comes m.here (ap (λ (s : Step). s.place) same ∙ m.place) (ap (λ (s : Step). s.input) same ∙ m.input) m.beside);
+          (visit_comes net js after m.event m.visits p step.place step.input (first_hop net rules) m.comes m.here (ap (λ (s : Step). s.place) same ∙ m.place) (ap (λ (s : Step). s.input) same ∙ m.input) m.beside);
       replies = (visit_is net (past_of net after) m.event m.visits m.comes).reply;
     }
 
@@ -151,20 +155,22 @@ mismatch_at net js rules earlier turns p step event next all before on =
     let after = turns ++ earlier in
     let past = past_of net after in
     let comes = comes_after net js earlier turns all p step.place step.input event before in
-    let brings = told_same net after comes.conn.vc event ∙ comes.brings in
-    let found = has_reply net past event comes.conn step.input comes.known (first_hop net rules (conn_of event) comes.conn comes.known) brings on in
+    let brings = told_same net after comes.conn.vc comes.c event ∙ comes.brings in
+    let found = has_reply net past event comes.c comes.conn step.input comes.whose comes.known (first_hop net rules comes.c comes.conn comes.known) brings on in
     record {
       turns = turns;
       turned = all;
       event = event;
       visits = record { port = slice_index comes.conn.path (hop_visited event - 1); input = step.input; reply = found.reply };
-      comes = visit_made net past event comes.conn step.input found.reply comes.known brings found.is;
+      comes = visit_made net past event comes.c comes.conn step.input found.reply comes.whose comes.known brings found.is;
       here = comes.port;
       step = step;
       next = steps_next net js earlier turns all p ∙ next;
       place = comes.at;
       input = refl;
-      beside = λ x e. comes.beside x (sym (made_beside net after event p step.place comes.conn (outcome_of net past event) step.input (facts_of (conn_of event) past) comes.known comes.port comes.at brings on) ∙ e);
+      beside = λ d x whose e.
+          ap (next_entry net js after) (some_same (sym whose ∙ comes.whose))
+          ∙ comes.beside x (sym (made_beside net after event p step.place comes.c comes.conn (outcome_of net past event) step.input (facts_of comes.c past) comes.whose comes.known comes.port comes.at brings on) ∙ e);
     }
 
 pub port_differs : (net : Topology) (js : Journaled) → IsWithinRules net → (earlier : List Event) (p : ℕ) (step : Step) (event : Event) → next_step net js earlier p ≡ Some step → IsOne net js earlier p step event →
@@ -194,7 +200,7 @@ turn_answer : (b : Bool) → is_enabled (if not b then NotEnabled NotSent else T
 turn_answer true h = refl
 turn_answer false h = absurd (false≢true h)
 
-turn_by : (net : Topology) (past : Past) (c seq : ℕ) (o : Option Conn) → is_enabled (outcome_at net past o (Turn c seq)) ≡ true → outcome_at net past o (Turn c seq) ≡ Turned
+turn_by : (net : Topology) (past : Past) (c seq : ℕ) (o : Option Conn) → is_enabled (outcome_at net past c o (Turn c seq)) ≡ true → outcome_at net past c o (Turn c seq) ≡ Turned
 turn_by net past c seq None h = absurd (false≢true h)
 turn_by net past c seq (Some conn) h = turn_answer (request_is_through (length conn.path) (facts_of c past) seq) h
 
@@ -242,14 +248,14 @@ turn_differs net js rules earlier p step event turn next one comes off its happe
 -- the connection of what comes is one of the net
 pub coming_low : (net : Topology) (js : Journaled) (earlier : List Event) (p place : ℕ) (input : PortInput) (c n : ℕ) (event : Event) → IsComing net js earlier p place input c event → n ≡ length net.conns → c < n
 coming_low net js earlier p place input c n event coming counts =
-    subst (λ m. c < m) (sym counts) (subst (λ d. d < length net.conns) coming.conn (slice_get_within net.conns (conn_of event) coming.comes.conn coming.comes.known))
+    subst (λ m. c < m) (sym counts) (subst (λ d. d < length net.conns) (some_same (sym coming.comes.whose ∙ coming.conn)) (slice_get_within net.conns coming.comes.c coming.comes.conn coming.comes.known))
 
 -- the entry that stands beside a step is the source's next
 pub come_low : (net : Topology) (js : Journaled) (earlier : List Event) (p place : ℕ) (input : PortInput) (c k : ℕ) (event : Event) (entries : List SourceEntry) (come : ℕ) → IsComing net js earlier p place input c event → k ≡ c →
     IsBeside net js earlier k entries come → is_beside event ≡ true → come < length entries
 come_low net js earlier p place input c k event entries come coming same beside b =
     let some = beside_some place event b in
-    let next : slice_get entries come ≡ Some some.0 = beside.next ∙ ap (next_entry net js earlier) (same ∙ sym coming.conn) ∙ coming.comes.beside some.0 some.1 in
+    let next : slice_get entries come ≡ Some some.0 = beside.next ∙ ap (next_entry net js earlier) (same ∙ some_same (sym coming.conn ∙ coming.comes.whose)) ∙ coming.comes.beside some.0 some.1 in
     slice_get_within entries come some.0 next
 
 -- the next step of a port is that at its place

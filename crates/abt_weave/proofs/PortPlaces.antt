@@ -27,7 +27,7 @@ use Rattle.abt_weave.specs.Shown.{AreShown, IsNeeded}
 use Rattle.abt_weave.proofs.Pasts.{past-is, pushed}
 use Rattle.abt_weave.proofs.Growth.{ArePlaces, entries_none, entries_one, entries_other, steps_other, steps_one, places_same, places_set}
 use Rattle.abt_weave.proofs.SourceLooks.{sum-set_up}
-use Rattle.abt_weave.proofs.PortEvents.{told_same, visit_made, reply_enabled, made_beside, comes_fits}
+use Rattle.abt_weave.proofs.PortEvents.{some_same, told_same, visit_made, reply_enabled, made_beside, comes_fits}
 
 pub beside_some : (place : ℕ) (event : Event) → is_beside event ≡ true → (x : SourceEntry) × (entry_beside place event ≡ Some x)
 beside_some place (Request c hop seq) h = (Sent place, cond-true _ _ _ h)
@@ -39,14 +39,14 @@ beside_none place (Request c hop seq) h = cond-false _ _ _ h
 beside_none place (Arrive c cell at) h = absurd (false≢true (sym h))
 beside_none place other h = refl
 
-sources_placed : (net : Topology) (earlier : List Event) (event : Event) (sp : List ℕ) (c place : ℕ) → entry_made net earlier event ≡ entry_beside place event → conn_of event ≡ c → c < length sp →
+sources_placed : (net : Topology) (earlier : List Event) (event : Event) (sp : List ℕ) (c place : ℕ) → entry_made net earlier event ≡ entry_beside place event → conn_of event ≡ Some c → c < length sp →
     ArePlaces sp (λ d. length (entries_on net d earlier)) → (b : Bool) → is_beside event ≡ b →
     ArePlaces (set sp c (if b then slice_index sp c + 1 else slice_index sp c)) (λ d. length (entries_on net d (event ∷ earlier)))
 sources_placed net earlier event sp c place made whose low are true beside =
     let some = beside_some place event beside in
     places_set sp c (λ d. length (entries_on net d earlier)) (λ d. length (entries_on net d (event ∷ earlier))) low
     (entries_one net earlier event c some.0 (made ∙ some.1) whose)
-    (λ d differ. ap (λ (l : List SourceEntry). length l) (entries_other net earlier event d (λ e. differ (sym whose ∙ e)))) are
+    (λ d differ. ap (λ (l : List SourceEntry). length l) (entries_other net earlier event d (λ e. differ (some_same (sym whose ∙ e))))) are
 sources_placed net earlier event sp c place made whose low are false beside =
     subst (λ l. ArePlaces l (λ d. length (entries_on net d (event ∷ earlier)))) (sym (set-get_or sp c 0))
     (places_same sp (λ d. length (entries_on net d earlier)) (λ d. length (entries_on net d (event ∷ earlier)))
@@ -66,11 +66,11 @@ port_placed net js events world new sp pp p place c come event input reply board
     let past = past_of net earlier in
     let comes = coming.comes in
     let answers : reply_of (outcome_of net past event) ≡ Some reply = subst (λ w. reply_of (outcome_of net w event) ≡ Some reply) (past-is net events) replies in
-    let brings = told_same net earlier comes.conn.vc event ∙ comes.brings in
-    let is = visit_made net past event comes.conn input reply comes.known brings answers in
+    let brings = told_same net earlier comes.conn.vc comes.c event ∙ comes.brings in
+    let is = visit_made net past event comes.c comes.conn input reply comes.whose comes.known brings answers in
     let enabled = reply_enabled (outcome_of net past event) reply answers in
     let made : entry_made net earlier event ≡ entry_beside place event =
-    made_beside net earlier event p place comes.conn (outcome_of net past event) input (facts_of (conn_of event) past) comes.known comes.port comes.at brings enabled in
+    made_beside net earlier event p place comes.c comes.conn (outcome_of net past event) input (facts_of comes.c past) comes.whose comes.known comes.port comes.at brings enabled in
     let now = sym (pushed events event) in
     let v : Visit = record { port = slice_index comes.conn.path (hop_visited event - 1); input = input; reply = reply } in
     let fits = comes_fits net js earlier event p place input reply comes answers next in

@@ -24,9 +24,9 @@ use Rattle.abt_model.specs.Decision.{request_decision, answer_decision}
 use Rattle.abt_cell.specs.Message.{answer_to}
 use Rattle.abt_source.specs.SourceFacts.{request_of}
 use Rattle.abt_model.specs.Events.{AsksRate}
-use Rattle.abt_model.specs.Outcomes.{conn_of, port_of, outcome_of, facts_added, after_event}
+use Rattle.abt_model.specs.Outcomes.{past_by, conn_of, port_of, outcome_of, facts_added, after_event}
 use Rattle.abt_model.specs.Past.{Past, facts_of, with_facts}
-use Rattle.abt_model.specs.PortTable.{port_table, hop_visited, Visits}
+use Rattle.abt_model.specs.PortTable.{VisitsBy, port_table, hop_visited, Visits}
 use Rattle.abt_model.specs.Reserved.{reserved_on}
 use Rattle.abt_net.specs.Paths.{hop_of}
 use Rattle.abt_model.proofs.Served.{conn_within}
@@ -40,9 +40,9 @@ use Rattle.abt_journal.specs.declared.input.PortInput.{PortInput}
 use Rattle.abt_journal.specs.declared.input.PortReply.{PortReply}
 use Rattle.abt_journal.specs.declared.input.PortReply.TheVariants.{Requested as RequestedOut, Answered as AnsweredOut, Arrived as ArrivedOut}
 use Rattle.abt_journal.specs.Replay.{reply_by, table_after, replay}
-use Rattle.abt_woven.specs.Projections.{Step, step_of, Visit, reply_of, input_of, visit_by, visit, past_of, step_at, steps_on}
+use Rattle.abt_woven.specs.Projections.{Step, step_of, Visit, reply_of, input_of, visit_by, visit_of, visit, past_of, step_at, steps_on}
 use Rattle.abt_weave.proofs.OwnEvents.{unvisited_by}
-use Rattle.abt_weave.proofs.PortEvents.{IsVisit, visit_is, visit_made, has_reply, reply_enabled, some_same}
+use Rattle.abt_weave.proofs.PortEvents.{IsVisit, known_at, input_at, visit_is, visit_made, has_reply, reply_enabled, some_same}
 use Rattle.abt_weave.proofs.PortLooks.{first_hop}
 
 -- the table that steps make of one
@@ -60,15 +60,15 @@ past_lawful net (event ∷ earlier) rates = after_event_lawful net (past_of net 
 
 -- an event that brings nothing comes to no port
 pub no_visit : (net : Topology) (past : Past) (event : Event) → ((vc : Channel) (facts : List Fact) → input_of vc facts event ≡ None) → visit net past event ≡ None
-no_visit net past event none = unvisited_by past event (λ conn facts. none conn.vc facts) (reply_of (outcome_of net past event)) (conn_at net (conn_of event))
+no_visit net past event none = unvisited_by net past event (λ conn facts. none conn.vc facts) (reply_of (outcome_of net past event)) (conn_of event)
 
 -- the hop of the port that an event comes to
 pub hop_here : (net : Topology) (past : Past) → IsWithinRules net → (event : Event) (v : Visit) → (parts : IsVisit net past event v) → hop_of parts.conn.path v.port ≡ hop_visited event
 hop_here net past rules event v parts =
     let enabled = reply_enabled (outcome_of net past event) v.reply parts.reply in
-    let reply = has_reply net past event parts.conn v.input parts.known (first_hop net rules (conn_of event) parts.conn parts.known) parts.input enabled in
+    let reply = has_reply net past event parts.c parts.conn v.input parts.whose parts.known (first_hop net rules parts.c parts.conn parts.known) parts.input enabled in
     let hop = is_hop_tells (length parts.conn.path) (hop_visited event) reply.within in
-    let at = hop_at parts.conn.path (hop_visited event - 1) (conn_within net rules (conn_of event) parts.conn parts.known).visits_once (omega (arith, hop.0, hop.1)) in
+    let at = hop_at parts.conn.path (hop_visited event - 1) (conn_within net rules parts.c parts.conn parts.known).visits_once (omega (arith, hop.0, hop.1)) in
     let back : (hop_visited event - 1) + 1 ≡ hop_visited event = omega (arith, hop.0) in
     subst (λ q. hop_of parts.conn.path q ≡ hop_visited event) parts.port (at ∙ back)
 
@@ -99,8 +99,8 @@ request_said net past c hop seq v is =
     let event = Request c hop seq in
     let parts = visit_is net past event v is in
     let conn = parts.conn in
-    let facts = facts_of c past in
-    let known = outcome_of-known net past event conn parts.known in
+    let facts = facts_of parts.c past in
+    let known = outcome_of-known net past event parts.c conn parts.whose parts.known in
     let onward = request_decision facts (reserved_on net past (port_of conn.path event)) (slice_index net.capacities (port_of conn.path event)) hop (request_of conn.vc facts seq) in
     (onward, known ∙ requested_by (is_hop (length conn.path) hop) (request_is_at facts seq hop) onward v.reply (ap reply_of (sym known) ∙ parts.reply))
 
@@ -109,8 +109,8 @@ answer_said net past c hop seq granted v is =
     let event = Answer c hop seq granted in
     let parts = visit_is net past event v is in
     let conn = parts.conn in
-    let facts = facts_of c past in
-    let known = outcome_of-known net past event conn parts.known in
+    let facts = facts_of parts.c past in
+    let known = outcome_of-known net past event parts.c conn parts.whose parts.known in
     let back = answer_decision facts hop (answer_to (request_of conn.vc facts seq) granted) in
     (back, known ∙ answered_by (is_hop (length conn.path) hop) (answer_is_at (length conn.path) facts seq hop granted) back v.reply (ap reply_of (sym known) ∙ parts.reply))
 
@@ -119,8 +119,8 @@ arrival_said net past c cell at v is =
     let event = Arrive c cell at in
     let parts = visit_is net past event v is in
     let conn = parts.conn in
-    let facts = facts_of c past in
-    let known = outcome_of-known net past event conn parts.known in
+    let facts = facts_of parts.c past in
+    let known = outcome_of-known net past event parts.c conn parts.whose parts.known in
     let verdict = verdict_at conn.tau facts at (held_of facts 1) in
     (verdict, known ∙ arrived_by (nat_lt cell (emitted_of facts)) (nat_lt cell (fence_of facts)) (is_in_time conn.delay conn.tau facts cell at) (nat_lt at (last_arrival_of facts)) verdict v.reply (ap reply_of (sym known) ∙ parts.reply))
 
@@ -133,9 +133,9 @@ request_made net past rules lawful c hop seq v is =
     let event = Request c hop seq in
     let parts = visit_is net past event v is in
     let said = request_said net past c hop seq v is in
-    let served = requests_served net past rules lawful c hop seq v.port parts.conn said.0 parts.known (hop_here net past rules event v parts) said.1 in
+    let served = requests_served net past rules lawful c hop seq v.port parts.conn said.0 (known_at net past c event v parts refl) (hop_here net past rules event v parts) said.1 in
     let table = port_table net past v.port in
-    let input = some_same parts.input in (
+    let input = some_same (input_at net past c event v parts refl) in (
       some_same (sym parts.reply ∙ ap reply_of said.1) ∙ ap (λ (o : Onward). RequestedOut o) (sym served.0) ∙ ap (reply_by table) input,
       sym served.1 ∙ ap (table_after table) input,
     )
@@ -145,9 +145,9 @@ answer_made net past rules lawful c hop seq granted v is =
     let event = Answer c hop seq granted in
     let parts = visit_is net past event v is in
     let said = answer_said net past c hop seq granted v is in
-    let served = answers_served net past rules lawful c hop seq v.port granted parts.conn said.0 parts.known (hop_here net past rules event v parts) said.1 in
+    let served = answers_served net past rules lawful c hop seq v.port granted parts.conn said.0 (known_at net past c event v parts refl) (hop_here net past rules event v parts) said.1 in
     let table = port_table net past v.port in
-    let input = some_same parts.input in (
+    let input = some_same (input_at net past c event v parts refl) in (
       some_same (sym parts.reply ∙ ap reply_of said.1) ∙ ap (λ (b : Back). AnsweredOut b) (sym served.0) ∙ ap (reply_by table) input,
       sym served.1 ∙ ap (table_after table) input,
     )
@@ -157,9 +157,9 @@ arrival_made net past rules lawful c cell at v is =
     let event = Arrive c cell at in
     let parts = visit_is net past event v is in
     let said = arrival_said net past c cell at v is in
-    let served = arrivals_served net past rules lawful c cell at v.port parts.conn said.0 parts.known (hop_here net past rules event v parts) said.1 in
+    let served = arrivals_served net past rules lawful c cell at v.port parts.conn said.0 (known_at net past c event v parts refl) (hop_here net past rules event v parts) said.1 in
     let table = port_table net past v.port in
-    let input = some_same parts.input in (
+    let input = some_same (input_at net past c event v parts refl) in (
       some_same (sym parts.reply ∙ ap reply_of said.1) ∙ ap ArrivedOut (sym served.0) ∙ ap (reply_by table) input,
       sym served.1 ∙ ap (table_after table) input,
     )
@@ -172,7 +172,8 @@ event_made net past rules lawful other v is = (let none = no_visit net past othe
 
 -- what comes to another port leaves a table
 elsewhere : (net : Topology) (past : Past) (event : Event) (v : Visit) (p : ℕ) → IsVisit net past event v → v.port ≢ p → ¬ Visits net event p
-elsewhere net past event v p parts differ visits =
+elsewhere net past event v p parts differ visited =
+    let visits = subst (VisitsBy net event p) parts.whose visited in
     let same : visits.0 ≡ parts.conn = some_same (sym visits.1 ∙ parts.known) in
     let hop : hop_of parts.conn.path p ≡ hop_visited event = subst (λ (conn : Conn). hop_of conn.path p ≡ hop_visited event) same visits.3 in
     let low : 1 ≤ hop_visited event = visits.2 in
@@ -189,29 +190,29 @@ no_reply facts vc (Arrive c cell at) (Arrived verdict) input h none = absurd (cc
 no_reply facts vc (Arrive c cell at) other input h none = refl
 no_reply facts vc other outcome input h none = absurd (cc)
 
-nothing_past : (net : Topology) (past : Past) (event : Event) → ((vc : Channel) (facts : List Fact) → (input : PortInput) × (input_of vc facts event ≡ Some input)) → visit net past event ≡ None → after_event net past event ≡ past
-nothing_past net past event brings none = elim (cases_option (conn_at net (conn_of event))) [
-  | inl unknown ↦ after_event-unknown net past event unknown
+nothing_past : (net : Topology) (past : Past) (event : Event) (c : ℕ) → conn_of event ≡ Some c → ((vc : Channel) (facts : List Fact) → (input : PortInput) × (input_of vc facts event ≡ Some input)) → visit net past event ≡ None → after_event net past event ≡ past
+nothing_past net past event c own brings none = elim (cases_option (conn_at net c)) [
+  | inl unknown ↦ after_event-unknown net past event c own unknown
   | inr known ↦ (
-      let facts = facts_of (conn_of event) past in
+      let facts = facts_of c past in
       let input = brings known.0.vc facts in
       elim (cases_option (reply_of (outcome_of net past event))) [
-        | inl silent ↦ ap (λ (added : List Fact). with_facts (conn_of event) added past) (no_reply facts known.0.vc event (outcome_of net past event) input.0 input.1 silent)
-        | inr reply ↦ (let made = visit_made net past event known.0 input.0 reply.0 known.1 input.1 reply.1 in absurd (cc))
+        | inl silent ↦ ap (past_by past event (outcome_of net past event)) own ∙ ap (λ (added : List Fact). with_facts c added past) (no_reply facts known.0.vc event (outcome_of net past event) input.0 input.1 silent)
+        | inr reply ↦ (let made = visit_made net past event c known.0 input.0 reply.0 own known.1 input.1 reply.1 in absurd (cc))
       ])
 ]
 
 -- an event of a source, or a Turn, comes to no port
-stays : (net : Topology) (past : Past) → IsWithinRules net → AllLawful net past → (event : Event) → AsksRate event → hop_visited event ≡ 0 → (p : ℕ) →
+stays : (net : Topology) (past : Past) → IsWithinRules net → AllLawful net past → (event : Event) → AsksRate event → (c : ℕ) → conn_of event ≡ Some c → hop_visited event ≡ 0 → (p : ℕ) →
     port_table net (after_event net past event) p ≡ port_table net past p
-stays net past rules lawful event rate zero p = tables_stay net past rules lawful event p rate (λ visits. (let low = visits.2 in omega (arith, low, zero)))
+stays net past rules lawful event rate c own zero p = tables_stay net past rules lawful event p rate (λ visited. (let visits = subst (VisitsBy net event p) own visited in let low = visits.2 in omega (arith, low, zero)))
 
 unvisited : (net : Topology) (past : Past) → IsWithinRules net → AllLawful net past → (event : Event) → AsksRate event → (p : ℕ) → visit net past event ≡ None →
     port_table net (after_event net past event) p ≡ port_table net past p
-unvisited net past rules lawful (Request c hop seq) rate p none = ap (λ (w : Past). port_table net w p) (nothing_past net past (Request c hop seq) (λ vc facts. (_, refl)) none)
-unvisited net past rules lawful (Answer c hop seq granted) rate p none = ap (λ (w : Past). port_table net w p) (nothing_past net past (Answer c hop seq granted) (λ vc facts. (_, refl)) none)
-unvisited net past rules lawful (Arrive c cell at) rate p none = ap (λ (w : Past). port_table net w p) (nothing_past net past (Arrive c cell at) (λ vc facts. (_, refl)) none)
-unvisited net past rules lawful other rate p none = stays net past rules lawful other rate refl p
+unvisited net past rules lawful (Request c hop seq) rate p none = ap (λ (w : Past). port_table net w p) (nothing_past net past (Request c hop seq) c refl (λ vc facts. (_, refl)) none)
+unvisited net past rules lawful (Answer c hop seq granted) rate p none = ap (λ (w : Past). port_table net w p) (nothing_past net past (Answer c hop seq granted) c refl (λ vc facts. (_, refl)) none)
+unvisited net past rules lawful (Arrive c cell at) rate p none = ap (λ (w : Past). port_table net w p) (nothing_past net past (Arrive c cell at) c refl (λ vc facts. (_, refl)) none)
+unvisited net past rules lawful other rate p none = stays net past rules lawful other rate _ refl refl p
 
 -- what one event makes of a table is what its step there does
 pub one_step : (net : Topology) (past : Past) → IsWithinRules net → AllLawful net past → (event : Event) → AsksRate event → (p place : ℕ) →

@@ -28,7 +28,7 @@ use Rattle.abt_source.specs.SourceFacts.{request_of}
 use Rattle.abt_model.specs.Past.{Past, facts_of}
 use Rattle.abt_net.specs.Paths.{hop_of}
 use Rattle.abt_model.proofs.Served.{conn_within}
-use Rattle.abt_model.proofs.Worlds.{cases_option, facts_of-own, facts_of-other}
+use Rattle.abt_model.proofs.Worlds.{conn_cases, cases_option, facts_of-own, facts_of-other}
 use Rattle.abt_model.specs.PortTable.{hop_visited}
 use Rattle.abt_net.proofs.PathLemmas.{hop_at}
 use Rattle.abt_journal.specs.declared.input.PortInput.{PortInput}
@@ -155,19 +155,19 @@ step_new net p M earlier event v is here m = subst (λ q. HasStep net q M (event
 
 -- An event that adds such a fact makes such a step, and the other way round.
 pub record IsLeft (net : Topology) (c p : ℕ) (test : Fact → Bool) (M : Leaving) : Type 0 where
-  pub makes : (past : Past) (event : Event) → conn_of event ≡ c → list_any test (facts_added (facts_of c past) event (outcome_of net past event)) ≡ true →
+  pub makes : (past : Past) (event : Event) → conn_of event ≡ Some c → list_any test (facts_added (facts_of c past) event (outcome_of net past event)) ≡ true →
       (v : Visit) × (visit net past event ≡ Some v) × (v.port ≡ p) × M v.input v.reply
   pub adds : (past : Past) (event : Event) (v : Visit) → visit net past event ≡ Some v → v.port ≡ p → M v.input v.reply →
-      (conn_of event ≡ c) × (list_any test (facts_added (facts_of c past) event (outcome_of net past event)) ≡ true)
+      (conn_of event ≡ Some c) × (list_any test (facts_added (facts_of c past) event (outcome_of net past event)) ≡ true)
 
-own_facts : (net : Topology) (past : Past) (event : Event) (c : ℕ) → conn_of event ≡ c → facts_of c (after_event net past event) ≡ facts_added (facts_of c past) event (outcome_of net past event) ++ facts_of c past
-own_facts net past event c same = subst (λ d. facts_of d (after_event net past event) ≡ facts_added (facts_of d past) event (outcome_of net past event) ++ facts_of d past) same (facts_of-own net past event)
+own_facts : (net : Topology) (past : Past) (event : Event) (c : ℕ) → conn_of event ≡ Some c → facts_of c (after_event net past event) ≡ facts_added (facts_of c past) event (outcome_of net past event) ++ facts_of c past
+own_facts net past event c same = facts_of-own net past event c same
 
 fact_step : (net : Topology) (c p : ℕ) (test : Fact → Bool) (M : Leaving) → IsLeft net c p test M → (earlier : List Event) → list_any test (facts_of c (past_of net earlier)) ≡ true → HasStep net p M earlier
 fact_step net c p test M left [] h = absurd (false≢true h)
 fact_step net c p test M left (event ∷ earlier) h =
     let past = past_of net earlier in
-    elim (cases_eq (conn_of event) c) [
+    elim (conn_cases event c) [
       | inr differ ↦ step_on net p M earlier event (fact_step net c p test M left earlier (ap (list_any test) (sym (facts_of-other net past event c differ)) ∙ h))
       | inl same ↦ (
           let added = facts_added (facts_of c past) event (outcome_of net past event) in
@@ -178,7 +178,7 @@ fact_step net c p test M left (event ∷ earlier) h =
     ]
 
 facts_kept : (net : Topology) (c : ℕ) (test : Fact → Bool) (past : Past) (event : Event) → list_any test (facts_of c past) ≡ true → list_any test (facts_of c (after_event net past event)) ≡ true
-facts_kept net c test past event h = elim (cases_eq (conn_of event) c) [
+facts_kept net c test past event h = elim (conn_cases event c) [
   | inr differ ↦ ap (list_any test) (facts_of-other net past event c differ) ∙ h
   | inl same ↦ ap (list_any test) (own_facts net past event c same) ∙ any_rest test (facts_added (facts_of c past) event (outcome_of net past event)) (facts_of c past) h
 ]
@@ -266,11 +266,11 @@ own_hop net c conn j its =
 
 -- what comes to the port of that hop, and is about the connection, comes to that hop
 located : (net : Topology) (c : ℕ) (conn : Conn) (j : ℕ) → IsHopOf net c conn j → (past : Past) (event : Event) (v : Visit) → (parts : IsVisit net past event v) → v.port ≡ slice_index conn.path (j - 1) → parts.conn.vc ≡ conn.vc →
-    (conn_of event ≡ c) × (hop_visited event ≡ j)
+    (conn_of event ≡ Some c) × (hop_visited event ≡ j)
 located net c conn j its past event v parts here channel =
-    let whose = own_number net its.rules (conn_of event) c parts.conn conn parts.known its.known channel in
-    let same : parts.conn ≡ conn = some_same (sym parts.known ∙ ap (conn_at net) whose ∙ its.known) in
-    (whose, sym (hop_here net past its.rules event v parts) ∙ ap (hop_of parts.conn.path) here ∙ ap (λ (k : Conn). hop_of k.path (slice_index conn.path (j - 1))) same ∙ own_hop net c conn j its)
+    let at_c = own_number net its.rules parts.c c parts.conn conn parts.known its.known channel in
+    let same : parts.conn ≡ conn = some_same (sym parts.known ∙ ap (conn_at net) at_c ∙ its.known) in
+    (parts.whose ∙ ap Some at_c, sym (hop_here net past its.rules event v parts) ∙ ap (hop_of parts.conn.path) here ∙ ap (λ (k : Conn). hop_of k.path (slice_index conn.path (j - 1))) same ∙ own_hop net c conn j its)
 
 port_low : (net : Topology) (c : ℕ) (conn : Conn) (j : ℕ) → IsHopOf net c conn j → slice_index conn.path (j - 1) < length net.capacities
 port_low net c conn j its = (conn_within net its.rules c conn its.known).in_net (j - 1) 0 (omega (arith, its.low, its.high))
@@ -281,20 +281,20 @@ both_true a b c d one other = ap (λ x. x && c == d) (eq-eqb a b one) ∙ eq-eqb
 first_true : (a b : Bool) → a ≡ true → (a || b) ≡ true
 first_true a b h = ap (λ x. x || b) h
 
-request_visit : (net : Topology) (past : Past) (c : ℕ) (conn : Conn) (event : Event) (d hop seq : ℕ) (onward : Onward) → conn_at net c ≡ Some conn → conn_of event ≡ c → event ≡ Request d hop seq → outcome_of net past event ≡ Requested onward →
-    visit net past event ≡ Some (record { port = slice_index conn.path (hop - 1); input = RequestIn (request_of conn.vc (facts_of (conn_of event) past) seq); reply = RequestedOut onward })
+request_visit : (net : Topology) (past : Past) (c : ℕ) (conn : Conn) (event : Event) (d hop seq : ℕ) (onward : Onward) → conn_at net c ≡ Some conn → conn_of event ≡ Some c → event ≡ Request d hop seq → outcome_of net past event ≡ Requested onward →
+    visit net past event ≡ Some (record { port = slice_index conn.path (hop - 1); input = RequestIn (request_of conn.vc (facts_of c past) seq); reply = RequestedOut onward })
 request_visit net past c conn event d hop seq onward known whose is said =
-    visit_made net past event conn (RequestIn (request_of conn.vc (facts_of (conn_of event) past) seq)) (RequestedOut onward) (ap (conn_at net) whose ∙ known)
-    (ap (input_of conn.vc (facts_of (conn_of event) past)) is) (ap reply_of said)
-    ∙ ap (λ e. Some (let w : Visit = record { port = slice_index conn.path (hop_visited e - 1); input = RequestIn (request_of conn.vc (facts_of (conn_of event) past) seq); reply = RequestedOut onward } in w)) is
+    visit_made net past event c conn (RequestIn (request_of conn.vc (facts_of c past) seq)) (RequestedOut onward) whose known
+    (ap (input_of conn.vc (facts_of c past)) is) (ap reply_of said)
+    ∙ ap (λ e. Some (let w : Visit = record { port = slice_index conn.path (hop_visited e - 1); input = RequestIn (request_of conn.vc (facts_of c past) seq); reply = RequestedOut onward } in w)) is
 
-answer_visit : (net : Topology) (past : Past) (c : ℕ) (conn : Conn) (event : Event) (d hop seq : ℕ) (granted : Bool) (back : Back) → conn_at net c ≡ Some conn → conn_of event ≡ c → event ≡ Answer d hop seq granted →
+answer_visit : (net : Topology) (past : Past) (c : ℕ) (conn : Conn) (event : Event) (d hop seq : ℕ) (granted : Bool) (back : Back) → conn_at net c ≡ Some conn → conn_of event ≡ Some c → event ≡ Answer d hop seq granted →
     outcome_of net past event ≡ Answered back →
-    visit net past event ≡ Some (record { port = slice_index conn.path (hop - 1); input = AnswerIn (answer_to (request_of conn.vc (facts_of (conn_of event) past) seq) granted); reply = AnsweredOut back })
+    visit net past event ≡ Some (record { port = slice_index conn.path (hop - 1); input = AnswerIn (answer_to (request_of conn.vc (facts_of c past) seq) granted); reply = AnsweredOut back })
 answer_visit net past c conn event d hop seq granted back known whose is said =
-    visit_made net past event conn (AnswerIn (answer_to (request_of conn.vc (facts_of (conn_of event) past) seq) granted)) (AnsweredOut back) (ap (conn_at net) whose ∙ known)
-    (ap (input_of conn.vc (facts_of (conn_of event) past)) is) (ap reply_of said)
-    ∙ ap (λ e. Some (let w : Visit = record { port = slice_index conn.path (hop_visited e - 1); input = AnswerIn (answer_to (request_of conn.vc (facts_of (conn_of event) past) seq) granted); reply = AnsweredOut back } in w)) is
+    visit_made net past event c conn (AnswerIn (answer_to (request_of conn.vc (facts_of c past) seq) granted)) (AnsweredOut back) whose known
+    (ap (input_of conn.vc (facts_of c past)) is) (ap reply_of said)
+    ∙ ap (λ e. Some (let w : Visit = record { port = slice_index conn.path (hop_visited e - 1); input = AnswerIn (answer_to (request_of conn.vc (facts_of c past) seq) granted); reply = AnsweredOut back } in w)) is
 
 quiet_passes : (s j : ℕ) → IsHopTest (is_sending (Passed s j))
 quiet_passes s j = record { started = λ a b. refl; crashed = refl; stored = λ a. refl; asked = λ a b c d. refl; heard = λ a b. refl; emitted = λ a b c. refl; delivered = λ a. refl; turned = λ a. refl; arrived = λ a b c d. refl }
@@ -325,7 +325,7 @@ pass_left net c conn s j its = record {
       ]);
   adds = λ past event v is here m.
       (let parts = visit_is net past event v is in
-      let its_event = request_event parts.conn.vc (facts_of (conn_of event) past) event m.0 (parts.input ∙ ap (λ (i : PortInput). Some i) m.1) in
+      let its_event = request_event parts.conn.vc (facts_of parts.c past) event m.0 (parts.input ∙ ap (λ (i : PortInput). Some i) m.1) in
       let at = located net c conn j its past event v parts here (its_event.3 ∙ m.2) in
       let said = requested_is (outcome_of net past event) Pass (parts.reply ∙ ap (λ (r : PortReply). Some r) m.4) in
       let hop : its_event.1 ≡ j = ap hop_visited (sym its_event.2) ∙ at.1 in (
@@ -359,7 +359,7 @@ back_left net c conn s j its = record {
       ]);
   adds = λ past event v is here m.
       (let parts = visit_is net past event v is in
-      let its_event = answer_event parts.conn.vc (facts_of (conn_of event) past) event m.0 (parts.input ∙ ap (λ (i : PortInput). Some i) m.1) in
+      let its_event = answer_event parts.conn.vc (facts_of parts.c past) event m.0 (parts.input ∙ ap (λ (i : PortInput). Some i) m.1) in
       let at = located net c conn j its past event v parts here (its_event.3 ∙ m.2) in
       let said = answered_is (outcome_of net past event) PassBack (parts.reply ∙ ap (λ (r : PortReply). Some r) m.5) in
       let hop : its_event.1 ≡ j = ap hop_visited (sym its_event.2) ∙ at.1 in (
@@ -405,10 +405,10 @@ shut_left net c conn s j its = record {
 }
   where
     shut_adds : (past : Past) (event : Event) (v : Visit) → visit net past event ≡ Some v → v.port ≡ slice_index conn.path (j - 1) → Shutting conn.vc s v.input v.reply →
-        (conn_of event ≡ c) × (list_any (is_sending (Shut s j)) (facts_added (facts_of c past) event (outcome_of net past event)) ≡ true)
+        (conn_of event ≡ Some c) × (list_any (is_sending (Shut s j)) (facts_added (facts_of c past) event (outcome_of net past event)) ≡ true)
     shut_adds past event v is here (inl m) =
         let parts = visit_is net past event v is in
-        let its_event = request_event parts.conn.vc (facts_of (conn_of event) past) event m.0 (parts.input ∙ ap (λ (i : PortInput). Some i) m.2) in
+        let its_event = request_event parts.conn.vc (facts_of parts.c past) event m.0 (parts.input ∙ ap (λ (i : PortInput). Some i) m.2) in
         let at = located net c conn j its past event v parts here (its_event.3 ∙ m.3) in
         let said = requested_is (outcome_of net past event) (Refuse m.1) (parts.reply ∙ ap (λ (r : PortReply). Some r) m.5) in
         let hop : its_event.1 ≡ j = ap hop_visited (sym its_event.2) ∙ at.1 in (
@@ -419,7 +419,7 @@ shut_left net c conn s j its = record {
         )
     shut_adds past event v is here (inr m) =
         let parts = visit_is net past event v is in
-        let its_event = answer_event parts.conn.vc (facts_of (conn_of event) past) event m.0 (parts.input ∙ ap (λ (i : PortInput). Some i) m.1) in
+        let its_event = answer_event parts.conn.vc (facts_of parts.c past) event m.0 (parts.input ∙ ap (λ (i : PortInput). Some i) m.1) in
         let at = located net c conn j its past event v parts here (its_event.3 ∙ m.2) in
         let said = answered_is (outcome_of net past event) PassBack (parts.reply ∙ ap (λ (r : PortReply). Some r) m.5) in
         let hop : its_event.1 ≡ j = ap hop_visited (sym its_event.2) ∙ at.1 in (

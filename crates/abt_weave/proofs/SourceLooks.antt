@@ -24,7 +24,7 @@ use Rattle.abt_weave.specs.Board.{journaled, total, IsPlacing, IsSourceSettled}
 use Rattle.abt_weave.specs.Shown.{AreShown}
 use Rattle.abt_weave.proofs.Pasts.{past-is, pushed}
 use Rattle.abt_weave.proofs.Growth.{ArePlaces, entries_one, entries_other, steps_none, places_same, places_set}
-use Rattle.abt_weave.proofs.OwnEvents.{own_visit, own_conn, own_made, own_fits, settled_none, settled_absent, settled_differs}
+use Rattle.abt_weave.proofs.OwnEvents.{some_is, own_visit, own_conn, own_made, own_fits, settled_none, settled_absent, settled_differs}
 
 -- the place that is read is how many entries there are
 pub place_read : (places : List ℕ) (counts : ℕ → ℕ) (i place : ℕ) → ArePlaces places counts → i < length places → place ≡ get_or places i place → place ≡ counts i
@@ -88,7 +88,7 @@ own_placed net js events world new sp pp c event told board low next own answers
       source_places = subst (λ l. ArePlaces (set sp c (slice_index sp c + 1)) (λ d. length (entries_on net d l))) now
           (places_set sp c (λ d. length (entries_on net d earlier)) (λ d. length (entries_on net d (event ∷ earlier))) low
           (entries_one net earlier event c (Did event (outcome_of net (past_of net earlier) event)) made whose)
-          (λ d differ. ap (λ (l : List SourceEntry). length l) (entries_other net earlier event d (λ e. differ (sym whose ∙ e))))
+          (λ d differ. ap (λ (l : List SourceEntry). length l) (entries_other net earlier event d (λ e. differ (some_is c d (sym whose ∙ e)))))
           board.source_places);
       port_places = subst (λ l. ArePlaces pp (λ p. length (steps_on net p l))) now
           (places_same pp (λ p. length (steps_on net p earlier)) (λ p. length (steps_on net p (event ∷ earlier)))

@@ -39,7 +39,7 @@ use Rattle.abt_woven.specs.Projections.{Visit, is_enabled, input_of, past_of, vi
 use Rattle.abt_weave.proofs.Asks.{AreTerms, asked_below, terms_below}
 use Rattle.abt_weave.proofs.LineFacts.{line, emitted_of-line, moment_of-line, after_last_of-line, last_arrival_of-line, delivered_mark_of-line}
 use Rattle.abt_weave.proofs.LineReplays.{lined, line_replayed}
-use Rattle.abt_weave.proofs.PortEvents.{IsVisit, visit_is, visit_made, has_reply, reply_enabled, made_beside, some_same}
+use Rattle.abt_weave.proofs.PortEvents.{known_at, input_at, IsVisit, visit_is, visit_made, has_reply, reply_enabled, made_beside, some_same}
 use Rattle.abt_weave.proofs.PortLooks.{first_hop}
 use Rattle.abt_weave.proofs.Replays.{replayed, past_lawful, event_made, tables_replayed}
 use Rattle.abt_weave.proofs.SentBelow.{IsBelow, passed_below}
@@ -69,14 +69,15 @@ visit_made_of port other input also reply back ports inputs replies =
     ∙ ap (λ r. (let w : Visit = record { port = other; input = also; reply = r } in w)) replies
 
 -- where an event happens again and brings the same, it comes again
-comes_again : (net : Topology) (less more : List Event) → AreBoth net less more → (event : Event) (v : Visit) → (parts : IsVisit net (past_of net less) event v) → visit net (past_of net less) event ≡ Some v →
-    steps_on net v.port less ≡ steps_on net v.port more → input_of parts.conn.vc (facts_of (conn_of event) (past_of net more)) event ≡ Some v.input → is_enabled (outcome_of net (past_of net more) event) ≡ true → ComesAgain net less more event v
-comes_again net less more both event v parts is same brings on =
+comes_again : (net : Topology) (less more : List Event) → AreBoth net less more → (event : Event) (v : Visit) → (parts : IsVisit net (past_of net less) event v) → (c : ℕ) → conn_of event ≡ Some c → visit net (past_of net less) event ≡ Some v →
+    steps_on net v.port less ≡ steps_on net v.port more → input_of parts.conn.vc (facts_of c (past_of net more)) event ≡ Some v.input → is_enabled (outcome_of net (past_of net more) event) ≡ true → ComesAgain net less more event v
+comes_again net less more both event v parts c whose is same brings on =
     let before = past_of net less in
     let past = past_of net more in
     let conn = parts.conn in
-    let found = has_reply net past event conn v.input parts.known (first_hop net both.rules (conn_of event) conn parts.known) brings on in
-    let made = visit_made net past event conn v.input found.reply parts.known brings found.is in
+    let known = known_at net before c event v parts whose in
+    let found = has_reply net past event c conn v.input whose known (first_hop net both.rules c conn known) brings on in
+    let made = visit_made net past event c conn v.input found.reply whose known brings found.is in
     let one = (event_made net before both.rules (past_lawful net less both.one) event v is).0 in
     let other = (event_made net past both.rules (past_lawful net more both.other) event (record { port = slice_index conn.path (hop_visited event - 1); input = v.input; reply = found.reply }) made).0 in
     let reply : found.reply ≡ v.reply =
@@ -85,8 +86,8 @@ comes_again net less more both event v parts is same brings on =
     let enabled = reply_enabled (outcome_of net before event) v.reply parts.reply in
     record {
       visits = made ∙ ap (λ (w : Visit). Some w) (visit_made_of (slice_index conn.path (hop_visited event - 1)) v.port v.input v.input found.reply v.reply parts.port refl reply);
-      beside = made_beside net more event v.port n conn (outcome_of net past event) v.input (facts_of (conn_of event) past) parts.known parts.port (ap (λ l. length l) same) brings on
-          ∙ sym (made_beside net less event v.port n conn (outcome_of net before event) v.input (facts_of (conn_of event) before) parts.known parts.port refl parts.input enabled);
+      beside = made_beside net more event v.port n c conn (outcome_of net past event) v.input (facts_of c past) whose known parts.port (ap (λ l. length l) same) brings on
+          ∙ sym (made_beside net less event v.port n c conn (outcome_of net before event) v.input (facts_of c before) whose known parts.port refl (input_at net before c event v parts whose) enabled);
     }
 
 conn_low : (net : Topology) (c : ℕ) (conn : Conn) → conn_at net c ≡ Some conn → c < length net.conns
@@ -128,18 +129,19 @@ request_again net less more both c hop seq v is same =
     let past = past_of net more in
     let parts = visit_is net before event v is in
     let conn = parts.conn in
+    let there = known_at net before c event v parts refl in
     let facts = facts_of c before in
     let others = facts_of c past in
-    let known = outcome_of-known net before event conn parts.known in
-    let now = outcome_of-known net past event conn parts.known in
+    let known = outcome_of-known net before event c conn refl there in
+    let now = outcome_of-known net past event c conn refl there in
     let enabled = reply_enabled (outcome_of net before event) v.reply parts.reply in
     let sent = sent_of (is_hop (length conn.path) hop) (request_is_at facts seq hop) _ (sym (ap is_enabled known) ∙ enabled) in
     let within = is_hop_tells (length conn.path) hop sent.0 in
-    let still = sent_below net less more both c conn seq hop parts.known within sent.1 in
-    let asked = at_asked (route_of conn) facts (lawful_at net before (past_lawful net less both.one) c conn parts.known) seq hop (request_at_tells facts seq hop within.0 sent.1) in
-    let terms = terms_below net c seq conn (conn_low net c conn parts.known) less more (lawful_at net past (past_lawful net more both.other) c conn parts.known) both.below asked in
-    comes_again net less more both event v parts is same
-    (ap (λ (t : Terms). Some (RequestIn t)) (terms_same conn.vc facts others seq terms) ∙ parts.input)
+    let still = sent_below net less more both c conn seq hop there within sent.1 in
+    let asked = at_asked (route_of conn) facts (lawful_at net before (past_lawful net less both.one) c conn there) seq hop (request_at_tells facts seq hop within.0 sent.1) in
+    let terms = terms_below net c seq conn (conn_low net c conn there) less more (lawful_at net past (past_lawful net more both.other) c conn there) both.below asked in
+    comes_again net less more both event v parts c refl is same
+    (ap (λ (t : Terms). Some (RequestIn t)) (terms_same conn.vc facts others seq terms) ∙ input_at net before c event v parts refl)
     (ap is_enabled now ∙ sent_on (is_hop (length conn.path) hop) (request_is_at others seq hop) _ sent.0 still)
 
 told_of : (a b : Bool) (o : Outcome) → is_enabled (if not a then NotEnabled Unknown else (if not b then NotEnabled NotSent else o)) ≡ true → (a ≡ true) × (b ≡ true)
@@ -164,10 +166,11 @@ came_back net less c hop seq granted v is =
     let event = Answer c hop seq granted in
     let past = past_of net less in
     let parts = visit_is net past event v is in
-    let known = outcome_of-known net past event parts.conn parts.known in
+    let there = known_at net past c event v parts refl in
+    let known = outcome_of-known net past event c parts.conn refl there in
     let enabled = reply_enabled (outcome_of net past event) v.reply parts.reply in
     let sent = told_of (is_hop (length parts.conn.path) hop) (answer_is_at (length parts.conn.path) (facts_of c past) seq hop granted) _ (sym (ap is_enabled known) ∙ enabled) in
-    record { conn = parts.conn; known = parts.known; within = sent.0; sent = sent.1 }
+    record { conn = parts.conn; known = there; within = sent.0; sent = sent.1 }
 
 pub answer_again : (net : Topology) (less more : List Event) → AreBoth net less more → (c hop seq : ℕ) (granted : Bool) (v : Visit) → visit net (past_of net less) (Answer c hop seq granted) ≡ Some v → steps_on net v.port less ≡ steps_on net v.port more →
     ((conn : Conn) → conn_at net c ≡ Some conn → answer_is_at (length conn.path) (facts_of c (past_of net more)) seq hop granted ≡ true) → ComesAgain net less more (Answer c hop seq granted) v
@@ -177,21 +180,22 @@ answer_again net less more both c hop seq granted v is same sent =
     let past = past_of net more in
     let parts = visit_is net before event v is in
     let conn = parts.conn in
+    let there = known_at net before c event v parts refl in
     let facts = facts_of c before in
     let others = facts_of c past in
-    let now = outcome_of-known net past event conn parts.known in
+    let now = outcome_of-known net past event c conn refl there in
     let back = came_back net less c hop seq granted v is in
-    let its : back.conn ≡ conn = some_same (sym back.known ∙ parts.known) in
+    let its : back.conn ≡ conn = some_same (sym back.known ∙ there) in
     let within : is_hop (length conn.path) hop ≡ true = subst (λ (k : Conn). is_hop (length k.path) hop ≡ true) its back.within in
     let was : answer_is_at (length conn.path) facts seq hop granted ≡ true = subst (λ (k : Conn). answer_is_at (length k.path) facts seq hop granted ≡ true) its back.sent in
-    let lawful = lawful_at net before (past_lawful net less both.one) c conn parts.known in
+    let lawful = lawful_at net before (past_lawful net less both.one) c conn there in
     let hops = is_hop_tells (length conn.path) hop within in
     let passed = (answer_passed (route_of conn) facts lawful seq hop granted hops was).0 in
     let asked = passed_asked (route_of conn) facts lawful seq hop passed in
-    let terms = terms_below net c seq conn (conn_low net c conn parts.known) less more (lawful_at net past (past_lawful net more both.other) c conn parts.known) both.below asked in
-    comes_again net less more both event v parts is same
-    (ap (λ (t : Terms). Some (AnswerIn (answer_to t granted))) (terms_same conn.vc facts others seq terms) ∙ parts.input)
-    (ap is_enabled now ∙ told_on (is_hop (length conn.path) hop) (answer_is_at (length conn.path) others seq hop granted) _ refl within (sent conn parts.known))
+    let terms = terms_below net c seq conn (conn_low net c conn there) less more (lawful_at net past (past_lawful net more both.other) c conn there) both.below asked in
+    comes_again net less more both event v parts c refl is same
+    (ap (λ (t : Terms). Some (AnswerIn (answer_to t granted))) (terms_same conn.vc facts others seq terms) ∙ input_at net before c event v parts refl)
+    (ap is_enabled now ∙ told_on (is_hop (length conn.path) hop) (answer_is_at (length conn.path) others seq hop granted) _ refl within (sent conn there))
 
 -- whether a cell can arrive, by the four causes against it
 abbrev may_arrive : Bool → Bool → Bool → Bool → Bool
@@ -236,11 +240,12 @@ arrival_again net less more both c cell at v is same entries =
     let past = past_of net more in
     let parts = visit_is net before event v is in
     let conn = parts.conn in
-    let known = outcome_of-known net before event conn parts.known in
-    let now = outcome_of-known net past event conn parts.known in
+    let there = known_at net before c event v parts refl in
+    let known = outcome_of-known net before event c conn refl there in
+    let now = outcome_of-known net past event c conn refl there in
     let enabled = reply_enabled (outcome_of net before event) v.reply parts.reply in
     let steps : steps_on net (slice_index conn.path 0) less ≡ steps_on net (slice_index conn.path 0) more = subst (λ p. steps_on net p less ≡ steps_on net p more) (sym parts.port) same in
     let line_same : line (facts_of c before) ≡ line (facts_of c past) =
-    line_replayed net both.rules c conn parts.known less ∙ ap (λ s. lined s [] (entries_on net c less)) steps ∙ ap (lined (steps_on net (slice_index conn.path 0) more) []) entries ∙ sym (line_replayed net both.rules c conn parts.known more) in
-    comes_again net less more both event v parts is same parts.input
+    line_replayed net both.rules c conn there less ∙ ap (λ s. lined s [] (entries_on net c less)) steps ∙ ap (lined (steps_on net (slice_index conn.path 0) more) []) entries ∙ sym (line_replayed net both.rules c conn there more) in
+    comes_again net less more both event v parts c refl is same (input_at net before c event v parts refl)
     (ap is_enabled now ∙ sym (arrives_alike conn (facts_of c before) (facts_of c past) cell at line_same) ∙ sym (ap is_enabled known) ∙ enabled)

@@ -48,7 +48,7 @@ whole ports sources = sum_by (λ (journal : SourceJournal). length journal.entri
 
 -- Nothing that fits behind the events is the next entry of a source, also after Turns, and whether that entry mismatches.
 pub record IsSourceSettled (net : Topology) (journals : Journaled) (earlier : List Event) (c : ℕ) (mismatches : Bool) : Type 0 where
-  pub stuck : (turns : List Event) (event done : Event) (outcome : Outcome) → AreTurns net earlier turns → conn_of event ≡ c →
+  pub stuck : (turns : List Event) (event done : Event) (outcome : Outcome) → AreTurns net earlier turns → conn_of event ≡ Some c →
       entry_made net (turns ++ earlier) event ≡ Some (Did done outcome) → Fits net journals (turns ++ earlier) event → ⊥
   pub marks : MatchBool mismatches (SourceMismatches net journals earlier c) (SourceMismatches net journals earlier c → ⊥)
 

@@ -38,13 +38,15 @@ entry_beside place event = entry_beside_in place (target_of event)
 
 -- An event comes to a port with this step, whatever it answers, and what it is to its source is the next entry there.
 pub record Comes (net : Topology) (journals : Journaled) (earlier : List Event) (p place : ℕ) (input : PortInput) (event : Event) : Type 0 where
+  pub c : ℕ
+  pub whose : conn_of event ≡ Some c
   pub conn : Conn
-  pub known : conn_at net (conn_of event) ≡ Some conn
+  pub known : conn_at net c ≡ Some conn
   pub within : is_hop (length conn.path) (hop_visited event) ≡ true
   pub port : slice_index conn.path (hop_visited event - 1) ≡ p
-  pub brings : input_told conn.vc (reverse (entries_on net (conn_of event) earlier)) event ≡ Some input
+  pub brings : input_told conn.vc (reverse (entries_on net c earlier)) event ≡ Some input
   pub at : place ≡ length (steps_on net p earlier)
-  pub beside : (x : SourceEntry) → entry_beside place event ≡ Some x → next_entry net journals earlier (conn_of event) ≡ Some x
+  pub beside : (x : SourceEntry) → entry_beside place event ≡ Some x → next_entry net journals earlier c ≡ Some x
 
 -- the event is the yes at the last hop that this Turn makes
 pub record IsYes (net : Topology) (event : Event) (c seq : ℕ) : Type 0 where
@@ -60,7 +62,7 @@ pub record IsTurnOf (net : Topology) (event turn : Event) : Type 0 where
 
 -- an event of this connection comes to a port
 pub record IsComing (net : Topology) (journals : Journaled) (earlier : List Event) (p place : ℕ) (input : PortInput) (c : ℕ) (event : Event) : Type 0 where
-  pub conn : conn_of event ≡ c
+  pub conn : conn_of event ≡ Some c
   pub comes : Comes net journals earlier p place input event
 
 -- how far a source comes by an event

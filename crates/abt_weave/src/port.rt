@@ -45,8 +45,8 @@ fn candidate(given: &Given, board: &Board, port: u16, place: usize, entry: &Entr
     ensures some { IfSome result (λ coming. IsComing given.now.net.now (journaled given.now.ports.now given.now.sources.now)
         (reverse board.now.events.items) port entry.now.place entry.now.input coming.conn coming.event) }
     ensures only { (event : EventSpec) →
-        Comes given.now.net.now (journaled given.now.ports.now given.now.sources.now) (reverse board.now.events.items) port entry.now.place entry.now.input event →
-        result ≡ Some (record { conn = conn_of event; event = event }) }
+        (comes : Comes given.now.net.now (journaled given.now.ports.now given.now.sources.now) (reverse board.now.events.items) port entry.now.place entry.now.input event) →
+        result ≡ Some (record { conn = comes.c; event = event }) }
 {
     let stop = stop_of(given.net, channel_of(&entry.input), port)?;
     if entry.place != place as u64 {

@@ -43,7 +43,7 @@ arrives :
     arrival_cause conn facts cell at ≡ None → outcome_of net past (Arrive c cell at) ≡ Arrived (verdict_at conn.tau facts at (held_of facts 1))
 arrives net past c conn facts cell at is none =
     let judged = Arrived (verdict_at conn.tau facts at (held_of facts 1)) in
-    answers net past (Arrive c cell at) conn facts is
+    answers net past (Arrive c cell at) c conn facts refl is
     ∙ by_causes (not (nat_lt cell (emitted_of facts))) (nat_lt cell (fence_of facts)) (not (is_in_time conn.delay conn.tau facts cell at)) (nat_lt at (last_arrival_of facts)) judged
     ∙ ap (λ cause. unless cause judged) none
 
@@ -104,7 +104,7 @@ pub arrival_served :
     ArePorts net past ports → port_at conn.path 1 ≡ Some port → port < length ports → slice_get ports port ≡ Some table → arrival_cause conn facts cell at ≡ None →
     (after : Table) (rate : ℕ) (verdict : Verdict) → Some rate ≡ option_map held_at (connection_at table conn.vc) → Ok verdict ≡ arrival_at table conn.vc at →
     after ≡ table_after_arrival table conn.vc at →
-    Happens net past (Arrive c cell at) (Arrived verdict) (FactArrived cell at rate verdict ∷ [])
+    Happens net past c (Arrive c cell at) (Arrived verdict) (FactArrived cell at rate verdict ∷ [])
     × ArePorts net (after_event net past (Arrive c cell at)) (slice_set ports port after)
 arrival_served net past c conn facts cell at port ports table is are has low table_at none after rate verdict rate_is verdict_is after_is =
     let j = judged net past c conn facts cell at port ports table is are has low table_at none in
@@ -113,5 +113,5 @@ arrival_served net past c conn facts cell at port ports table is are has low tab
     let held : rate ≡ held_of (facts_of c past) 1 = (let e = rate_is ∙ rate_there net past c conn facts 1 port ports table is are has low table_at ∙ ap (λ fs. Some (held_of fs 1)) is.facts_are in cc) in (
       record { answer = ap Arrived same ∙ sym j.said; adds = ap (λ r. FactArrived cell at r verdict ∷ []) held },
       ports_after net past (after_event net past (Arrive c cell at)) ports port after are low (after_is ∙ j.becomes)
-          (λ q other. tables_stay net past is.rules (all_lawful net past c conn facts is) (Arrive c cell at) q tt (away net (Arrive c cell at) conn 1 port q is.known refl tells.1 other)),
+          (λ q other. tables_stay net past is.rules (all_lawful net past c conn facts is) (Arrive c cell at) q tt (away net (Arrive c cell at) c conn 1 port q refl is.known refl tells.1 other)),
     )

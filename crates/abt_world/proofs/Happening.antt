@@ -1,6 +1,6 @@
 -- What one event makes of the ports and of the actor of its connection.
 use Rattle.std.proofs.Common.{◌≡◌, ℕ, Bool, true, false, List, [], ◌∷◌, ◌++◌, refl, sym, subst, ap, ◌∙◌, arith, inl, inr}
-use Rattle.std.specs.Prelude.{◌==◌, option_map, slice_get, slice_index}
+use Rattle.std.specs.Prelude.{◌==◌, option_map, slice_get, slice_index, Some}
 use Rattle.std.proofs.lemmas.Bool.{cases_Bool, cond-true, cond-false}
 use Rattle.abt_cell.specs.Channel.{Channel}
 use Rattle.abt_net.specs.declared.conn.Conn.{Conn}
@@ -26,7 +26,7 @@ use Rattle.abt_model.specs.Past.{Past, facts_of}
 use Rattle.abt_model.specs.Reserved.{reserved_on}
 use Rattle.abt_model.specs.Answers.{answer_by}
 use Rattle.abt_model.specs.Outcomes.{conn_of, port_of, after_event, facts_added, delivery}
-use Rattle.abt_model.specs.PortTable.{hop_visited, Visits}
+use Rattle.abt_model.specs.PortTable.{hop_visited, VisitsBy, Visits}
 use Rattle.abt_model.proofs.Tables.{tables_stay}
 use Rattle.abt_actor.specs.Actor.{ActorView, actor_of}
 use Rattle.abt_actor.specs.Carrying.{Carries}
@@ -36,11 +36,11 @@ use Rattle.abt_world.proofs.Sendings.{happens, all_lawful}
 
 -- an event that comes to no port
 pub tables_kept :
-    (net : Topology) (past : Past) (e : Event) (conn : Conn) (facts : List Fact) (ports : List Table) → AsksRate e →
-    IsConnAt net past (conn_of e) conn facts → ArePorts net past ports → hop_visited e ≡ 0 → ArePorts net (after_event net past e) ports
-tables_kept net past e conn facts ports asks at are nowhere q =
-    let nobody : Visits net e q → ⊥ = λ visits. (let low = visits.2 in omega arith) in
-    are q ∙ ap (λ t. option_map (λ (_ : ℕ). t) (slice_get net.capacities q)) (sym (tables_stay net past at.rules (all_lawful net past (conn_of e) conn facts at) e q asks nobody))
+    (net : Topology) (past : Past) (e : Event) (c : ℕ) (conn : Conn) (facts : List Fact) (ports : List Table) → AsksRate e →
+    conn_of e ≡ Some c → IsConnAt net past c conn facts → ArePorts net past ports → hop_visited e ≡ 0 → ArePorts net (after_event net past e) ports
+tables_kept net past e c conn facts ports asks own at are nowhere q =
+    let nobody : Visits net e q → ⊥ = λ visited_by. (let visits = subst (VisitsBy net e q) own visited_by in let low = visits.2 in omega arith) in
+    are q ∙ ap (λ t. option_map (λ (_ : ℕ). t) (slice_get net.capacities q)) (sym (tables_stay net past at.rules (all_lawful net past c conn facts at) e q asks nobody))
 
 -- facts of hops and cells, which say nothing of the source
 abbrev pub IsOfHops : Fact → Type 0
@@ -113,10 +113,10 @@ hop_kind fs c (hop.Answer j seq granted) o = answer_kind fs c j seq granted o
 
 -- an event whose facts say nothing of the source leaves the actor
 pub actor_left :
-    (net : Topology) (past : Past) (e : Event) (conn : Conn) (facts : List Fact) (actor : ActorView) (outcome : Outcome) (added : List Fact) →
-    Happens net past e outcome added → AreOfHops (facts_added (facts_of (conn_of e) past) e outcome) → actor ≡ actor_of conn.vc facts →
+    (net : Topology) (past : Past) (e : Event) (c : ℕ) (conn : Conn) (facts : List Fact) (actor : ActorView) (outcome : Outcome) (added : List Fact) →
+    Happens net past c e outcome added → AreOfHops (facts_added (facts_of c past) e outcome) → actor ≡ actor_of conn.vc facts →
     actor ≡ actor_of conn.vc (added ++ facts)
-actor_left net past e conn facts actor outcome added h kinds is = is ∙ sym (actor_kept conn.vc added facts (subst AreOfHops (sym h.adds) kinds))
+actor_left net past e c conn facts actor outcome added h kinds is = is ∙ sym (actor_kept conn.vc added facts (subst AreOfHops (sym h.adds) kinds))
 
 -- commands to a source, but for the answers that it is told
 abbrev pub IsOwn : SourceCommand → Type 0
@@ -139,19 +139,18 @@ own_adds facts c command.Crash outcome is = refl
 own_adds facts c (command.Emit now) outcome is = refl
 own_adds facts c (command.Told answer) outcome is = absurd is
 
-own_conn : (c : ℕ) (own : SourceCommand) → IsOwn own → conn_of (event_of c own) ≡ c
+own_conn : (c : ℕ) (own : SourceCommand) → IsOwn own → conn_of (event_of c own) ≡ Some c
 own_conn c (command.Told answer) is = absurd is
 own_conn c other is = refl
 
 pub command_happens :
     (net : Topology) (past : Past) (conn : Conn) (facts : List Fact) (c : ℕ) (own : SourceCommand) (actor new : ActorView) (outcome : Outcome) (added : List Fact) →
     IsOwn own → Carries actor own outcome added new → IsConnAt net past c conn facts → actor ≡ actor_of conn.vc facts →
-    Happens net past (event_of c own) outcome added × (new ≡ actor_of conn.vc (added ++ facts))
+    Happens net past c (event_of c own) outcome added × (new ≡ actor_of conn.vc (added ++ facts))
 command_happens net past conn facts c own actor new outcome added is_own carries at is =
     let e = event_of c own in
-    let here = subst (λ (n : ℕ). IsConnAt net past n conn facts) (sym (own_conn c own is_own)) at in
     let carried = carries conn.vc facts is in (
-      happens net past e conn facts here outcome added
+      happens net past e c conn facts (own_conn c own is_own) at outcome added
           (carried.answer ∙ own_answer conn (reserved_on net past (port_of conn.path e)) (slice_index net.capacities (port_of conn.path e)) c facts own is_own)
           (carried.adds ∙ own_adds facts c own outcome is_own),
       carried.becomes,

@@ -25,7 +25,7 @@ use Rattle.abt_model.specs.Decision.{request_decision, answer_decision}
 use Rattle.abt_source.specs.SourceFacts.{request_of}
 use Rattle.abt_model.specs.Answers.{is_hop}
 use Rattle.abt_model.specs.Outcomes.{conn_of, port_of, outcome_of, facts_added, request_adds, answer_adds}
-use Rattle.abt_model.specs.PortTable.{hop_visited, Visits}
+use Rattle.abt_model.specs.PortTable.{hop_visited, VisitsBy, Visits}
 use Rattle.abt_model.proofs.Worlds.{cases_option}
 use Rattle.abt_model.proofs.Steps.{is_hop_tells}
 use Rattle.abt_net.proofs.PathLemmas.{hop_of-port, hop_at}
@@ -89,9 +89,10 @@ port_tells path hop port has = elim (cases_Bool (is_hop (length path) hop)) [
 
 -- no other port is visited
 pub away :
-    (net : Topology) (e : Event) (conn : Conn) (hop port q : ℕ) → conn_at net (conn_of e) ≡ Some conn → hop_visited e ≡ hop →
+    (net : Topology) (e : Event) (c : ℕ) (conn : Conn) (hop port q : ℕ) → conn_of e ≡ Some c → conn_at net c ≡ Some conn → hop_visited e ≡ hop →
     port ≡ slice_index conn.path (hop - 1) → port ≢ q → Visits net e q → ⊥
-away net e conn hop port q known visited is other visits =
+away net e c conn hop port q own known visited is other visited_by =
+    let visits = subst (VisitsBy net e q) own visited_by in
     let same : visits.0 ≡ conn = (let e = sym visits.1 ∙ known in cc) in
     let at : hop_of conn.path q ≡ hop = subst (λ (x : Conn). hop_of x.path q ≡ hop) same (visits.3 ∙ visited) in
     let low = visits.2 in
@@ -116,7 +117,7 @@ pub request_served :
     IsConnAt net past c conn facts → ArePorts net past ports → port_at conn.path hop ≡ Some port → request_is_at facts seq hop ≡ true → port < length ports →
     (table after : Table) (request : Terms) (onward : Onward) (added : List Fact) → slice_get ports port ≡ Some table → request ≡ request_of conn.vc facts seq →
     onward ≡ reply_to table request → after ≡ table_after table request → added ≡ request_adds hop seq onward →
-    Happens net past (Request c hop seq) (Requested onward) added × ArePorts net (after_event net past (Request c hop seq)) (slice_set ports port after)
+    Happens net past c (Request c hop seq) (Requested onward) added × ArePorts net (after_event net past (Request c hop seq)) (slice_set ports port after)
 request_served net past c conn facts hop seq port ports at are has there low table after request onward added table_at request_is onward_is after_is added_is =
     let e = Request c hop seq in
     let tells = port_tells conn.path hop port has in
@@ -124,7 +125,7 @@ request_served net past c conn facts hop seq port ports at are has there low tab
     let at_hop = at_its_hop net past c conn facts hop port at tells.0 tells.1 in
     let decided = request_decision facts (reserved_on net past (port_of conn.path e)) (slice_index net.capacities (port_of conn.path e)) hop (request_of conn.vc facts seq) in
     let said : outcome_of net past e ≡ Requested decided =
-    answers net past e conn facts at
+    answers net past e c conn facts refl at
     ∙ ap (λ b. if not b then NotEnabled Unknown else (if not (request_is_at facts seq hop) then NotEnabled NotSent else Requested decided)) tells.0
     ∙ ap (λ b. if not b then NotEnabled NotSent else Requested decided) there in
     let law = requests_served net past at.rules lawful c hop seq port conn decided at.known at_hop said in
@@ -134,7 +135,7 @@ request_served net past c conn facts hop seq port ports at are has there low tab
     let becomes : after ≡ port_table net (after_event net past e) port = after_is ∙ ap (λ t. table_after t request) table_is ∙ ap (table_after (port_table net past port)) is_request ∙ law.1 in (
       record { answer = ap Requested is ∙ sym said; adds = added_is },
       ports_after net past (after_event net past e) ports port after are low becomes
-          (λ q other. tables_stay net past at.rules lawful e q tt (away net e conn hop port q at.known refl tells.1 other)),
+          (λ q other. tables_stay net past at.rules lawful e q tt (away net e c conn hop port q refl at.known refl tells.1 other)),
     )
 
 -- an answer that a port serves
@@ -143,7 +144,7 @@ pub answer_served :
     IsConnAt net past c conn facts → ArePorts net past ports → port_at conn.path hop ≡ Some port → answer_is_at (length conn.path) facts seq hop granted ≡ true → port < length ports →
     (table after : Table) (reply : Reply) (back : Back) (added : List Fact) → slice_get ports port ≡ Some table → reply ≡ answer_to (request_of conn.vc facts seq) granted →
     back ≡ port_answer table reply → after ≡ table_after_answer table reply → added ≡ answer_adds hop seq granted back →
-    Happens net past (Answer c hop seq granted) (Answered back) added × ArePorts net (after_event net past (Answer c hop seq granted)) (slice_set ports port after)
+    Happens net past c (Answer c hop seq granted) (Answered back) added × ArePorts net (after_event net past (Answer c hop seq granted)) (slice_set ports port after)
 answer_served net past c conn facts hop seq port granted ports at are has there low table after reply back added table_at reply_is back_is after_is added_is =
     let e = Answer c hop seq granted in
     let tells = port_tells conn.path hop port has in
@@ -151,7 +152,7 @@ answer_served net past c conn facts hop seq port granted ports at are has there 
     let at_hop = at_its_hop net past c conn facts hop port at tells.0 tells.1 in
     let decided = answer_decision facts hop (answer_to (request_of conn.vc facts seq) granted) in
     let said : outcome_of net past e ≡ Answered decided =
-    answers net past e conn facts at
+    answers net past e c conn facts refl at
     ∙ ap (λ b. if not b then NotEnabled Unknown else (if not (answer_is_at (length conn.path) facts seq hop granted) then NotEnabled NotSent else Answered decided)) tells.0
     ∙ ap (λ b. if not b then NotEnabled NotSent else Answered decided) there in
     let law = answers_served net past at.rules lawful c hop seq port granted conn decided at.known at_hop said in
@@ -161,7 +162,7 @@ answer_served net past c conn facts hop seq port granted ports at are has there 
     let becomes : after ≡ port_table net (after_event net past e) port = after_is ∙ ap (λ t. table_after_answer t reply) table_is ∙ ap (table_after_answer (port_table net past port)) is_reply ∙ law.1 in (
       record { answer = ap Answered is ∙ sym said; adds = added_is },
       ports_after net past (after_event net past e) ports port after are low becomes
-          (λ q other. tables_stay net past at.rules lawful e q tt (away net e conn hop port q at.known refl tells.1 other)),
+          (λ q other. tables_stay net past at.rules lawful e q tt (away net e c conn hop port q refl at.known refl tells.1 other)),
     )
 
 -- an event that can't happen leaves the tables
@@ -190,12 +191,12 @@ port_within net past c conn facts hop port ports at are has =
 pub answer_absent :
     (net : Topology) (past : Past) (c : ℕ) (conn : Conn) (facts : List Fact) (hop seq : ℕ) (granted : Bool) (ports : List Table) →
     IsConnAt net past c conn facts → ArePorts net past ports → is_hop (length conn.path) hop ≡ true → answer_is_at (length conn.path) facts seq hop granted ≡ false →
-    Happens net past (Answer c hop seq granted) (NotEnabled NotSent) [] × ArePorts net (after_event net past (Answer c hop seq granted)) ports
+    Happens net past c (Answer c hop seq granted) (NotEnabled NotSent) [] × ArePorts net (after_event net past (Answer c hop seq granted)) ports
 answer_absent net past c conn facts hop seq granted ports at are is absent =
     let e = Answer c hop seq granted in
     let decided = answer_decision facts hop (answer_to (request_of conn.vc facts seq) granted) in
     let said : outcome_of net past e ≡ NotEnabled NotSent =
-    answers net past e conn facts at
+    answers net past e c conn facts refl at
     ∙ ap (λ b. if not b then NotEnabled Unknown else (if not (answer_is_at (length conn.path) facts seq hop granted) then NotEnabled NotSent else Answered decided)) is
     ∙ ap (λ b. if not b then NotEnabled NotSent else Answered decided) absent in
     (record { answer = sym said; adds = refl }, nothing_served net past (after_event net past e) ports are (ap (λ o. with_facts c (facts_added (facts_of c past) e o) past) said))

@@ -17,12 +17,12 @@ use Rattle.abt_model.specs.declared.outcome.Outcome.{Outcome}
 use Rattle.abt_model.specs.declared.outcome.Outcome.TheVariants.{NotEnabled}
 use Rattle.abt_model.specs.Events.{AsksRate}
 use Rattle.abt_model.specs.Past.{Past, facts_of}
-use Rattle.abt_model.specs.Outcomes.{conn_of, outcome_of, outcome_at, after_event}
+use Rattle.abt_model.specs.Outcomes.{conn_of, outcome_by, outcome_of, past_by, after_event}
 use Rattle.abt_model.specs.PortTable.{port_table}
 use Rattle.abt_model.specs.Run.{facts_after}
 use Rattle.abt_model.proofs.EveryPasts.{every_safe, every_never_disputes, every_one_answer, every_rates_wait, every_yes_stands, every_arrival_conforms, every_next_is_due}
 use Rattle.abt_model.proofs.Runs.{facts_from_push}
-use Rattle.abt_model.proofs.Worlds.{after_event-unknown, facts_of-other}
+use Rattle.abt_model.proofs.Worlds.{other_conn, outcome_of-unknown, after_event-unknown, facts_of-other}
 use Rattle.abt_world.specs.Standing.{WorldView, IsOfPast, StandsFor}
 use Rattle.abt_world.specs.Courses.{CourseView, course_of}
 use Rattle.abt_world.specs.Headline.{HeadlineHolds}
@@ -69,21 +69,34 @@ one_more net events e = facts_from_push net [] events e
 all_ask : (events : List Event) (e : Event) → All AsksRate events → AsksRate e → All AsksRate (events ++ e ∷ [])
 all_ask events e rates asks = All-append AsksRate events (e ∷ []) rates (All-cons AsksRate e [] asks (All-nil AsksRate))
 
+-- an event that changes nothing
+still : (net : Topology) (events : List Event) (world : WorldView) (e : Event) (looks : ℕ) → StandsFor net events world → AsksRate e → after_event net (facts_after net events) e ≡ facts_after net events →
+    StandsFor net (events ++ e ∷ []) (record { net = world.net; ports = world.ports; courses = world.courses; looks = looks })
+still net events world e looks stands asks stays = record {
+  rates = all_ask events e stands.rates asks;
+  stands = subst (λ (p : Past). IsOfPast net p (record { net = world.net; ports = world.ports; courses = world.courses; looks = looks })) (sym (one_more net events e ∙ stays))
+      (record { net_is = stands.stands.net_is; ports = stands.stands.ports; courses = stands.stands.courses });
+}
+
 -- an event of no connection
-pub step_unknown :
-    (net : Topology) (events : List Event) (world : WorldView) (e : Event) (looks : ℕ) → StandsFor net events world → AsksRate e → length net.conns ≤ conn_of e →
+pub step_alone :
+    (net : Topology) (events : List Event) (world : WorldView) (e : Event) (looks : ℕ) → StandsFor net events world → AsksRate e → conn_of e ≡ None →
     (NotEnabled Unknown ≡ outcome_of net (facts_after net events) e) × StandsFor net (events ++ e ∷ []) (record { net = world.net; ports = world.ports; courses = world.courses; looks = looks })
-step_unknown net events world e looks stands asks past_end =
+step_alone net events world e looks stands asks alone =
+    let past = facts_after net events in (
+      sym (ap (outcome_by net past e) alone),
+      still net events world e looks stands asks (ap (past_by past e (outcome_of net past e)) alone),
+    )
+
+-- an event of a connection that the net doesn't have
+pub step_unknown :
+    (net : Topology) (events : List Event) (world : WorldView) (e : Event) (c looks : ℕ) → StandsFor net events world → AsksRate e → conn_of e ≡ Some c → length net.conns ≤ c →
+    (NotEnabled Unknown ≡ outcome_of net (facts_after net events) e) × StandsFor net (events ++ e ∷ []) (record { net = world.net; ports = world.ports; courses = world.courses; looks = looks })
+step_unknown net events world e c looks stands asks own past_end =
     let past = facts_after net events in
-    let unknown : conn_at net (conn_of e) ≡ None = slice_get_past net.conns (conn_of e) past_end in
-    let said : outcome_of net past e ≡ NotEnabled Unknown = ap (λ (o : Option Conn). outcome_at net past o e) unknown in
-    let same : facts_after net (events ++ e ∷ []) ≡ past = one_more net events e ∙ after_event-unknown net past e unknown in (
-      sym said,
-      record {
-        rates = all_ask events e stands.rates asks;
-        stands = subst (λ (p : Past). IsOfPast net p (record { net = world.net; ports = world.ports; courses = world.courses; looks = looks })) (sym same)
-            (record { net_is = stands.stands.net_is; ports = stands.stands.ports; courses = stands.stands.courses });
-      },
+    let unknown : conn_at net c ≡ None = slice_get_past net.conns c past_end in (
+      sym (outcome_of-unknown net past e c own unknown),
+      still net events world e looks stands asks (after_event-unknown net past e c own unknown),
     )
 
 -- the connection that the event comes to
@@ -100,20 +113,19 @@ some_same x y e = ap (λ o. unwrap_or o x) e
 
 -- an event that its connection took
 pub step_taken :
-    (net : Topology) (events : List Event) (world : WorldView) (e : Event) (conn : Conn) (outcome : Outcome) (course : CourseView) (ports : List Table) (looks : ℕ) →
-    StandsFor net events world → AsksRate e → conn_at net (conn_of e) ≡ Some conn → conn_of e < length world.courses →
-    Leaves net (facts_after net events) e conn outcome course.actor course.index ports →
-    (outcome ≡ outcome_of net (facts_after net events) e) × StandsFor net (events ++ e ∷ []) (record { net = world.net; ports = ports; courses = slice_set world.courses (conn_of e) course; looks = looks })
-step_taken net events world e conn outcome course ports looks stands asks known low leaves =
+    (net : Topology) (events : List Event) (world : WorldView) (e : Event) (c : ℕ) (conn : Conn) (outcome : Outcome) (course : CourseView) (ports : List Table) (looks : ℕ) →
+    StandsFor net events world → AsksRate e → conn_of e ≡ Some c → conn_at net c ≡ Some conn → c < length world.courses →
+    Leaves net (facts_after net events) c e conn outcome course.actor course.index ports →
+    (outcome ≡ outcome_of net (facts_after net events) e) × StandsFor net (events ++ e ∷ []) (record { net = world.net; ports = ports; courses = slice_set world.courses c course; looks = looks })
+step_taken net events world e c conn outcome course ports looks stands asks own known low leaves =
     let past = facts_after net events in
-    let c = conn_of e in
     let course_is : course ≡ course_of conn.vc (facts_of c (after_event net past e)) = same_course course (actor_of conn.vc (facts_of c (after_event net past e))) (index_of (facts_of c (after_event net past e))) leaves.actor_is leaves.index_is in
     let each : (d : ℕ) → slice_get (slice_set world.courses c course) d ≡ option_map (λ (k : Conn). course_of k.vc (facts_of d (after_event net past e))) (conn_at net d) =
     λ d. elim (cases_eq c d) [
       | inl here ↦ subst (λ n. slice_get (slice_set world.courses c course) n ≡ option_map (λ (k : Conn). course_of k.vc (facts_of n (after_event net past e))) (conn_at net n)) here
           (set_here world.courses c course low ∙ ap Some course_is ∙ sym (ap (option_map (λ (k : Conn). course_of k.vc (facts_of c (after_event net past e)))) known))
       | inr other ↦ set_other world.courses c d course other ∙ stands.stands.courses d
-          ∙ ap (λ (fs : List Fact). option_map (λ (k : Conn). course_of k.vc fs) (conn_at net d)) (sym (facts_of-other net past e d other))
+          ∙ ap (λ (fs : List Fact). option_map (λ (k : Conn). course_of k.vc fs) (conn_at net d)) (sym (facts_of-other net past e d (λ whose. other_conn c d other (sym own ∙ whose))))
     ] in (
       leaves.answer,
       record {

@@ -49,11 +49,16 @@ abbrev pub looks_to_happen : Conn → List Fact → Event → Outcome → ℕ
 looks_to_happen conn facts event outcome = looks_to_take (length conn.path) event outcome + looks_to_note (facts_added facts event outcome)
 
 -- What an event of a connection looks up after a past: the connection, what it needs to happen, and, to see whether all is still safe,
--- each hop of the path and the port that it came to. An event of no connection looks nothing up.
-abbrev pub looks_at : Topology → Past → Event → Option Conn → ℕ
-looks_at net past event None = 0
-looks_at net past event (Some conn) =
-    1 + looks_to_happen conn (facts_of (conn_of event) past) event (outcome_of net past event) + length conn.path + one_if (is_some (visited conn event))
+-- each hop of the path and the port that it came to. An event of a connection that the net doesn't have looks nothing up.
+abbrev pub looks_at : Topology → Past → Event → (c : ℕ) → Option Conn → ℕ
+looks_at net past event c None = 0
+looks_at net past event c (Some conn) =
+    1 + looks_to_happen conn (facts_of c past) event (outcome_of net past event) + length conn.path + one_if (is_some (visited conn event))
+
+-- An event of no connection looks nothing up.
+abbrev pub looks_by : Topology → Past → Event → Option ℕ → ℕ
+looks_by net past event None = 0
+looks_by net past event (Some c) = looks_at net past event c (conn_at net c)
 
 abbrev pub looks_of : Topology → Past → Event → ℕ
-looks_of net past event = looks_at net past event (conn_at net (conn_of event))
+looks_of net past event = looks_by net past event (conn_of event)

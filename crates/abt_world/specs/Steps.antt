@@ -15,7 +15,7 @@ use Rattle.abt_model.specs.Events.{AsksRate}
 use Rattle.abt_model.specs.Past.{Past, facts_of}
 use Rattle.abt_log.specs.Index.{Index, index_of}
 use Rattle.abt_actor.specs.Actor.{ActorView, actor_of}
-use Rattle.abt_model.specs.Outcomes.{conn_of, outcome_of, facts_added, after_event}
+use Rattle.abt_model.specs.Outcomes.{outcome_of, facts_added, after_event}
 use Rattle.abt_model.specs.Run.{facts_after}
 use Rattle.abt_model.specs.PortTable.{port_table}
 
@@ -32,10 +32,10 @@ pub record IsConnAt (net : Topology) (past : Past) (c : ℕ) (conn : Conn) (fact
 abbrev pub ArePorts : Topology → Past → List Table → Type 0
 ArePorts net past ports = (p : ℕ) → slice_get ports p ≡ option_map (λ (_ : ℕ). port_table net past p) (slice_get net.capacities p)
 
--- what an event answers and adds
-pub record Happens (net : Topology) (past : Past) (event : Event) (outcome : Outcome) (added : List Fact) : Type 0 where
+-- what an event of connection c answers and adds
+pub record Happens (net : Topology) (past : Past) (c : ℕ) (event : Event) (outcome : Outcome) (added : List Fact) : Type 0 where
   pub answer : outcome ≡ outcome_of net past event
-  pub adds : added ≡ facts_added (facts_of (conn_of event) past) event outcome
+  pub adds : added ≡ facts_added (facts_of c past) event outcome
 
 -- the port at a hop of a path, if it has so many
 abbrev pub port_at : List ℕ → ℕ → Option ℕ
@@ -55,9 +55,9 @@ abbrev pub unless : Option Cause → Outcome → Outcome
 unless None outcome = outcome
 unless (Some cause) outcome = NotEnabled cause
 
--- what an event leaves of the course of its connection and of the ports
-pub record Leaves (net : Topology) (past : Past) (event : Event) (conn : Conn) (outcome : Outcome) (actor : ActorView) (index : Index) (ports : List Table) : Type 0 where
+-- what an event of connection c leaves of its course and of the ports
+pub record Leaves (net : Topology) (past : Past) (c : ℕ) (event : Event) (conn : Conn) (outcome : Outcome) (actor : ActorView) (index : Index) (ports : List Table) : Type 0 where
   pub answer : outcome ≡ outcome_of net past event
-  pub index_is : index ≡ index_of (facts_of (conn_of event) (after_event net past event))
-  pub actor_is : actor ≡ actor_of conn.vc (facts_of (conn_of event) (after_event net past event))
+  pub index_is : index ≡ index_of (facts_of c (after_event net past event))
+  pub actor_is : actor ≡ actor_of conn.vc (facts_of c (after_event net past event))
   pub tables : ArePorts net (after_event net past event) ports

@@ -81,7 +81,7 @@ pub(crate) fn arrive(
     ensures outcome { (net : Topology) (past : Past) (facts : List FactSpec) → IsLogOf facts log.now →
         IsConnAt net past place conn.now facts →
         ArePorts net past ports.old → emitted ≡ emitted_of facts →
-        Happens net past (Arrive place cell at) result.0 (facts_in result.1)
+        Happens net past place (Arrive place cell at) result.0 (facts_in result.1)
         × ArePorts net (after_event net past (Arrive place cell at)) ports.new }
     ensures touches { Touches (steps.port_at conn.now.path 1) conn.now.vc ports.old ports.new }
     ensures looks { looks.new ≤ looks.old + 3 }

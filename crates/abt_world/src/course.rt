@@ -1,5 +1,5 @@
 //! The course of one connection.
-ghost use Rattle.std.specs.Prelude.{◌≡◌, ◌+◌, ◌≤◌, List, MatchResult, OnOk, OnErr};
+ghost use Rattle.std.specs.Prelude.{◌≡◌, ℕ, ◌+◌, ◌≤◌, List, Some, MatchResult, OnOk, OnErr};
 ghost use Rattle.abt_actor.specs.Actor.{actor_of};
 ghost use Rattle.abt_actor.specs.Facts.{facts_in};
 ghost use Rattle.abt_facts.specs.declared.fact.Fact.{Fact as FactSpec};
@@ -54,18 +54,18 @@ impl Course {
         event: &Event,
         looks: &mut Looks,
     ) -> Result<Outcome, AllocError>
-        ensures outcome { (net : Topology) (past : Past) (facts : List FactSpec) → IsLogOf facts self.old.log →
-            AsksRate event.now → IsConnAt net past (conn_of event.now) conn.now facts → ArePorts net past ports.old →
+        ensures outcome { (net : Topology) (past : Past) (c : ℕ) (facts : List FactSpec) → IsLogOf facts self.old.log →
+            AsksRate event.now → conn_of event.now ≡ Some c → IsConnAt net past c conn.now facts → ArePorts net past ports.old →
             self.old.actor ≡ actor_of conn.now.vc facts → MatchResult result
-            (λ outcome. Leaves net past event.now conn.now outcome self.new.actor self.new.log.index ports.new)
+            (λ outcome. Leaves net past c event.now conn.now outcome self.new.actor self.new.log.index ports.new)
             (λ _. (self.new.actor ≡ self.old.actor) × (self.new.log.index ≡ self.old.log.index) × (ports.new ≡ ports.old)) }
         ensures memory { OnErr result ((self.new.actor ≡ self.old.actor) × (self.new.log.index ≡ self.old.log.index) × (ports.new ≡ ports.old)) }
         ensures touches { OnOk result (Touches (visited conn.now event.now) conn.now.vc ports.old ports.new) }
         ensures looks { looks.new ≤ looks.old + 7 }
-        ensures counted { (net : Topology) (past : Past) (facts : List FactSpec) → IsLogOf facts self.old.log →
-            AsksRate event.now → IsConnAt net past (conn_of event.now) conn.now facts → ArePorts net past ports.old →
+        ensures counted { (net : Topology) (past : Past) (c : ℕ) (facts : List FactSpec) → IsLogOf facts self.old.log →
+            AsksRate event.now → conn_of event.now ≡ Some c → IsConnAt net past c conn.now facts → ArePorts net past ports.old →
             self.old.actor ≡ actor_of conn.now.vc facts → looks.old + 7 ≤ u64.MAX → OnOk result (looks.new
-            ≡ looks.old + looks_to_happen conn.now (facts_of (conn_of event.now) past) event.now (outcome_of net past event.now)) }
+            ≡ looks.old + looks_to_happen conn.now (facts_of c past) event.now (outcome_of net past event.now)) }
     {
         self.log.reserve()?;
         let (outcome, added) = happen(conn, &self.log, &mut self.actor, ports, event, looks);

@@ -1,5 +1,5 @@
 //! What one event does to its connection.
-ghost use Rattle.std.specs.Prelude.{◌≡◌, ◌+◌, ◌≤◌, ◌++◌, List, length};
+ghost use Rattle.std.specs.Prelude.{◌≡◌, ℕ, ◌+◌, ◌<◌, ◌≤◌, ◌++◌, List, length, Some, IfSome, IsNone};
 ghost use Rattle.abt_actor.specs.Actor.{actor_of};
 ghost use Rattle.abt_actor.specs.Facts.{facts_in};
 ghost use Rattle.abt_facts.specs.Cells.{emitted_of};
@@ -34,6 +34,19 @@ pub(crate) fn asks_rate(event: &Event)
     }
 }
 
+// The place of an event's connection, if it is of one of these.
+pub(crate) fn place_of(event: &Event, conns: &[Conn]) -> Option<usize>
+    ensures some { IfSome result (λ place. (conn_of event.now ≡ Some place) × (place < length conns.now)) }
+    ensures none { IsNone result → (c : ℕ) → conn_of event.now ≡ Some c → length conns.now ≤ c }
+{
+    let place = usize::from(event.conn()?);
+    if place < conns.len() {
+        Some(place)
+    } else {
+        None
+    }
+}
+
 // The port that an event of a connection comes to, if it comes to one.
 pub(crate) fn visited(conn: &Conn, event: &Event) -> Option<u16>
     ensures { result ≡ touches.visited conn.now event.now }
@@ -55,7 +68,7 @@ fn at_source(
 ) -> (Outcome, Added)
     ensures outcome { (net : Topology) (past : Past) (facts : List FactSpec) → IsLogOf facts log.now →
         IsConnAt net past place conn.now facts → actor.old ≡ actor_of conn.now.vc facts →
-        Happens net past (event_at_source place event.now) result.0 (facts_in result.1)
+        Happens net past place (event_at_source place event.now) result.0 (facts_in result.1)
         × (actor.new ≡ actor_of conn.now.vc (facts_in result.1 ++ facts)) }
     ensures looks { looks.new ≤ looks.old + 2 }
     ensures counted { (net : Topology) (past : Past) (facts : List FactSpec) → IsLogOf facts log.now →
@@ -84,7 +97,7 @@ fn at_hop(
 ) -> (Outcome, Added)
     ensures outcome { (net : Topology) (past : Past) (facts : List FactSpec) → IsLogOf facts log.now →
         IsConnAt net past place conn.now facts → ArePorts net past ports.old → emitted ≡ emitted_of facts →
-        Happens net past (event_at_hop place event.now) result.0 (facts_in result.1)
+        Happens net past place (event_at_hop place event.now) result.0 (facts_in result.1)
         × ArePorts net (after_event net past (event_at_hop place event.now)) ports.new }
     ensures touches { Touches (steps.port_at conn.now.path (hop_met_by event.now)) conn.now.vc ports.old ports.new }
     ensures looks { looks.new ≤ looks.old + 3 }
@@ -111,15 +124,15 @@ pub(crate) fn happen(
     event: &Event,
     looks: &mut Looks,
 ) -> (Outcome, Added)
-    ensures outcome { (net : Topology) (past : Past) (facts : List FactSpec) → IsLogOf facts log.now →
-        AsksRate event.now → IsConnAt net past (conn_of event.now) conn.now facts → ArePorts net past ports.old →
+    ensures outcome { (net : Topology) (past : Past) (c : ℕ) (facts : List FactSpec) → IsLogOf facts log.now →
+        AsksRate event.now → conn_of event.now ≡ Some c → IsConnAt net past c conn.now facts → ArePorts net past ports.old →
         actor.old ≡ actor_of conn.now.vc facts →
-        Happens net past event.now result.0 (facts_in result.1) × ArePorts net (after_event net past event.now) ports.new
+        Happens net past c event.now result.0 (facts_in result.1) × ArePorts net (after_event net past event.now) ports.new
         × (actor.new ≡ actor_of conn.now.vc (facts_in result.1 ++ facts)) }
     ensures touches { Touches (touches.visited conn.now event.now) conn.now.vc ports.old ports.new }
     ensures looks { looks.new ≤ looks.old + 3 }
-    ensures counted { (net : Topology) (past : Past) (facts : List FactSpec) → IsLogOf facts log.now →
-        IsConnAt net past (conn_of event.now) conn.now facts → ArePorts net past ports.old →
+    ensures counted { (net : Topology) (past : Past) (c : ℕ) (facts : List FactSpec) → IsLogOf facts log.now →
+        conn_of event.now ≡ Some c → IsConnAt net past c conn.now facts → ArePorts net past ports.old →
         actor.old ≡ actor_of conn.now.vc facts → looks.old + 3 ≤ u64.MAX →
         looks.new ≡ looks.old + looks_to_take (length conn.now.path) event.now result.0 }
 {

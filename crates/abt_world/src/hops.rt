@@ -120,7 +120,7 @@ pub(crate) fn request(
     ensures outcome { (net : Topology) (past : Past) (facts : List FactSpec) → IsLogOf facts log.now →
         IsConnAt net past place conn.now facts →
         ArePorts net past ports.old →
-        Happens net past (event.Request place hop seq) result.0 (facts_in result.1)
+        Happens net past place (event.Request place hop seq) result.0 (facts_in result.1)
         × ArePorts net (outcomes.after_event net past (event.Request place hop seq)) ports.new }
     ensures touches { Touches (steps.port_at conn.now.path hop) conn.now.vc ports.old ports.new }
     ensures looks { looks.new ≤ looks.old + 3 }
@@ -160,7 +160,7 @@ pub(crate) fn answer(
     ensures outcome { (net : Topology) (past : Past) (facts : List FactSpec) → IsLogOf facts log.now →
         IsConnAt net past place conn.now facts →
         ArePorts net past ports.old →
-        Happens net past (event.Answer place hop seq granted) result.0 (facts_in result.1)
+        Happens net past place (event.Answer place hop seq granted) result.0 (facts_in result.1)
         × ArePorts net (outcomes.after_event net past (event.Answer place hop seq granted)) ports.new }
     ensures touches { Touches (steps.port_at conn.now.path hop) conn.now.vc ports.old ports.new }
     ensures looks { looks.new ≤ looks.old + 3 }

@@ -59,7 +59,7 @@ pub(crate) fn turn(
 ) -> (Outcome, Added)
     ensures outcome { (net : Topology) (past : Past) (facts : List FactSpec) → IsLogOf facts log.now →
         IsConnAt net past place conn.now facts →
-        Happens net past (Turn place seq) result.0 (facts_in result.1) }
+        Happens net past place (Turn place seq) result.0 (facts_in result.1) }
     ensures looks { looks.new ≤ looks.old + 1 }
     ensures counted { looks.old + 1 ≤ u64.MAX → looks.new ≡ looks.old + 1 }
 {
@@ -96,7 +96,7 @@ pub(crate) fn told(
     ensures outcome { (net : Topology) (past : Past) (facts : List FactSpec) → IsLogOf facts log.now →
         IsConnAt net past place conn.now facts →
         actor.old ≡ actor_of conn.now.vc facts →
-        Happens net past (Told place seq granted) result.0 (facts_in result.1)
+        Happens net past place (Told place seq granted) result.0 (facts_in result.1)
         × (actor.new ≡ actor_of conn.now.vc (facts_in result.1 ++ facts)) }
     ensures looks { looks.new ≤ looks.old + 2 }
     ensures counted { (net : Topology) (past : Past) (facts : List FactSpec) → IsLogOf facts log.now →

@@ -15,7 +15,7 @@ ghost use Rattle.abt_world.specs.Standing.{StandsFor};
 use crate::course::Course;
 use crate::ends::{held_of, rates_of, totals_of};
 use crate::fresh::{fresh_courses, opening_ports};
-use crate::happen::{asks_rate, visited};
+use crate::happen::{asks_rate, place_of, visited};
 use crate::hops::port_at;
 use crate::safety::{counted_marks, marks};
 use abt_list::Sequence;
@@ -101,12 +101,11 @@ impl<'net> World<'net> {
         ensures same { OnErr result (self.new ≡ self.old) }
     {
         asks_rate(event);
-        let place = usize::from(event.conn());
         let net = self.net;
-        if place >= net.conns().len() {
+        let Some(place) = place_of(event, net.conns()) else {
             self.looks = 0;
             return Ok(Outcome::NotEnabled(Cause::Unknown));
-        }
+        };
         let mut looks = Looks::new();
         let conn = &net.conns()[place];
         let course = &mut self.courses[looks.counting(place)];

@@ -20,7 +20,7 @@ use Rattle.abt_model.specs.declared.outcome.Outcome.{Outcome}
 use Rattle.abt_model.specs.declared.outcome.Outcome.TheVariants.{Started, Asked, AskRefused, Crashed, Emitted, Arrived, Requested, Turned, Answered, Told as HasTold}
 use Rattle.abt_model.specs.Outcomes.{conn_of, outcome_of, facts_added, after_event, request_adds, answer_adds}
 use Rattle.abt_model.specs.Past.{facts_of}
-use Rattle.abt_model.proofs.Worlds.{facts_of-own, facts_of-other}
+use Rattle.abt_model.proofs.Worlds.{conn_cases, facts_of-own, facts_of-other}
 use Rattle.abt_source_journal.specs.declared.entry.SourceEntry.{SourceEntry}
 use Rattle.abt_source_journal.specs.declared.entry.SourceEntry.TheVariants.{Sent}
 use Rattle.abt_woven.specs.Projections.{is_enabled, past_of, entry_of, entry_made, place_at_first, entry_at, entries_on}
@@ -31,13 +31,16 @@ abbrev as_list : Option SourceEntry → List SourceEntry
 as_list None = []
 as_list (Some entry) = entry ∷ []
 
-reversed : (d c : ℕ) (entries : List SourceEntry) → d ≡ c → (o : Option SourceEntry) → reverse (entries ++ entry_at d c o) ≡ as_list o ++ reverse entries
-reversed d c entries same None = ap (λ (l : List SourceEntry). reverse l) (append-nil entries)
-reversed d c entries same (Some x) = ap (λ (l : List SourceEntry). reverse (entries ++ l)) (cond-true _ _ _ (eq-eqb d c same)) ∙ reverse-append entries (x ∷ [])
+reversed : (own : Option ℕ) (c : ℕ) (entries : List SourceEntry) → own ≡ Some c → (o : Option SourceEntry) → reverse (entries ++ entry_at own c o) ≡ as_list o ++ reverse entries
+reversed own c entries same None = ap (λ (l : List SourceEntry). reverse l) (append-nil entries)
+reversed own c entries same (Some x) =
+    ap (λ (d : Option ℕ). reverse (entries ++ entry_at d c (Some x))) same
+    ∙ ap (λ (l : List SourceEntry). reverse (entries ++ l)) (cond-true _ _ _ (eq-eqb c c refl)) ∙ reverse-append entries (x ∷ [])
 
-pub other_same : (d c : ℕ) (entries : List SourceEntry) → d ≢ c → (o : Option SourceEntry) → entries ++ entry_at d c o ≡ entries
-other_same d c entries differ None = append-nil entries
-other_same d c entries differ (Some x) = ap (λ (l : List SourceEntry). entries ++ l) (cond-false _ _ _ (ne_eqb d c differ)) ∙ append-nil entries
+pub other_same : (own : Option ℕ) (c : ℕ) (entries : List SourceEntry) → own ≢ Some c → (o : Option SourceEntry) → entries ++ entry_at own c o ≡ entries
+other_same own c entries differ None = append-nil entries
+other_same None c entries differ (Some x) = append-nil entries
+other_same (Some d) c entries differ (Some x) = ap (λ (l : List SourceEntry). entries ++ l) (cond-false _ _ _ (ne_eqb d c (λ same. differ (ap Some same)))) ∙ append-nil entries
 
 -- where facts and entries say the same floors, they do so after what an event adds
 floor_sent : (b : Bool) (place : ℕ) (entries : List SourceEntry) (s : ℕ) → floor_in entries s ≡ floor_in (as_list (if b then Some (Sent place) else None) ++ entries) s
@@ -77,11 +80,9 @@ floor_alike facts entries place s h event outcome = h
 -- the floor of a number by the facts of a connection is that by its source's projection
 pub floor_told : (net : Topology) (c s : ℕ) (earlier : List Event) → floor_of (facts_of c (past_of net earlier)) s ≡ floor_in (reverse (entries_on net c earlier)) s
 floor_told net c s [] = refl
-floor_told net c s (event ∷ earlier) = elim (cases_eq (conn_of event) c) [
+floor_told net c s (event ∷ earlier) = elim (conn_cases event c) [
   | inl same ↦ (
-      let is : (d : ℕ) → conn_of event ≡ d → facts_of d (after_event net (past_of net earlier) event) ≡ facts_added (facts_of d (past_of net earlier)) event (outcome_of net (past_of net earlier) event) ++ facts_of d (past_of net earlier)
-      = λ d e. subst (λ d. facts_of d (after_event net (past_of net earlier) event) ≡ facts_added (facts_of d (past_of net earlier)) event (outcome_of net (past_of net earlier) event) ++ facts_of d (past_of net earlier)) e (facts_of-own net (past_of net earlier) event) in
-      ap (λ (l : List Fact). floor_of l s) (is c same)
+      ap (λ (l : List Fact). floor_of l s) (facts_of-own net (past_of net earlier) event c same)
       ∙ floor_alike (facts_of c (past_of net earlier)) (reverse (entries_on net c earlier)) (place_at_first net earlier event) s (floor_told net c s earlier) event (outcome_of net (past_of net earlier) event)
       ∙ ap (λ (l : List SourceEntry). floor_in l s) (sym (reversed (conn_of event) c (entries_on net c earlier) same (entry_made net earlier event))))
   | inr differ ↦
@@ -128,11 +129,9 @@ ask_alike facts entries place s h event outcome = h
 -- the ask of a number by the facts of a connection is that by its source's projection
 pub ask_told : (net : Topology) (c s : ℕ) (earlier : List Event) → ask_of (facts_of c (past_of net earlier)) s ≡ ask_in (reverse (entries_on net c earlier)) s
 ask_told net c s [] = refl
-ask_told net c s (event ∷ earlier) = elim (cases_eq (conn_of event) c) [
+ask_told net c s (event ∷ earlier) = elim (conn_cases event c) [
   | inl same ↦ (
-      let is : (d : ℕ) → conn_of event ≡ d → facts_of d (after_event net (past_of net earlier) event) ≡ facts_added (facts_of d (past_of net earlier)) event (outcome_of net (past_of net earlier) event) ++ facts_of d (past_of net earlier)
-      = λ d e. subst (λ d. facts_of d (after_event net (past_of net earlier) event) ≡ facts_added (facts_of d (past_of net earlier)) event (outcome_of net (past_of net earlier) event) ++ facts_of d (past_of net earlier)) e (facts_of-own net (past_of net earlier) event) in
-      ap (λ (l : List Fact). ask_of l s) (is c same)
+      ap (λ (l : List Fact). ask_of l s) (facts_of-own net (past_of net earlier) event c same)
       ∙ ask_alike (facts_of c (past_of net earlier)) (reverse (entries_on net c earlier)) (place_at_first net earlier event) s (ask_told net c s earlier) event (outcome_of net (past_of net earlier) event)
       ∙ ap (λ (l : List SourceEntry). ask_in l s) (sym (reversed (conn_of event) c (entries_on net c earlier) same (entry_made net earlier event))))
   | inr differ ↦

@@ -8,7 +8,7 @@ use Rattle.abt_model.specs.declared.outcome.Cause.{Cause}
 use Rattle.abt_model.specs.declared.outcome.Outcome.{Outcome}
 use Rattle.abt_model.specs.declared.outcome.Outcome.TheVariants.{NotEnabled}
 use Rattle.abt_facts.specs.declared.fact.Fact.{Fact}
-use Rattle.abt_model.specs.Outcomes.{conn_of, outcome_of, facts_added, after_event}
+use Rattle.abt_model.specs.Outcomes.{conn_of, outcome_of, past_by, after_event}
 use Rattle.abt_model.specs.Past.{Past, facts_of, with_facts}
 use Rattle.abt_model.proofs.Steps.{down_adds}
 use Rattle.abt_source_journal.specs.declared.entry.SourceEntry.{SourceEntry}
@@ -16,11 +16,13 @@ use Rattle.abt_woven.specs.Projections.{Step, Visit, past_of, visit, step_at, st
 use Rattle.abt_woven.specs.Stuck.{Journaled, port_journal, source_journal, next_step, next_entry, step_next, Fits, ArePlaced, IsBeginning}
 use Rattle.abt_woven.proofs.Beginnings.{beginning_more, beginning_nil}
 
+adds_nothing : (past : Past) (event : Event) (cause : Cause) (o : Option ℕ) → past_by past event (NotEnabled cause) o ≡ past
+adds_nothing past event cause None = refl
+adds_nothing past event cause (Some c) = ap (λ (l : List Fact). with_facts c l past) (down_adds (facts_of c past) event cause)
+
 -- what isn't enabled leaves the past
 pub disabled_same : (net : Topology) (past : Past) (event : Event) (cause : Cause) → outcome_of net past event ≡ NotEnabled cause → after_event net past event ≡ past
-disabled_same net past event cause is =
-    ap (λ (o : Outcome). with_facts (conn_of event) (facts_added (facts_of (conn_of event) past) event o) past) is
-    ∙ ap (λ (l : List Fact). with_facts (conn_of event) l past) (down_adds (facts_of (conn_of event) past) event cause)
+disabled_same net past event cause is = ap (λ (o : Outcome). past_by past event o (conn_of event)) is ∙ adds_nothing past event cause (conn_of event)
 
 port_placed : (net : Topology) (journals : Journaled) (earlier : List Event) (p : ℕ) → IsBeginning (steps_on net p earlier) (port_journal journals p) →
     (o : Option Visit) → ((v : Visit) → o ≡ Some v → next_step net journals earlier v.port ≡ Some (step_next net earlier v)) →
@@ -36,14 +38,15 @@ port_placed net journals earlier p begins (Some v) fits = elim (cases_eq v.port 
       (beginning_nil (steps_on net p earlier) (port_journal journals p) begins)
 ]
 
-source_placed : (net : Topology) (journals : Journaled) (earlier : List Event) (d c : ℕ) → IsBeginning (entries_on net c earlier) (source_journal journals c) →
-    (o : Option SourceEntry) → ((x : SourceEntry) → o ≡ Some x → next_entry net journals earlier d ≡ Some x) →
-    IsBeginning (entries_on net c earlier ++ entry_at d c o) (source_journal journals c)
-source_placed net journals earlier d c begins None fits = beginning_nil (entries_on net c earlier) (source_journal journals c) begins
-source_placed net journals earlier d c begins (Some x) fits = elim (cases_eq d c) [
+source_placed : (net : Topology) (journals : Journaled) (earlier : List Event) (own : Option ℕ) (c : ℕ) → IsBeginning (entries_on net c earlier) (source_journal journals c) →
+    (o : Option SourceEntry) → ((d : ℕ) (x : SourceEntry) → own ≡ Some d → o ≡ Some x → next_entry net journals earlier d ≡ Some x) →
+    IsBeginning (entries_on net c earlier ++ entry_at own c o) (source_journal journals c)
+source_placed net journals earlier own c begins None fits = beginning_nil (entries_on net c earlier) (source_journal journals c) begins
+source_placed net journals earlier None c begins (Some x) fits = beginning_nil (entries_on net c earlier) (source_journal journals c) begins
+source_placed net journals earlier (Some d) c begins (Some x) fits = elim (cases_eq d c) [
   | inl same ↦
       subst (λ (l : List SourceEntry). IsBeginning (entries_on net c earlier ++ l) (source_journal journals c)) (sym (cond-true _ _ _ (eq-eqb d c same)))
-      (beginning_more (entries_on net c earlier) (source_journal journals c) x begins (subst (λ q. next_entry net journals earlier q ≡ Some x) same (fits x refl)))
+      (beginning_more (entries_on net c earlier) (source_journal journals c) x begins (subst (λ q. next_entry net journals earlier q ≡ Some x) same (fits d x refl refl)))
   | inr differ ↦ subst (λ (l : List SourceEntry). IsBeginning (entries_on net c earlier ++ l) (source_journal journals c)) (sym (cond-false _ _ _ (ne_eqb d c differ)))
       (beginning_nil (entries_on net c earlier) (source_journal journals c) begins)
 ]

@@ -20,7 +20,7 @@ use Rattle.abt_model.specs.Answers.{start_answer, ask_answer, again_answer, if_u
 use Rattle.abt_model.specs.Decision.{answer_decision}
 use Rattle.abt_cell.specs.Message.{answer_to}
 use Rattle.abt_source.specs.SourceFacts.{request_of}
-use Rattle.abt_model.specs.Outcomes.{conn_of, port_of, outcome_at, outcome_of, facts_added, after_event}
+use Rattle.abt_model.specs.Outcomes.{conn_of, port_of, outcome_at, outcome_by, outcome_of, facts_added, after_event}
 use Rattle.abt_model.specs.Past.{Past, facts_of, with_facts}
 use Rattle.abt_model.specs.Reserved.{held_on, reserved_on}
 use Rattle.abt_model.proofs.Sums.{numbered_same}
@@ -89,40 +89,59 @@ reserved_turned net c t past p =
     (λ d conn low. blind (λ (facts : List Fact). held_on facts conn.path p) (λ s facts. refl) d c t past)
 
 -- the outcome after a past, where an answer was sent or not as is said
-abbrev pub outcome_at_if : Bool → Topology → Past → Option Conn → Event → Outcome
-outcome_at_if sent net past None event = NotEnabled Unknown
-outcome_at_if sent net past (Some conn) event =
+abbrev pub outcome_at_if : Bool → Topology → Past → (d : ℕ) → Option Conn → Event → Outcome
+outcome_at_if sent net past d None event = NotEnabled Unknown
+outcome_at_if sent net past d (Some conn) event =
     let port = port_of conn.path event in
-    answer_if sent conn (reserved_on net past port) (slice_index net.capacities port) (facts_of (conn_of event) past) event
+    answer_if sent conn (reserved_on net past port) (slice_index net.capacities port) (facts_of d past) event
+
+abbrev pub outcome_by_if : Bool → Topology → Past → Event → Option ℕ → Outcome
+outcome_by_if sent net past event None = NotEnabled Unknown
+outcome_by_if sent net past event (Some d) = outcome_at_if sent net past d (conn_at net d) event
 
 abbrev pub outcome_if : Bool → Topology → Past → Event → Outcome
-outcome_if sent net past event = outcome_at_if sent net past (conn_at net (conn_of event)) event
+outcome_if sent net past event = outcome_by_if sent net past event (conn_of event)
 
-abbrev pub sent_at : Past → Option Conn → Event → Bool
-sent_at past None event = true
-sent_at past (Some conn) event = was_sent conn (facts_of (conn_of event) past) event
+abbrev pub sent_at : Past → (d : ℕ) → Option Conn → Event → Bool
+sent_at past d None event = true
+sent_at past d (Some conn) event = was_sent conn (facts_of d past) event
+
+abbrev pub sent_by : Topology → Past → Event → Option ℕ → Bool
+sent_by net past event None = true
+sent_by net past event (Some d) = sent_at past d (conn_at net d) event
 
 abbrev pub is_sent : Topology → Past → Event → Bool
-is_sent net past event = sent_at past (conn_at net (conn_of event)) event
+is_sent net past event = sent_by net past event (conn_of event)
 
-outcome_at-if : (net : Topology) (past : Past) (event : Event) (o : Option Conn) → outcome_at net past o event ≡ outcome_at_if (sent_at past o event) net past o event
-outcome_at-if net past event None = refl
-outcome_at-if net past event (Some conn) = by_sent conn (reserved_on net past (port_of conn.path event)) (slice_index net.capacities (port_of conn.path event)) (facts_of (conn_of event) past) event
+outcome_at-if : (net : Topology) (past : Past) (event : Event) (d : ℕ) (o : Option Conn) → outcome_at net past d o event ≡ outcome_at_if (sent_at past d o event) net past d o event
+outcome_at-if net past event d None = refl
+outcome_at-if net past event d (Some conn) = by_sent conn (reserved_on net past (port_of conn.path event)) (slice_index net.capacities (port_of conn.path event)) (facts_of d past) event
+
+outcome_by-if : (net : Topology) (past : Past) (event : Event) (o : Option ℕ) → outcome_by net past event o ≡ outcome_by_if (sent_by net past event o) net past event o
+outcome_by-if net past event None = refl
+outcome_by-if net past event (Some d) = outcome_at-if net past event d (conn_at net d)
 
 pub outcome-if : (net : Topology) (past : Past) (event : Event) → outcome_of net past event ≡ outcome_if (is_sent net past event) net past event
-outcome-if net past event = outcome_at-if net past event (conn_at net (conn_of event))
+outcome-if net past event = outcome_by-if net past event (conn_of event)
 
-outcome_at_if-turned : (sent : Bool) (net : Topology) (c t : ℕ) (past : Past) (event : Event) (o : Option Conn) →
-    outcome_at_if sent net (turned c t past) o event ≡ outcome_at_if sent net past o event
-outcome_at_if-turned sent net c t past event None = refl
-outcome_at_if-turned sent net c t past event (Some conn) =
+outcome_at_if-turned : (sent : Bool) (net : Topology) (c t : ℕ) (past : Past) (event : Event) (d : ℕ) (o : Option Conn) →
+    outcome_at_if sent net (turned c t past) d o event ≡ outcome_at_if sent net past d o event
+outcome_at_if-turned sent net c t past event d None = refl
+outcome_at_if-turned sent net c t past event d (Some conn) =
     let port = port_of conn.path event in
-    ap (λ (r : ℕ). answer_if sent conn r (slice_index net.capacities port) (facts_of (conn_of event) (turned c t past)) event) (reserved_turned net c t past port)
+    ap (λ (r : ℕ). answer_if sent conn r (slice_index net.capacities port) (facts_of d (turned c t past)) event) (reserved_turned net c t past port)
     ∙ blind (λ (facts : List Fact). answer_if sent conn (reserved_on net past port) (slice_index net.capacities port) facts event)
-    (λ s facts. answer_if-turned sent conn (reserved_on net past port) (slice_index net.capacities port) s facts event) (conn_of event) c t past
+    (λ s facts. answer_if-turned sent conn (reserved_on net past port) (slice_index net.capacities port) s facts event) d c t past
+
+outcome_by_if-turned : (sent : Bool) (net : Topology) (c t : ℕ) (past : Past) (event : Event) (o : Option ℕ) → outcome_by_if sent net (turned c t past) event o ≡ outcome_by_if sent net past event o
+outcome_by_if-turned sent net c t past event None = refl
+outcome_by_if-turned sent net c t past event (Some d) = outcome_at_if-turned sent net c t past event d (conn_at net d)
 
 pub outcome_if-turned : (sent : Bool) (net : Topology) (c t : ℕ) (past : Past) (event : Event) → outcome_if sent net (turned c t past) event ≡ outcome_if sent net past event
-outcome_if-turned sent net c t past event = outcome_at_if-turned sent net c t past event (conn_at net (conn_of event))
+outcome_if-turned sent net c t past event = outcome_by_if-turned sent net c t past event (conn_of event)
+
+some_is : (e d : ℕ) → Some e ≡ Some d → e ≡ d
+some_is e d same = cc
 
 -- the event is the yes at the last hop that this Turn makes
 pub record IsYesOf (net : Topology) (c t : ℕ) (event : Event) : Type 0 where
@@ -156,16 +175,22 @@ answer_turned net c t d hop seq past conn known = elim (cases_eq c d) [
   | inr differ ↦ inl (ap (λ (l : List Fact). answer_is_at (length conn.path) l seq hop true) (cond-false _ _ _ (ne_eqb c d differ)))
 ]
 
-sent_turned : (net : Topology) (c t : ℕ) (past : Past) (event : Event) (o : Option Conn) → conn_at net (conn_of event) ≡ o →
-    (sent_at (turned c t past) o event ≡ sent_at past o event) ⊎ IsYesOf net c t event
-sent_turned net c t past event None known = inl refl
-sent_turned net c t past (Answer d hop seq true) (Some conn) known = answer_turned net c t d hop seq past conn known
-sent_turned net c t past (Answer d hop seq false) (Some conn) known = inl (blind (λ (facts : List Fact). answer_is_at (length conn.path) facts seq hop false) (λ s facts. refl) d c t past)
-sent_turned net c t past other (Some conn) known = inl refl
+sent_turned : (net : Topology) (c t : ℕ) (past : Past) (event : Event) (d : ℕ) (o : Option Conn) → conn_of event ≡ Some d → conn_at net d ≡ o →
+    (sent_at (turned c t past) d o event ≡ sent_at past d o event) ⊎ IsYesOf net c t event
+sent_turned net c t past event d None own known = inl refl
+sent_turned net c t past (Answer e hop seq true) d (Some conn) own known =
+    let same : e ≡ d = some_is e d own in
+    elim (answer_turned net c t d hop seq past conn known) [ inl alike ↦ inl alike | inr its ↦ inr (subst (λ n. IsYesOf net c t (Answer n hop seq true)) (sym same) its) ]
+sent_turned net c t past (Answer e hop seq false) d (Some conn) own known = inl (blind (λ (facts : List Fact). answer_is_at (length conn.path) facts seq hop false) (λ s facts. refl) d c t past)
+sent_turned net c t past other d (Some conn) own known = inl refl
+
+sent_by_turned : (net : Topology) (c t : ℕ) (past : Past) (event : Event) (o : Option ℕ) → conn_of event ≡ o → (sent_by net (turned c t past) event o ≡ sent_by net past event o) ⊎ IsYesOf net c t event
+sent_by_turned net c t past event None own = inl refl
+sent_by_turned net c t past event (Some d) own = sent_turned net c t past event d (conn_at net d) own refl
 
 -- whether an answer was sent stays after a Turn, or it is its yes
 is_sent-turned : (net : Topology) (c t : ℕ) (past : Past) (event : Event) → (is_sent net (turned c t past) event ≡ is_sent net past event) ⊎ IsYesOf net c t event
-is_sent-turned net c t past event = sent_turned net c t past event (conn_at net (conn_of event)) refl
+is_sent-turned net c t past event = sent_by_turned net c t past event (conn_of event) refl
 
 -- the yes of a Turn was sent after it
 yes_sent : (net : Topology) (c t : ℕ) (past : Past) (event : Event) → IsYesOf net c t event → is_sent net (turned c t past) event ≡ true
@@ -173,7 +198,7 @@ yes_sent net c t past event own =
     let hops = length own.conn.path in
     let facts : facts_of c (turned c t past) ≡ FactTurned t ∷ facts_of c past = cond-true _ _ _ (eq-eqb c c refl) in
     ap (λ e. is_sent net (turned c t past) e) own.is
-    ∙ ap (λ (o : Option Conn). sent_at (turned c t past) o (Answer c hops t true)) own.known
+    ∙ ap (λ (o : Option Conn). sent_at (turned c t past) c o (Answer c hops t true)) own.known
     ∙ ap (λ (l : List Fact). answer_is_at hops l t hops true) facts
     ∙ cond-true _ _ _ (eq-eqb hops hops refl)
     ∙ or_left _ _ (eq-eqb t t refl)
@@ -195,7 +220,7 @@ outcome_if-turns sent net earlier (turn ∷ turns) all event =
     ∙ outcome_if-turned sent net all.0.conn all.0.seq (past_of net (turns ++ earlier)) event
     ∙ outcome_if-turns sent net earlier turns all.1 event
 
-turn_sent : (past : Past) (c s : ℕ) (o : Option Conn) → sent_at past o (Turn c s) ≡ true
+turn_sent : (past : Past) (c s : ℕ) (o : Option Conn) → sent_at past c o (Turn c s) ≡ true
 turn_sent past c s None = refl
 turn_sent past c s (Some conn) = refl
 
@@ -263,16 +288,16 @@ outcome_turns net earlier turns all event =
       | inr own ↦ inr (record { own = own.0; same = law true own.1 ∙ sym (own_after net earlier event own.0) })
     ]
 
-turn_visit : (past : Past) (c s : ℕ) (reply : Option PortReply) (o : Option Conn) → visit_by past (Turn c s) reply o ≡ None
-turn_visit past c s reply None = refl
-turn_visit past c s None (Some conn) = refl
-turn_visit past c s (Some reply) (Some conn) = refl
+turn_visit : (facts : List Fact) (c s : ℕ) (reply : Option PortReply) (o : Option Conn) → visit_by (Turn c s) reply facts o ≡ None
+turn_visit facts c s reply None = refl
+turn_visit facts c s None (Some conn) = refl
+turn_visit facts c s (Some reply) (Some conn) = refl
 
 -- a Turn stands in no journal
 pub steps_turn : (net : Topology) (earlier : List Event) (c s p : ℕ) → steps_on net p (Turn c s ∷ earlier) ≡ steps_on net p earlier
 steps_turn net earlier c s p =
     let past = past_of net earlier in
-    ap (λ (o : Option Visit). steps_on net p earlier ++ step_at p (length (steps_on net p earlier)) o) (turn_visit past c s (reply_of (outcome_of net past (Turn c s))) (conn_at net c))
+    ap (λ (o : Option Visit). steps_on net p earlier ++ step_at p (length (steps_on net p earlier)) o) (turn_visit (facts_of c past) c s (reply_of (outcome_of net past (Turn c s))) (conn_at net c))
     ∙ append-nil (steps_on net p earlier)
 
 pub entries_turn : (net : Topology) (earlier : List Event) (c s d : ℕ) → entries_on net d (Turn c s ∷ earlier) ≡ entries_on net d earlier
@@ -306,7 +331,7 @@ own_same net earlier event own enabled =
       | inr it_was_not ↦ (
           let off : is_enabled (outcome_if false net past event) ≡ false =
           ap (λ e. is_enabled (outcome_if false net past e)) own.its.is
-          ∙ ap (λ (o : Option Conn). is_enabled (outcome_at_if false net past o (Answer own.conn (length own.its.conn.path) own.seq true))) own.its.known
+          ∙ ap (λ (o : Option Conn). is_enabled (outcome_at_if false net past own.conn o (Answer own.conn (length own.its.conn.path) own.seq true))) own.its.known
           ∙ unsent_off own.its.conn (facts_of own.conn past) (length own.its.conn.path) own.seq true in
           absurd (false≢true (sym off ∙ sym (ap is_enabled (outcome-if net past event ∙ ap (λ (x : Bool). outcome_if x net past event) it_was_not)) ∙ enabled)))
     ] in
@@ -321,5 +346,5 @@ own_enabled net earlier event own within =
     let hops = length own.its.conn.path in
     ap is_enabled (own_after net earlier event own)
     ∙ ap (λ e. is_enabled (outcome_if true net past e)) own.its.is
-    ∙ ap (λ (o : Option Conn). is_enabled (outcome_at_if true net past o (Answer own.conn hops own.seq true))) own.its.known
+    ∙ ap (λ (o : Option Conn). is_enabled (outcome_at_if true net past own.conn o (Answer own.conn hops own.seq true))) own.its.known
     ∙ ap is_enabled (cond-false _ _ _ (ap not within))

@@ -70,16 +70,22 @@ input_in vc request other = None
 abbrev pub input_of : Channel → List Fact → Event → Option PortInput
 input_of vc facts event = input_in vc (request_of vc facts) (target_of event)
 
-abbrev pub visit_by : Past → Event → Option PortReply → Option Conn → Option Visit
-visit_by past event reply None = None
-visit_by past event None (Some conn) = None
-visit_by past event (Some reply) (Some conn) =
+-- the visit that an event of a connection is, of one with such facts
+abbrev pub visit_by : Event → Option PortReply → List Fact → Option Conn → Option Visit
+visit_by event reply facts None = None
+visit_by event None facts (Some conn) = None
+visit_by event (Some reply) facts (Some conn) =
     option_map (λ (input : PortInput). record { port = slice_index conn.path (hop_visited event - 1); input = input; reply = reply })
-    (input_of conn.vc (facts_of (conn_of event) past) event)
+    (input_of conn.vc facts event)
+
+-- the same of an event of a connection or of none
+abbrev pub visit_of : Topology → Past → Event → Option PortReply → Option ℕ → Option Visit
+visit_of net past event reply None = None
+visit_of net past event reply (Some c) = visit_by event reply (facts_of c past) (conn_at net c)
 
 -- the visit that an event is after a past, if it happens and comes to a port
 abbrev pub visit : Topology → Past → Event → Option Visit
-visit net past event = visit_by past event (reply_of (outcome_of net past event)) (conn_at net (conn_of event))
+visit net past event = visit_of net past event (reply_of (outcome_of net past event)) (conn_of event)
 
 -- whether an event at a source is an answer that it is told, and no command
 abbrev pub is_told_by : SourceEvent → Bool
@@ -122,17 +128,24 @@ abbrev pub first_port : Option Conn → ℕ
 first_port None = 0
 first_port (Some conn) = slice_index conn.path 0
 
+-- the place that a step takes at the first port of the path of its connection, 0 where it is of none
+abbrev pub place_of : Topology → List Event → Option ℕ → ℕ
+place_of net earlier None = 0
+place_of net earlier (Some c) = length (steps_on net (first_port (conn_at net c)) earlier)
+
 -- the place that an event's step takes at the first port of its path
 abbrev pub place_at_first : Topology → List Event → Event → ℕ
-place_at_first net earlier event = length (steps_on net (first_port (conn_at net (conn_of event))) earlier)
+place_at_first net earlier event = place_of net earlier (conn_of event)
 
 -- what an event is to its source after earlier ones
 abbrev pub entry_made : Topology → List Event → Event → Option SourceEntry
 entry_made net earlier event = entry_of (place_at_first net earlier event) event (outcome_of net (past_of net earlier) event)
 
-abbrev pub entry_at : (c d : ℕ) → Option SourceEntry → List SourceEntry
+-- what an entry of the source of a connection, if it is of one, is to source d
+abbrev pub entry_at : Option ℕ → (d : ℕ) → Option SourceEntry → List SourceEntry
 entry_at c d None = []
-entry_at c d (Some entry) = if c == d then entry ∷ [] else []
+entry_at None d (Some entry) = []
+entry_at (Some c) d (Some entry) = if c == d then entry ∷ [] else []
 
 -- the projection of events onto source c: the entries that they are to it, the oldest first
 abbrev pub entries_on : Topology → ℕ → List Event → List SourceEntry

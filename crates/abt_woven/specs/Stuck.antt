@@ -47,7 +47,7 @@ step_next net earlier visit = record { place = length (steps_on net visit.port e
 pub record Fits (net : Topology) (journals : Journaled) (earlier : List Event) (event : Event) : Type 0 where
   pub falls : (visit net (past_of net earlier) event ≢ None) ⊎ (entry_made net earlier event ≢ None)
   pub step : (v : Visit) → visit net (past_of net earlier) event ≡ Some v → next_step net journals earlier v.port ≡ Some (step_next net earlier v)
-  pub entry : (x : SourceEntry) → entry_made net earlier event ≡ Some x → next_entry net journals earlier (conn_of event) ≡ Some x
+  pub entry : (c : ℕ) (x : SourceEntry) → conn_of event ≡ Some c → entry_made net earlier event ≡ Some x → next_entry net journals earlier c ≡ Some x
 
 -- a request that the last hop passed is turned into a yes
 pub record IsTurn (net : Topology) (earlier : List Event) (event : Event) : Type 0 where
@@ -86,14 +86,14 @@ pub record PortMismatches (net : Topology) (journals : Journaled) (earlier : Lis
   pub next : next_step net journals (turns ++ earlier) p ≡ Some step
   pub place : step.place ≡ length (steps_on net p (turns ++ earlier))
   pub input : step.input ≡ visits.input
-  pub beside : (x : SourceEntry) → entry_made net (turns ++ earlier) event ≡ Some x → next_entry net journals (turns ++ earlier) (conn_of event) ≡ Some x
+  pub beside : (c : ℕ) (x : SourceEntry) → conn_of event ≡ Some c → entry_made net (turns ++ earlier) event ≡ Some x → next_entry net journals (turns ++ earlier) c ≡ Some x
 
 -- The next entry of a source mismatches if some event, also after Turns, would be this entry but for the outcome.
 pub record SourceMismatches (net : Topology) (journals : Journaled) (earlier : List Event) (c : ℕ) : Type 0 where
   pub turns : List Event
   pub turned : AreTurns net earlier turns
   pub event : Event
-  pub here : conn_of event ≡ c
+  pub here : conn_of event ≡ Some c
   pub outcome : Outcome
   pub does : entry_made net (turns ++ earlier) event ≡ Some (Did event outcome)
   pub told : Outcome

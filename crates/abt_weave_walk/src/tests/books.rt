@@ -69,7 +69,9 @@ pub fn project(alloc: Global, net: &Net, events: &[Event]) -> Result<Books, Allo
     let mut walk = Walk::new(alloc, net);
     let mut books = blank(alloc, net)?;
     for event in events {
-        let number = event.conn();
+        let Some(number) = event.conn() else {
+            continue;
+        };
         let facts = walk.facts_of(alloc, number)?;
         let outcome = walk.step(alloc, event)?;
         let conn = net.conns().get(usize::from(number));

@@ -88,18 +88,23 @@ impl<'net> Placing<'net> {
     fn parts(&mut self, alloc: Global, event: &Event) -> Result<Parts, AllocError> {
         // Names a type within an outcome, without which the checker can't follow one.
         let _ = Onward::Pass;
-        let conn = event.conn();
-        let facts = self.walk.facts_of(alloc, conn)?;
+        let Some(number) = event.conn() else {
+            return Ok(Parts {
+                visit: None,
+                own: None,
+            });
+        };
+        let facts = self.walk.facts_of(alloc, number)?;
         let before = self.walk.count();
         let outcome = self.walk.step(alloc, event)?;
         self.walk.take_back(before);
         let conns = self.walk.net().conns();
-        let visit = match conns.get(usize::from(conn)) {
+        let visit = match conns.get(usize::from(number)) {
             Some(conn) => visited(conn, &facts, event, &outcome),
             None => None,
         };
         let place = self.place_of(&visit);
-        let own = match conns.get(usize::from(conn)) {
+        let own = match conns.get(usize::from(number)) {
             Some(_) => own(event, &outcome, place),
             None => None,
         };
@@ -135,8 +140,8 @@ impl<'net> Placing<'net> {
     }
 
     // Whether what an event is to its source is the next entry there.
-    fn fits_source(&self, books: &Books, conn: u16, own: Option<SourceEntry>) -> Fit {
-        let Some(own) = own else {
+    fn fits_source(&self, books: &Books, conn: Option<u16>, own: Option<SourceEntry>) -> Fit {
+        let (Some(conn), Some(own)) = (conn, own) else {
             return Fit::Fits;
         };
         let Some(next) = self.next_own(books, conn) else {
@@ -184,8 +189,8 @@ impl<'net> Placing<'net> {
             let _ = matches!(visit.input, PortInput::Arrive { .. });
             one_more(&mut self.ports, visit.port);
         }
-        if own.is_some() {
-            one_more(&mut self.sources, event.conn());
+        if let (Some(conn), Some(_)) = (event.conn(), own) {
+            one_more(&mut self.sources, conn);
         }
         Ok(())
     }

@@ -41,8 +41,7 @@ fn failing_at(
     }
     for event in story.iter().skip(place).take(1) {
         events.push(planned(event, plan))?;
-        if restarts {
-            let conn = event.conn();
+        if let (true, Some(conn)) = (restarts, event.conn()) {
             let now = clock(&walk.facts_of(alloc, conn)?);
             events.push(Event::Crash { conn })?;
             events.push(Event::Start { conn, now })?;

@@ -1,6 +1,5 @@
 use Rattle.std.proofs.Common.{◌≡◌, ◌∙◌, ◌<◌, ℕ, ap, sym, subst, length, reverse, take, Option, Some, None, rules}
 use Rattle.std.proofs.lemmas.List.{length-take-le}
-use Rattle.abt_model.specs.Outcomes.{conn_of}
 use Rattle.abt_weave.specs.Board.{journaled}
 use Rattle.abt_weave.specs.Candidates.{event_by}
 use Rattle.abt_model.specs.declared.event.Event.{Event}
@@ -16,7 +15,7 @@ returns-in_err-stop-clause-only c = λ event comes.
     let net = c.args.given.now.net.now in
     let js = journaled c.args.given.now.ports.now c.args.given.now.sources.now in
     let stop = comes_stop net js (reverse c.args.board.now.events.items) c.args.port c.args.entry.now.place c.args.entry.now.input c.channel_of.result event c.channel_of.ensures comes in
-    let clash = c.in_err-stop.ensures.only (conn_of event) (hop_visited event) stop in
+    let clash = c.in_err-stop.ensures.only comes.c (hop_visited event) stop in
     absurd (cc)
 
 pub bounds-given-c : goal.bounds-given-c
@@ -62,14 +61,14 @@ returns-clause-only c = λ event comes.
     let beside = beside_read net c.args.given.now.ports.now c.args.given.now.sources.now c.args.board.now.events.items c.args.board.now.world c.args.board.now.source_places.items c.args.board.now.port_places.items
     c.from-c.result c.index-given-c.result c.as_slice-entries.result.now c.index-come.result.now c.requires.board here c.index-given-c.is c.as_slice-entries.ensures c.index-come.ensures in
     let stop = comes_stop net js (reverse c.args.board.now.events.items) c.args.port c.args.entry.now.place c.args.entry.now.input c.channel_of.result event c.channel_of.ensures comes in
-    let same = c.in_ok-stop.ensures.only (conn_of event) (hop_visited event) stop in
-    let whose : c.in_ok-stop.stop.conn ≡ conn_of event = ap (λ (s : Stop). s.conn) (some_same same) in
+    let same = c.in_ok-stop.ensures.only comes.c (hop_visited event) stop in
+    let whose : c.in_ok-stop.stop.conn ≡ comes.c = ap (λ (s : Stop). s.conn) (some_same same) in
     let hops : c.in_ok-stop.stop.hop ≡ hop_visited event = ap (λ (s : Stop). s.hop) (some_same same) in
     let is = coming_only net js (reverse c.args.board.now.events.items) c.args.port c.in_ok-stop.stop.conn c.in_ok-stop.stop.hop c.from-c.result c.args.entry.now.place c.args.entry.now.input
-    c.as_slice-entries.result.now c.index-come.result.now event whose hops c.from-c.ensures beside comes in
+    c.as_slice-entries.result.now c.index-come.result.now event comes whose hops c.from-c.ensures beside in
     let found : Some c.in_ok-event.event ≡ Some event = c.in_ok-event.ensures ∙ ap (event_by c.in_ok-stop.stop.conn c.in_ok-stop.stop.hop c.args.entry.now.place c.args.entry.now.input (reverse (take c.index-come.result.now c.as_slice-entries.result.now))) c.entry_at.ensures ∙ is in
     let coming : ℕ → Event → Option Coming = λ n e. Some (record { conn = n; event = e }) in
-    ap (λ n. coming n c.in_ok-event.event) whose ∙ ap (coming (conn_of event)) (some_same found)
+    ap (λ n. coming n c.in_ok-event.event) whose ∙ ap (coming comes.c) (some_same found)
 
 pub returns-in_err-event-clause-only : goal.returns-in_err-event-clause-only
 returns-in_err-event-clause-only c = λ event comes.
@@ -80,10 +79,10 @@ returns-in_err-event-clause-only c = λ event comes.
     let beside = beside_read net c.args.given.now.ports.now c.args.given.now.sources.now c.args.board.now.events.items c.args.board.now.world c.args.board.now.source_places.items c.args.board.now.port_places.items
     c.from-c.result c.index-given-c.result c.as_slice-entries.result.now c.index-come.result.now c.requires.board here c.index-given-c.is c.as_slice-entries.ensures c.index-come.ensures in
     let stop = comes_stop net js (reverse c.args.board.now.events.items) c.args.port c.args.entry.now.place c.args.entry.now.input c.channel_of.result event c.channel_of.ensures comes in
-    let same = c.in_ok-stop.ensures.only (conn_of event) (hop_visited event) stop in
-    let whose : c.in_ok-stop.stop.conn ≡ conn_of event = ap (λ (s : Stop). s.conn) (some_same same) in
+    let same = c.in_ok-stop.ensures.only comes.c (hop_visited event) stop in
+    let whose : c.in_ok-stop.stop.conn ≡ comes.c = ap (λ (s : Stop). s.conn) (some_same same) in
     let hops : c.in_ok-stop.stop.hop ≡ hop_visited event = ap (λ (s : Stop). s.hop) (some_same same) in
     let is = coming_only net js (reverse c.args.board.now.events.items) c.args.port c.in_ok-stop.stop.conn c.in_ok-stop.stop.hop c.from-c.result c.args.entry.now.place c.args.entry.now.input
-    c.as_slice-entries.result.now c.index-come.result.now event whose hops c.from-c.ensures beside comes in
+    c.as_slice-entries.result.now c.index-come.result.now event comes whose hops c.from-c.ensures beside in
     let clash : None ≡ Some event = c.in_err-event.ensures ∙ ap (event_by c.in_ok-stop.stop.conn c.in_ok-stop.stop.hop c.args.entry.now.place c.args.entry.now.input (reverse (take c.index-come.result.now c.as_slice-entries.result.now))) c.entry_at.ensures ∙ is in
     absurd (cc)

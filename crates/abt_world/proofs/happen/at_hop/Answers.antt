@@ -15,7 +15,7 @@ use Rattle.abt_world.proofs.happen.at_hop.Goals as goal
 
 -- what an event at a hop makes of the ports
 abbrev Serves : Topology → Past → ℕ → List Table → Outcome → List Fact → HopEvent → Type 0
-Serves net past place after outcome added x = Happens net past (event_at_hop place x) outcome added × ArePorts net (after_event net past (event_at_hop place x)) after
+Serves net past place after outcome added x = Happens net past place (event_at_hop place x) outcome added × ArePorts net (after_event net past (event_at_hop place x)) after
 
 -- and what it looks up
 abbrev Counts : (old new place : ℕ) → List ℕ → Outcome → HopEvent → Type 0

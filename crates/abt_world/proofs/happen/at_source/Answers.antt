@@ -16,7 +16,7 @@ use Rattle.abt_world.proofs.happen.at_source.Goals as goal
 
 -- what an event at a source makes of its actor
 abbrev Becomes : Topology → Past → Conn → List Fact → ℕ → ActorView → Outcome → List Fact → SourceEvent → Type 0
-Becomes net past conn facts place new outcome added x = Happens net past (event_at_source place x) outcome added × (new ≡ actor_of conn.vc (added ++ facts))
+Becomes net past conn facts place new outcome added x = Happens net past place (event_at_source place x) outcome added × (new ≡ actor_of conn.vc (added ++ facts))
 
 pub returns-in-Start-clause-outcome : goal.returns-in-Start-clause-outcome
 returns-in-Start-clause-outcome c net past facts log at is =

@@ -1,4 +1,4 @@
-use Rattle.std.proofs.Common.{◌≡◌, sym, ap, ◌∙◌, arith, length}
+use Rattle.std.proofs.Common.{◌≡◌, sym, ap, ◌∙◌, refl, arith, length}
 use Rattle.std.specs.Prelude.{if◌then◌else◌, not}
 use Rattle.std.proofs.lemmas.Bool.{false≢true}
 use Rattle.abt_actor.specs.Facts.{facts_in}
@@ -30,7 +30,7 @@ returns-clause-outcome c net past facts is at actor =
     let carried = c.carry_out.ensures vc facts actor in
     let answer : c.of.result ≡ answer_to (request_of vc facts c.args.seq) c.args.granted = c.of.ensures ∙ ap (λ r. answer_to r c.args.granted) (c.in-Some.ensures.value facts is) in
     let heard = ap (λ (a : Reply). HasTold (heard_by vc facts (state_of facts) a)) answer ∙ ap HasTold (heard_same vc facts (state_of facts) c.args.seq c.args.granted) in (
-      happens net past (Told c.args.place c.args.seq c.args.granted) c.args.conn.now facts at c.carry_out.result.0 (facts_in c.carry_out.result.1)
+      happens net past (Told c.args.place c.args.seq c.args.granted) c.args.place c.args.conn.now facts refl at c.carry_out.result.0 (facts_in c.carry_out.result.1)
           (carried.answer ∙ heard ∙ ap (λ b. if not b then NotEnabled NotSent else HasTold (told_answer (state_of facts) c.args.seq c.args.granted)) home)
           (carried.adds ∙ ap (λ (a : Reply). command_adds facts (CommandTold a) c.carry_out.result.0) answer),
       carried.becomes,

@@ -1,4 +1,4 @@
-use Rattle.std.proofs.Common.{◌≡◌, ◌<◌, ◌≤◌, ℕ, List, [], ◌∷◌, ◌++◌, map, refl, sym, subst, ap, ◌∙◌, length, arith, ◌^◌}
+use Rattle.std.proofs.Common.{◌≡◌, ◌<◌, ◌≤◌, ℕ, inl, inr, List, [], ◌∷◌, ◌++◌, map, refl, sym, subst, ap, ◌∙◌, length, arith, ◌^◌}
 use Rattle.std.specs.Prelude.{Option, None, Some, is_some, option_map, slice_get, slice_set}
 use Rattle.std.proofs.lemmas.Option.{slice_get_past, slice_get-get_or, slice_get-map}
 use Rattle.std.proofs.lemmas.List.{length-map, length-set}
@@ -10,12 +10,13 @@ use Rattle.abt_log.specs.Index.{Index}
 use Rattle.abt_model.specs.Outcomes.{conn_of, after_event}
 use Rattle.abt_model.specs.Past.{facts_of}
 use Rattle.abt_model.specs.Run.{facts_after}
+use Rattle.abt_model.proofs.Worlds.{cases_option}
 use Rattle.abt_world.specs.Courses.{CourseView}
-use Rattle.abt_world.specs.Looked.{looks_at}
+use Rattle.abt_world.specs.Looked.{looks_at, looks_by}
 use Rattle.abt_world.specs.Seen.{seen}
 use Rattle.abt_world.specs.Standing.{WorldView, StandsFor}
 use Rattle.abt_world.specs.Steps.{ArePorts}
-use Rattle.abt_world.proofs.Standings.{step_unknown, step_taken, port_count, written_over, map_set, set_same, headline_after}
+use Rattle.abt_world.proofs.Standings.{step_alone, step_unknown, step_taken, port_count, written_over, map_set, set_same, headline_after}
 use Rattle.abt_world.proofs.Final.{AreOfPast}
 use Rattle.abt_world.proofs.Looking.{path_looked}
 use Rattle.abt_world.proofs.Sendings.{few_hops}
@@ -29,14 +30,16 @@ use Rattle.abt_world.proofs.Tallying.{AreMarks, counted_before, tallied_after}
 use Rattle.abt_world.proofs.Touching.{rewrites_length}
 use Rattle.abt_world.proofs.world.World.step.Goals as goal
 
-pub returns-then-place-conns-clause-outcome : goal.returns-then-place-conns-clause-outcome
-returns-then-place-conns-clause-outcome c net events stands =
-    let conns = c.conns.ensures.value in
-    let past_end = c.if-place-conns.true in
-    let place = c.from-place.ensures ∙ c.conn.ensures.value in
+pub returns-in_default-clause-outcome : goal.returns-in_default-clause-outcome
+returns-in_default-clause-outcome c net events stands =
+    let e = c.args.event.now in
     let before : StandsFor net events (record { net = c.self.inside.net.now; ports = c.self.inside.ports.items; courses = map seen c.self.inside.courses.items; looks = c.self.inside.looks }) = subst (StandsFor net events) (sym c.self.view_is) stands in
-    let count = ap length conns ∙ ap (λ (n : Topology). length n.conns) before.stands.net_is in
-    step_unknown net events (record { net = c.self.inside.net.now; ports = c.self.inside.ports.items; courses = map seen c.self.inside.courses.items; looks = c.self.inside.looks }) c.args.event.now 0 before c.asks_rate.ensures (omega arith)
+    let world : WorldView = record { net = c.self.inside.net.now; ports = c.self.inside.ports.items; courses = map seen c.self.inside.courses.items; looks = c.self.inside.looks } in
+    let count = ap length c.conns.ensures.value ∙ ap (λ (n : Topology). length n.conns) before.stands.net_is in
+    elim (cases_option (conn_of e)) [
+      | inl alone ↦ step_alone net events world e 0 before c.asks_rate.ensures alone
+      | inr own ↦ (let past_end = c.in_default.ensures.none refl own.0 own.1 in step_unknown net events world e own.0 0 before c.asks_rate.ensures own.1 (omega (arith, past_end, count)))
+    ]
 
 pub returns-in-Err-clause-same : goal.returns-in-Err-clause-same
 returns-in-Err-clause-same c =
@@ -44,7 +47,7 @@ returns-in-Err-clause-same c =
     let held = c.self.inside.ports.items in
     let old = c.index_mut-course.result.now in
     let new = c.take.new.self in
-    let low = c.if-place-conns.false in
+    let low = c.in-Some.ensures.some.1 in
     let count = ap length c.conns.ensures.value in
     let same_place = c.counting.ensures.value in
     let many = c.self.invariant.0 in
@@ -74,43 +77,57 @@ returns-in-Ok-clause-outcome c net events stands =
     let old = c.index_mut-course.result.now in
     let new = c.take.new.self in
     let looks = c.count-self-inside.result in
-    let low = c.if-place-conns.false in
+    let low = c.in-Some.ensures.some.1 in
     let before : StandsFor net events (record { net = c.self.inside.net.now; ports = held; courses = map seen courses; looks = c.self.inside.looks }) = subst (StandsFor net events) (sym c.self.view_is) stands in
     let net_is : c.self.inside.net.now ≡ net = before.stands.net_is in
     let here : StandsFor net events (record { net = net; ports = held; courses = map seen courses; looks = c.self.inside.looks }) =
     subst (λ (n : Topology). StandsFor net events (record { net = n; ports = held; courses = map seen courses; looks = c.self.inside.looks })) net_is before in
     let rules : IsWithinRules net = subst IsWithinRules net_is c.conns.ensures.rules in
-    let from : c.from-place.result ≡ conn_of e = c.from-place.ensures ∙ c.conn.ensures.value in
-    let place : c.counting.result ≡ conn_of e = c.counting.ensures.value ∙ from in
+    let n = c.in-Some.place in
+    let own : conn_of e ≡ Some n = c.in-Some.ensures.some.0 in
+    let place : c.counting.result ≡ n = c.counting.ensures.value in
     let conns : c.conns.result.now ≡ net.conns = c.conns.ensures.value ∙ ap (λ (n : Topology). n.conns) net_is in
     let conns2 : c.conns-2.result.now ≡ net.conns = c.conns-2.ensures.value ∙ ap (λ (n : Topology). n.conns) net_is in
     let count = ap length conns in
     let count2 = ap length conns2 in
-    let low2 : c.from-place.result < length c.conns-2.result.now = omega arith in
-    let known : conn_at net (conn_of e) ≡ Some conn =
-    sym (ap (λ (l : List Conn). slice_get l (conn_of e)) conns2) ∙ sym (ap (slice_get c.conns-2.result.now) from)
-    ∙ slice_get-get_or c.conns-2.result.now c.from-place.result conn low2 ∙ ap Some (sym c.index-conns-place.is) in
+    let low2 : c.in-Some.place < length c.conns-2.result.now = omega arith in
+    let known : conn_at net n ≡ Some conn =
+    sym (ap (λ (l : List Conn). slice_get l n) conns2) ∙ slice_get-get_or c.conns-2.result.now c.in-Some.place conn low2 ∙ ap Some (sym c.index-conns-place.is) in
     let many : length courses ≡ length net.conns = c.self.invariant.0 ∙ ap (λ (n : Topology). length n.conns) net_is in
     let low3 : c.counting.result < length courses = omega arith in
     let there : slice_get courses c.counting.result ≡ Some old = slice_get-get_or courses c.counting.result old low3 ∙ ap Some (sym c.index_mut-course.ensures.value) in
-    let r = ready net events e held courses c.self.inside.looks conn old rules here known (sym (ap (slice_get courses) place) ∙ there) in
+    let r = ready net events n held courses c.self.inside.looks conn old rules here known (sym (ap (slice_get courses) place) ∙ there) in
     let are : ArePorts net past c.deref_mut.result.now = subst (ArePorts net past) (sym c.deref_mut.ensures.value) here.stands.ports in
-    let leaves = c.in-Ok.ensures.outcome net past (facts_of (conn_of e) past) r.log c.asks_rate.ensures r.at are r.actor in
+    let leaves = c.in-Ok.ensures.outcome net past n (facts_of n past) r.log c.asks_rate.ensures own r.at are r.actor in
     let written = written_over c.self.inside.ports.len ports held c.self.inside.ports.ok.0 (port_count net (after_event net past e) ports leaves.tables ∙ sym (port_count net past held here.stands.ports)) in
     let number : length (map seen courses) ≡ length courses = length-map courses seen in
-    let low4 : conn_of e < length (map seen courses) = omega arith in
-    let step = step_taken net events (record { net = c.self.inside.net.now; ports = held; courses = map seen courses; looks = c.self.inside.looks }) e conn c.in-Ok.outcome (seen new) ports looks before c.asks_rate.ensures known low4 leaves in
-    let set : slice_set (map seen courses) (conn_of e) (seen new) ≡ map seen (slice_set courses c.counting.result new) =
+    let low4 : n < length (map seen courses) = omega arith in
+    let step = step_taken net events (record { net = c.self.inside.net.now; ports = held; courses = map seen courses; looks = c.self.inside.looks }) e n conn c.in-Ok.outcome (seen new) ports looks before c.asks_rate.ensures own known low4 leaves in
+    let set : slice_set (map seen courses) n (seen new) ≡ map seen (slice_set courses c.counting.result new) =
     ap (λ (p : ℕ). slice_set (map seen courses) p (seen new)) (sym place) ∙ sym (map_set seen courses c.counting.result new) in (
       step.0,
       subst (λ (ps : List Table). StandsFor net (events ++ e ∷ []) (record { net = c.self.inside.net.now; ports = ps; courses = map seen (slice_set courses c.counting.result new); looks = looks })) (sym written)
           (subst (λ (cs : List CourseView). StandsFor net (events ++ e ∷ []) (record { net = c.self.inside.net.now; ports = ports; courses = cs; looks = looks })) set step.1),
     )
 
-pub returns-then-place-conns-clause-headline : goal.returns-then-place-conns-clause-headline
-returns-then-place-conns-clause-headline c net events stands =
+pub returns-in_default-clause-headline : goal.returns-in_default-clause-headline
+returns-in_default-clause-headline c net events stands =
     let net_is = ap (λ (w : WorldView). w.net) c.self.view_is ∙ stands.stands.net_is in
     headline_after net events c.args.event.now (subst IsWithinRules net_is c.conns.ensures.rules) stands.rates c.asks_rate.ensures
+
+pub returns-in_default-clause-counted : goal.returns-in_default-clause-counted
+returns-in_default-clause-counted c net events stands =
+    let e = c.args.event.now in
+    let past = facts_after net events in
+    let net_is = ap (λ (w : WorldView). w.net) c.self.view_is ∙ stands.stands.net_is in
+    let count = ap length c.conns.ensures.value ∙ ap (λ (n : Topology). length n.conns) net_is in
+    elim (cases_option (conn_of e)) [
+      | inl alone ↦ sym (ap (looks_by net past e) alone)
+      | inr own ↦ (
+          let past_end = c.in_default.ensures.none refl own.0 own.1 in
+          let unknown : conn_at net own.0 ≡ None = slice_get_past net.conns own.0 (omega (arith, past_end, count)) in
+          sym (ap (looks_by net past e) own.1 ∙ ap (looks_at net past e own.0) unknown))
+    ]
 
 pub returns-in-Ok-clause-headline : goal.returns-in-Ok-clause-headline
 returns-in-Ok-clause-headline c net events stands =
@@ -128,15 +145,15 @@ invariant_of-self-in-Ok c =
     let new = c.take.new.self in
     let port = visited conn c.args.event.now in
     let rules = c.self.invariant.1 in
-    let low = c.if-place-conns.false in
+    let low = c.in-Some.ensures.some.1 in
     let count = ap length c.conns.ensures.value in
     let count2 = ap length c.conns-2.ensures.value in
     let same_place = c.counting.ensures.value in
     let many = c.self.invariant.0 in
-    let low2 : c.from-place.result < length c.conns-2.result.now = omega arith in
+    let low2 : c.in-Some.place < length c.conns-2.result.now = omega arith in
     let known : slice_get net.conns c.counting.result ≡ Some conn =
-    ap (slice_get net.conns) same_place ∙ sym (ap (λ (l : List Conn). slice_get l c.from-place.result) c.conns-2.ensures.value)
-    ∙ slice_get-get_or c.conns-2.result.now c.from-place.result conn low2 ∙ ap Some (sym c.index-conns-place.is) in
+    ap (slice_get net.conns) same_place ∙ sym (ap (λ (l : List Conn). slice_get l c.in-Some.place) c.conns-2.ensures.value)
+    ∙ slice_get-get_or c.conns-2.result.now c.in-Some.place conn low2 ∙ ap Some (sym c.index-conns-place.is) in
     let low3 : c.counting.result < length courses = omega arith in
     let there : slice_get courses c.counting.result ≡ Some old = slice_get-get_or courses c.counting.result old low3 ∙ ap Some (sym c.index_mut-course.ensures.value) in
     let was : slice_get (map seen courses) c.counting.result ≡ Some (seen old) = slice_get-map seen courses c.counting.result ∙ ap (option_map seen) there in
@@ -178,7 +195,7 @@ invariant_of-self-in-Err c =
     let held = c.self.inside.ports.items in
     let old = c.index_mut-course.result.now in
     let new = c.take.new.self in
-    let low = c.if-place-conns.false in
+    let low = c.in-Some.ensures.some.1 in
     let count = ap length c.conns.ensures.value in
     let same_place = c.counting.ensures.value in
     let many = c.self.invariant.0 in
@@ -197,16 +214,6 @@ invariant_of-self-in-Err c =
           (subst (λ (cs : List CourseView). IsTallied net held cs c.self.inside.tally) (sym left) c.self.invariant.2),
     )
 
-pub returns-then-place-conns-clause-counted : goal.returns-then-place-conns-clause-counted
-returns-then-place-conns-clause-counted c net events stands =
-    let e = c.args.event.now in
-    let past_end = c.if-place-conns.true in
-    let place = c.from-place.ensures ∙ c.conn.ensures.value in
-    let net_is = ap (λ (w : WorldView). w.net) c.self.view_is ∙ stands.stands.net_is in
-    let count = ap length c.conns.ensures.value ∙ ap (λ (n : Topology). length n.conns) net_is in
-    let unknown : conn_at net (conn_of e) ≡ None = slice_get_past net.conns (conn_of e) (omega arith) in
-    sym (ap (looks_at net (facts_after net events) e) unknown)
-
 pub returns-in-Ok-clause-counted : goal.returns-in-Ok-clause-counted
 returns-in-Ok-clause-counted c net events stands =
     let e = c.args.event.now in
@@ -217,27 +224,27 @@ returns-in-Ok-clause-counted c net events stands =
     let ports = c.deref-in-Ok.result.now in
     let old = c.index_mut-course.result.now in
     let new = c.take.new.self in
-    let low = c.if-place-conns.false in
+    let low = c.in-Some.ensures.some.1 in
     let before : StandsFor net events (record { net = c.self.inside.net.now; ports = held; courses = map seen courses; looks = c.self.inside.looks }) = subst (StandsFor net events) (sym c.self.view_is) stands in
     let net_is : c.self.inside.net.now ≡ net = before.stands.net_is in
     let here : StandsFor net events (record { net = net; ports = held; courses = map seen courses; looks = c.self.inside.looks }) =
     subst (λ (n : Topology). StandsFor net events (record { net = n; ports = held; courses = map seen courses; looks = c.self.inside.looks })) net_is before in
     let rules : IsWithinRules net = subst IsWithinRules net_is c.conns.ensures.rules in
-    let from : c.from-place.result ≡ conn_of e = c.from-place.ensures ∙ c.conn.ensures.value in
-    let place : c.counting.result ≡ conn_of e = c.counting.ensures.value ∙ from in
+    let n = c.in-Some.place in
+    let own : conn_of e ≡ Some n = c.in-Some.ensures.some.0 in
+    let place : c.counting.result ≡ n = c.counting.ensures.value in
     let conns : c.conns.result.now ≡ net.conns = c.conns.ensures.value ∙ ap (λ (n : Topology). n.conns) net_is in
     let conns2 : c.conns-2.result.now ≡ net.conns = c.conns-2.ensures.value ∙ ap (λ (n : Topology). n.conns) net_is in
     let count = ap length conns in
     let count2 = ap length conns2 in
-    let low2 : c.from-place.result < length c.conns-2.result.now = omega arith in
-    let known : conn_at net (conn_of e) ≡ Some conn =
-    sym (ap (λ (l : List Conn). slice_get l (conn_of e)) conns2) ∙ sym (ap (slice_get c.conns-2.result.now) from)
-    ∙ slice_get-get_or c.conns-2.result.now c.from-place.result conn low2 ∙ ap Some (sym c.index-conns-place.is) in
+    let low2 : c.in-Some.place < length c.conns-2.result.now = omega arith in
+    let known : conn_at net n ≡ Some conn =
+    sym (ap (λ (l : List Conn). slice_get l n) conns2) ∙ slice_get-get_or c.conns-2.result.now c.in-Some.place conn low2 ∙ ap Some (sym c.index-conns-place.is) in
     let many : length courses ≡ length net.conns = c.self.invariant.0 ∙ ap (λ (n : Topology). length n.conns) net_is in
     let low3 : c.counting.result < length courses = omega arith in
-    let low4 : conn_of e < length courses = omega arith in
+    let low4 : n < length courses = omega arith in
     let there : slice_get courses c.counting.result ≡ Some old = slice_get-get_or courses c.counting.result old low3 ∙ ap Some (sym c.index_mut-course.ensures.value) in
-    let r = ready net events e held courses c.self.inside.looks conn old rules here known (sym (ap (slice_get courses) place) ∙ there) in
+    let r = ready net events n held courses c.self.inside.looks conn old rules here known (sym (ap (slice_get courses) place) ∙ there) in
     let are : ArePorts net past c.deref_mut.result.now = subst (ArePorts net past) (sym c.deref_mut.ensures.value) here.stands.ports in
     let kept : IsTallied net held (map seen courses) c.self.inside.tally = subst (λ (n : Topology). IsTallied n held (map seen courses) c.self.inside.tally) net_is c.self.invariant.2 in
     let none = past_counts_nothing net events courses held c.self.inside.tally (record { rules = rules; looks = c.self.inside.looks; stands = here }) kept in
@@ -254,15 +261,15 @@ returns-in-Ok-clause-counted c net events stands =
         };
       };
     } in
-    let set : slice_get (slice_set courses c.counting.result new) (conn_of e) ≡ Some new = ap (λ (p : ℕ). slice_get (slice_set courses p new) (conn_of e)) place ∙ set_here courses (conn_of e) new low4 in
-    let looked = path_looked net (events ++ e ∷ []) (slice_set courses c.counting.result new) ports (conn_of e) conn new left known set in
-    let few : length conn.path ≤ 16 = few_hops net past (conn_of e) conn (facts_of (conn_of e) past) r.at in
+    let set : slice_get (slice_set courses c.counting.result new) n ≡ Some new = ap (λ (p : ℕ). slice_get (slice_set courses p new) n) place ∙ set_here courses n new low4 in
+    let looked = path_looked net (events ++ e ∷ []) (slice_set courses c.counting.result new) ports n conn new left known set in
+    let few : length conn.path ≤ 16 = few_hops net past n conn (facts_of n past) r.at in
     let first = c.counting.ensures.count in
     let start = c.new-looks.ensures in
     let second = c.counted_marks-before.ensures.counted none.above none.over none.broken in
-    let third = c.in-Ok.ensures.counted net past (facts_of (conn_of e) past) r.log c.asks_rate.ensures r.at are r.actor (omega (arith, first, start, second)) in
+    let third = c.in-Ok.ensures.counted net past n (facts_of n past) r.log c.asks_rate.ensures own r.at are r.actor (omega (arith, first, start, second)) in
     let bound = c.in-Ok.ensures.looks in
     let fourth = c.marks-after.ensures.counted (omega (arith, first, start, second, bound, looked, few)) in
     let visits = ap (λ (o : Option ℕ). one_if (is_some o)) c.visited-port.ensures in
     let read = c.count-self-inside.ensures in
-    omega (arith, first, start, second, third, fourth, looked, visits, read) ∙ sym (ap (looks_at net past e) known)
+    omega (arith, first, start, second, third, fourth, looked, visits, read) ∙ sym (ap (looks_by net past e) own ∙ ap (looks_at net past e n) known)
