@@ -75,7 +75,7 @@ pub sound_emission :
     (actor after : ActorView) (now later : ℕ) → IsSound actor → IsRate actor.source.rate → actor.clock ≤ now → actor.state ≢ Down →
     result_of_emission actor.source now ≡ Ok later →
     after ≡ record {
-      source = record actor.source { next = later; emitted = Some now };
+      source = record actor.source { gap = spacing_of actor.source.rate; next = later; emitted = Some now };
       state = actor.state;
       kept = actor.kept;
       cells = actor.cells + 1;
@@ -87,12 +87,11 @@ sound_emission actor after now later sound rate onward up left is =
     let due = l.due in
     let same = l.later in
     let low = bounds.0 in
-    let high = bounds.1 in
     let apart = sound.apart in
+    let since = sound.due up in
     rw is (record {
-      kept = sound.kept;
       apart = omega arith;
-      near = omega arith;
+      due = λ still_up. omega arith;
       emitted = omega arith;
       still = λ down. absurd (up down);
     })

@@ -1,21 +1,23 @@
 -- The actor that keeps a source, as contracts see it.
-use Rattle.std.specs.Prelude.{◌≡◌, ℕ, ◌+◌, ◌*◌, ◌≤◌, ◌++◌, Bool, true, false, List, IfSome}
+use Rattle.std.specs.Prelude.{◌≡◌, ◌≢◌, ℕ, ◌+◌, ◌*◌, ◌≤◌, ◌++◌, Bool, true, false, List, IfSome}
+use Rattle.abt_rate.specs.Limits.{spacing_min}
 use Rattle.abt_cell.specs.Channel.{Channel}
+use Rattle.abt_keep.specs.Record.{KeptRecord}
 use Rattle.abt_source.specs.SourceView.{SourceView}
 use Rattle.abt_source.specs.SourceFacts.{view_of}
 use Rattle.abt_facts.specs.declared.fact.Fact.{Fact}
-use Rattle.abt_facts.specs.Source.{SourceState, Down, Idle, Asking, state_of, stored_of, clock_of, hold_off}
+use Rattle.abt_facts.specs.Source.{SourceState, Down, Idle, Asking, state_of, stored_of, clock_of}
 use Rattle.abt_facts.specs.Cells.{emitted_of}
 use Rattle.abt_model.specs.declared.command.SourceCommand.{SourceCommand}
 use Rattle.abt_model.specs.declared.outcome.Outcome.{Outcome}
 use Rattle.abt_actor.specs.Commands.{command_answer, command_adds}
 
--- a source and its state, and what outlives a crash: the number in its store, how many cells were emitted, and the last moment
+-- a source and its state, and what outlives a crash: the record in its store, how many cells were emitted, and the last moment
 -- of a start or an emission
 pub record ActorView : Type 0 where
   pub source : SourceView
   pub state : SourceState
-  pub kept : ℕ
+  pub kept : KeptRecord
   pub cells : ℕ
   pub clock : ℕ
 
@@ -42,11 +44,10 @@ CarriesOut actor command outcome after =
     (vc : Channel) (facts : List Fact) → actor ≡ actor_of vc facts →
     (outcome ≡ command_answer vc facts command) × (after ≡ actor_of vc (command_adds facts command outcome ++ facts))
 
--- what holds of each actor: its store isn't ahead by more than one number, its cells are 234 picoseconds apart at least, the
--- next one may leave within the hold-off after the clock, and a source that is down has no rate
+-- what holds of each actor: a cell for each 234 picoseconds of its clock at most, none leaves while it is up before so much time
+-- went by since the last start or cell, and a source that is down has no rate
 pub record IsSound (actor : ActorView) : Type 0 where
-  pub kept : actor.kept ≤ actor.source.last + 1
-  pub apart : 234 * actor.cells ≤ actor.source.next
-  pub near : actor.source.next ≤ actor.clock + hold_off
+  pub apart : spacing_min * actor.cells ≤ actor.clock
+  pub due : actor.state ≢ Down → actor.clock + spacing_min ≤ actor.source.next
   pub emitted : IfSome actor.source.emitted (λ moment. moment ≤ actor.clock)
   pub still : actor.state ≡ Down → actor.source.rate ≡ 0

@@ -37,9 +37,9 @@ impl Model for SourceActor {
 
     ghost Value = { ActorView };
 
-    ghost view = { λ a. actor_in a.running a.store.number a.cells a.clock };
+    ghost view = { λ a. actor_in a.running a.store.kept a.cells a.clock };
 
-    ghost invariant = { λ a. (a.store.plan ≡ Works) × IsSound (actor_in a.running a.store.number a.cells a.clock) };
+    ghost invariant = { λ a. (a.store.plan ≡ Works) × IsSound (actor_in a.running a.store.kept a.cells a.clock) };
 }
 
 impl SourceActor {
@@ -128,7 +128,7 @@ impl SourceActor {
             Ok(source) => Carried {
                 added: Added::One(Fact::Started {
                     now,
-                    number: source.last(),
+                    kept: source.kept(),
                 }),
                 actor: SourceActor {
                     running: Running::Idle(source),
@@ -156,13 +156,13 @@ impl SourceActor {
         if self.running.is_down() {
             return self.unmoved(Outcome::NotEnabled(Cause::Down));
         }
-        let last = self.running.last();
+        let written = self.running.record_to_write(rate);
         self.store.plan(plan);
         let asked = self.running.ask(&mut self.store, rate);
         self.store.plan(StorePlan::Works);
         match asked {
             Ok((source, request)) => Carried {
-                added: Added::of_request(&request, self.cells),
+                added: Added::of_request(&request, self.cells, written),
                 actor: SourceActor {
                     running: Running::Asking(source),
                     ..self
@@ -172,7 +172,7 @@ impl SourceActor {
             Err((running, fault)) => Carried {
                 actor: SourceActor { running, ..self },
                 outcome: Outcome::AskRefused(fault),
-                added: Added::of_refusal(fault, plan, last),
+                added: Added::of_refusal(fault, plan, written),
             },
         }
     }

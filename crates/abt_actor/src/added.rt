@@ -1,7 +1,7 @@
 //! The facts that a step adds.
-ghost use Rattle.std.specs.Prelude.{◌≡◌, ◌≢◌, ◌+◌, ℕ, List};
+ghost use Rattle.std.specs.Prelude.{◌≡◌, ℕ, List, None, Some, IsSome, if◌then◌else◌};
 ghost use Rattle.abt_keep.specs.declared.plan.StorePlan.{StorePlan};
-ghost use Rattle.abt_facts.specs.Source.{last_of};
+ghost use Rattle.abt_facts.specs.Source.{writes, written_for};
 ghost use Rattle.abt_facts.specs.Cells.{emitted_of};
 ghost use Rattle.abt_facts.specs.declared.fact.Fact.{Fact};
 ghost use Rattle.abt_model.specs.declared.event.Event.TheVariants.{Ask};
@@ -11,7 +11,7 @@ ghost use Rattle.abt_actor.specs.Facts.{facts_in};
 
 use abt_cell::Request;
 use abt_facts::Fact;
-use abt_keep::StorePlan;
+use abt_keep::{Record, StorePlan};
 use abt_source::AskFault;
 
 /// The facts that a step adds to those of a connection, two at most.
@@ -26,31 +26,35 @@ pub enum Added {
 }
 
 impl Added {
-    // Those of a request that was sent, after so many cells.
-    pub(crate) fn of_request(request: &Request, cells: u64) -> Added
-        ensures { (facts : List Fact) (plan : StorePlan) (rate : ℕ) → cells ≡ emitted_of facts → request.now.seq ≡ last_of facts + 1 →
+    // Those of a request that was sent, after so many cells, by an ask that wrote this record, if it wrote one.
+    pub(crate) fn of_request(request: &Request, cells: u64, written: Option<Record>) -> Added
+        ensures { (facts : List Fact) (plan : StorePlan) (rate : ℕ) → cells ≡ emitted_of facts →
+            written ≡ (if writes facts rate then Some (written_for facts rate) else None) →
             facts_in result ≡ facts_added facts (Ask 0 rate plan) (Asked request.now) }
     {
-        let seq = request.seq();
-        Added::Two(
-            Fact::Asked {
-                seq,
-                floor: request.floor(),
-                ask: request.ask(),
-                mark: cells,
-            },
-            Fact::Stored { seq },
-        )
+        let asked = Fact::Asked {
+            seq: request.seq(),
+            floor: request.floor(),
+            ask: request.ask(),
+            mark: cells,
+        };
+        match written {
+            Some(kept) => Added::Two(asked, Fact::Stored { kept }),
+            None => Added::One(asked),
+        }
     }
 
-    // Those of a refused ask after the number `last`: a write that failed may have been kept.
-    pub(crate) fn of_refusal(fault: AskFault, plan: StorePlan, last: u32) -> Added
-        requires { fault ≡ AskFault.Keep → last ≢ u32.MAX }
-        ensures { (facts : List Fact) (rate : ℕ) → last ≡ last_of facts →
+    // Those of a refused ask that had to write this record, if it had to write one: a write that failed may have been kept.
+    pub(crate) fn of_refusal(fault: AskFault, plan: StorePlan, written: Option<Record>) -> Added
+        requires { fault ≡ AskFault.Keep → IsSome written }
+        ensures { (facts : List Fact) (rate : ℕ) →
+            written ≡ (if writes facts rate then Some (written_for facts rate) else None) →
             facts_in result ≡ facts_added facts (Ask 0 rate plan) (AskRefused fault) }
     {
-        match (fault, plan) {
-            (AskFault::Keep, StorePlan::FailsAfter) => Added::One(Fact::Stored { seq: last + 1 }),
+        match (fault, plan, written) {
+            (AskFault::Keep, StorePlan::FailsAfter, Some(kept)) => {
+                Added::One(Fact::Stored { kept })
+            }
             _ => Added::Nothing,
         }
     }

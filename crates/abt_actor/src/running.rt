@@ -1,15 +1,15 @@
 //! A source in any state.
-ghost use Rattle.std.specs.Prelude.{◌≡◌, ◌≢◌, ◌∷◌, ◌==◌, ◌<◌, ◌+◌, ℕ, List, IsTrue, ◌↔◌, IfOk, OnErr, Ok, Err, Some};
+ghost use Rattle.std.specs.Prelude.{◌≡◌, ◌≢◌, ◌∷◌, ◌++◌, ℕ, if◌then◌else◌, List, IsTrue, ◌↔◌, IfOk, OnErr, Ok, Err, None, Some};
 ghost use Rattle.abt_facts.specs.Source as state;
 ghost use Rattle.abt_facts.specs.declared.fact.Fact.{Fact};
-ghost use Rattle.abt_facts.specs.declared.fact.Fact.TheVariants.{Asked, Stored, Crashed, Emitted};
-ghost use Rattle.abt_rate.specs.Rate.{IsRate};
-ghost use Rattle.abt_source.specs.Calls.{crashed_source, result_of_emission};
-ghost use Rattle.abt_source.specs.SourceFacts.{StandsFor};
+ghost use Rattle.abt_facts.specs.declared.fact.Fact.TheVariants.{Asked, Crashed, Emitted};
+ghost use Rattle.abt_rate.specs.Rate.{IsRate, spacing_of};
+ghost use Rattle.abt_source.specs.Calls.{crashed_source, has_to_write, record_to_write, result_of_emission};
+ghost use Rattle.abt_source.specs.SourceFacts.{StandsFor, stored_by};
 ghost use Rattle.abt_actor.specs.Sources.{source_in, state_in, result_of_asking};
 
 use abt_cell::Request;
-use abt_keep::MemoryStore;
+use abt_keep::{MemoryStore, Record};
 use abt_rate::Rate;
 use abt_shaper::ShapeFault;
 use abt_source::{AskFault, AskRefused, Asking, Down, Idle, Source};
@@ -42,15 +42,16 @@ impl Running {
         }
     }
 
-    // Its last sequence number, where it is up.
-    pub(crate) fn last(&self) -> u32
+    // The record that an ask has to write, if it has to write one, where it is up.
+    pub(crate) fn record_to_write(&self, rate: Rate) -> Option<Record>
         requires { state_in self.now ≢ state.Down }
-        ensures { result ≡ (source_in self.now).last }
+        ensures { result ≡ (if has_to_write (source_in self.now) rate
+            then Some (record_to_write (source_in self.now) rate) else None) }
     {
         match self {
             Running::Down(_) => unreachable!(),
-            Running::Idle(source) => source.last(),
-            Running::Asking(source) => source.last(),
+            Running::Idle(source) => source.record_to_write(rate),
+            Running::Asking(source) => source.record_to_write(rate),
         }
     }
 
@@ -64,7 +65,7 @@ impl Running {
         ensures value { (result, store.new) ≡ result_of_asking self store.old rate }
         ensures facts { (facts : List Fact) (mark : ℕ) → StandsFor facts (state_in self) (source_in self) →
             IfOk result (λ asked. let request = asked.1 in
-            StandsFor (Asked request.seq request.floor request.ask mark ∷ Stored request.seq ∷ facts)
+            StandsFor (Asked request.seq request.floor request.ask mark ∷ (stored_by (source_in self) rate ++ facts))
             (state.Asking request.seq) asked.0) }
     {
         match self {
@@ -84,7 +85,11 @@ impl Running {
     pub(crate) fn emit(&mut self, now: u64) -> Result<u64, ShapeFault>
         requires { state_in self.old ≢ state.Down }
         ensures value { result ≡ result_of_emission (source_in self.old) now }
-        ensures ok { IfOk result (λ next. source_in self.new ≡ record (source_in self.old) { next = next; emitted = Some now }) }
+        ensures ok { IfOk result (λ next. source_in self.new ≡ record (source_in self.old) {
+          gap = spacing_of (source_in self.old).rate;
+          next = next;
+          emitted = Some now;
+        }) }
         ensures same { state_in self.new ≡ state_in self.old }
         ensures err { OnErr result (self.new ≡ self.old) }
         ensures facts { (facts : List Fact) (cell : ℕ) → StandsFor facts (state_in self.old) (source_in self.old) →

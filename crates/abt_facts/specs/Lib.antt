@@ -1,4 +1,5 @@
 pub mod Requests
+pub mod Keeping
 pub mod Source
 pub mod Hop
 pub mod Sent

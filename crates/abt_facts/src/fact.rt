@@ -1,5 +1,6 @@
 //! What an event leaves behind.
 use abt_gcra::Verdict;
+use abt_keep::Record;
 use abt_rate::Rate;
 
 /// One thing that happened to a connection (docs/RULES.md, "Facts"). A connection's past is the list of its facts, and
@@ -8,16 +9,16 @@ use abt_rate::Rate;
 /// Moments are picoseconds, hops count from 1, cells of a connection from 0 and over restarts too.
 #[derive(Clone, Copy, Debug, PartialEq, Eq)]
 pub enum Fact {
-    /// The source started, and goes on from the number that its store held.
+    /// The source started, and goes on from the record that its store held.
     Started {
         now: u64,
-        number: u32,
+        kept: Record,
     },
     /// The source lost what it kept outside its store.
     Crashed,
-    /// A number was written into the source's store.
+    /// A record was written into the source's store.
     Stored {
-        seq: u32,
+        kept: Record,
     },
     /// The source sent a request, after so many emitted cells.
     Asked {

@@ -1,4 +1,4 @@
--- What every store promises (docs/RULES.md, "Kept numbers").
+-- What every store promises (docs/RULES.md, "Kept records").
 use Rattle.std.specs.Prelude.{◌≡◌, ◌⊎◌, ◌<◌, ℕ}
 
 -- A failure was counted: the count of failures rose, or it stood at its greatest value, 2^64 - 1.

@@ -1,8 +1,10 @@
 //! A store in memory, whose failures are planned.
 ghost use Rattle.std.specs.Prelude.{◌≡◌};
+ghost use Rattle.abt_keep.specs.Record.{old_record};
 
 use crate::fault::StoreFault;
 use crate::plan::StorePlan;
+use crate::record::Record;
 use crate::store::SeqStore;
 use std::marker::Model;
 use std::mem;
@@ -11,7 +13,7 @@ use std::mem;
 /// where none was.
 #[derive(Debug, Drop)]
 pub struct MemoryStore {
-    number: u32,
+    kept: Record,
     plan: StorePlan,
     failures: u64,
 }
@@ -21,16 +23,23 @@ impl Model for MemoryStore {
 
     ghost Value = { StoreView };
 
-    ghost view = { λ m. record { number = m.number; plan = m.plan; failures = m.failures } };
+    ghost view = { λ m. record { kept = m.kept; plan = m.plan; failures = m.failures } };
 }
 
 impl MemoryStore {
-    /// A store that keeps this number, and has no plan.
-    pub fn new(kept: u32) -> MemoryStore
-        ensures { result ≡ record { number = kept; plan = StorePlan.Works; failures = 0 } }
+    /// A store of before spacings were kept, with this number, and with no plan.
+    pub fn new(number: u32) -> MemoryStore
+        ensures { result ≡ record { kept = old_record number; plan = StorePlan.Works; failures = 0 } }
+    {
+        MemoryStore::with(Record::old(number))
+    }
+
+    /// A store that keeps this record, and has no plan.
+    pub fn with(kept: Record) -> MemoryStore
+        ensures { result ≡ record { kept = kept; plan = StorePlan.Works; failures = 0 } }
     {
         MemoryStore {
-            number: kept,
+            kept,
             plan: StorePlan::Works,
             failures: 0,
         }
@@ -48,17 +57,17 @@ impl SeqStore for MemoryStore {
     ghost use Rattle.std.specs.Prelude.{◌≡◌};
     ghost use Rattle.abt_keep.specs.MemoryStore.{kept_under, keep_under};
 
-    ghost number = { λ m. m.number };
+    ghost content = { λ m. m.kept };
 
     ghost failure_count = { λ m. m.failures };
 
     ghost kept_gives = { λ m answer after. (answer, after) ≡ kept_under m.plan m };
 
-    ghost keep_gives = { λ m n answer after. (answer, after) ≡ keep_under m.plan m n };
+    ghost keep_gives = { λ m kept answer after. (answer, after) ≡ keep_under m.plan m kept };
 
-    fn kept(&mut self) -> Result<u32, StoreFault> {
+    fn kept(&mut self) -> Result<Record, StoreFault> {
         match mem::replace(&mut self.plan, StorePlan::Works) {
-            StorePlan::Works => Ok(self.number),
+            StorePlan::Works => Ok(self.kept),
             StorePlan::FailsBefore | StorePlan::FailsAfter => {
                 self.failures = self.failures.saturating_add(1);
                 Err(StoreFault::Device)
@@ -66,10 +75,10 @@ impl SeqStore for MemoryStore {
         }
     }
 
-    fn keep(&mut self, n: u32) -> Result<(), StoreFault> {
+    fn keep(&mut self, kept: Record) -> Result<(), StoreFault> {
         let plan = mem::replace(&mut self.plan, StorePlan::Works);
         if plan != StorePlan::FailsBefore {
-            self.number = n;
+            self.kept = kept;
         }
         if plan == StorePlan::Works {
             return Ok(());

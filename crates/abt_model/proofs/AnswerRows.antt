@@ -4,11 +4,12 @@ use Rattle.std.specs.Prelude.{◌||◌, ◌&&◌, ◌==◌, min, not, if◌then�
 use Rattle.std.proofs.lemmas.Bool.{ne_eqb, eq-eqb, cond-false, cases_eq, and_from, and_right, lt-ltb, le-ltb, cond_both}
 use Rattle.abt_gcra.specs.declared.verdict.Verdict.{Verdict}
 use Rattle.abt_facts.specs.declared.fact.Fact.{Fact}
-use Rattle.abt_facts.specs.declared.fact.Fact.TheVariants.{Stored, Asked, Delivered, Shut, Arrived}
+use Rattle.abt_facts.specs.declared.fact.Fact.TheVariants.{Asked, Delivered, Shut, Arrived}
 use Rattle.abt_model.specs.declared.event.Event.{Event}
 use Rattle.abt_model.specs.declared.event.Event.TheVariants.{Start, Ask, Again, Crash, Emit, Arrive, Request, Turn, Answer, Told}
 use Rattle.abt_model.specs.declared.outcome.Outcome.{Outcome}
 use Rattle.abt_net.specs.declared.conn.Conn.{Conn}
+use Rattle.abt_keep.specs.Record.{KeptRecord}
 use Rattle.abt_keep.specs.declared.plan.StorePlan.{StorePlan}
 use Rattle.abt_keep.specs.declared.plan.StorePlan.TheVariants.{Works, FailsBefore, FailsAfter}
 use Rattle.abt_node.specs.declared.reply.Back.{Back as Returned}
@@ -21,16 +22,16 @@ use Rattle.abt_model.specs.declared.outcome.Heard.{Heard as Hearing}
 use Rattle.abt_model.specs.declared.outcome.Heard.TheVariants.{Raised, Refused, Ignored}
 use Rattle.abt_model.specs.declared.outcome.Outcome.TheVariants.{Crashed as HasCrashed, Told as HasTold}
 use Rattle.abt_facts.specs.Requests.{floor_of, ask_of}
-use Rattle.abt_facts.specs.Source.{SourceState, Down, Idle, Asking, state_of, rate_of, last_of, clock_of, next_of}
+use Rattle.abt_facts.specs.Source.{SourceState, Down, Idle, Asking, state_of, rate_of, last_of, clock_of, next_of, writes, written_for}
 use Rattle.abt_facts.specs.Sent.{was_shut, request_is_at, answer_is_at, answer_is_home, request_is_through}
 use Rattle.abt_facts.specs.Hop.{newest_of, held_of, is_open_at}
 use Rattle.abt_facts.specs.Cells.{emitted_of, last_arrival_of, fence_of, verdict_at, is_in_time}
 use Rattle.abt_cell.specs.Channel.{Channel}
 use Rattle.abt_cell.specs.Message.{answer_to}
 use Rattle.abt_source.specs.SourceFacts.{request_of}
-use Rattle.abt_rate.specs.Limits.{emit_max, number_max}
-use Rattle.abt_model.specs.Answers.{start_max, if_up, start_answer, ask_answer, emit_answer, arrive_answer, told_answer, is_hop, answer_by}
-use Rattle.abt_model.specs.Outcomes.{delivery, request_adds, answer_adds, facts_added}
+use Rattle.abt_rate.specs.Limits.{emit_max, number_max, start_max}
+use Rattle.abt_model.specs.Answers.{if_up, start_answer, next_request, ask_answer, emit_answer, arrive_answer, told_answer, is_hop, answer_by}
+use Rattle.abt_model.specs.Outcomes.{delivery, request_adds, answer_adds, facts_added, write_adds}
 use Rattle.abt_model.specs.PortTable.{policing_by, kept_at, hop_visited}
 use Rattle.abt_model.specs.Decision.{reservation_at}
 use Rattle.abt_node.specs.Reservation.{Reservation, is_of, answer_of}
@@ -39,7 +40,7 @@ use Rattle.abt_model.proofs.Holds.{newest_above, shut_there}
 use Rattle.abt_model.proofs.Lawful.{Route, route_of, IsLawful}
 use Rattle.abt_model.proofs.Drops.{answer_passed}
 use Rattle.abt_model.proofs.Decisions.{decided, decided_back}
-use Rattle.abt_model.proofs.Steps.{down_adds}
+use Rattle.abt_model.proofs.Steps.{down_adds, kept_cases}
 use Rattle.abt_model.proofs.Cases.{passed_newest}
 use Rattle.abt_model.proofs.Reservations.{shut_as, shut_elsewhere, reservation_other}
 
@@ -148,13 +149,13 @@ told_stays conn fs c s i granted Raised = refl
 told_stays conn fs c s i granted Refused = refl
 told_stays conn fs c s i granted Ignored = refl
 
--- a new request leaves what each hop reserves
-asked_stays : (l : Route) (conn : Conn) (fs : List Fact) → IsLawful l fs → (floor ask mark i : ℕ) → kept_at conn (Asked (last_of fs + 1) floor ask mark ∷ (Stored (last_of fs + 1) ∷ fs)) i ≡ kept_at conn fs i
+-- a new request leaves what each hop reserves, whether its ask wrote or not
+asked_stays : (l : Route) (conn : Conn) (fs : List Fact) → IsLawful l fs → (floor ask mark i : ℕ) → kept_at conn (Asked (last_of fs + 1) floor ask mark ∷ fs) i ≡ kept_at conn fs i
 asked_stays l conn fs lawful floor ask mark i =
     let m = newest_of fs i in
     let low : m ≤ last_of fs = elim (newest_asked l fs lawful i) [ inl z ↦ omega arith | inr a ↦ (let n = (asked_last l fs lawful).1 m a in omega arith) ] in
     let differ : (last_of fs + 1 == m) ≡ false = ne_eqb _ _ (λ e. omega arith) in
-    let more : List Fact = Asked (last_of fs + 1) floor ask mark ∷ (Stored (last_of fs + 1) ∷ fs) in
+    let more : List Fact = Asked (last_of fs + 1) floor ask mark ∷ fs in
     let f : floor_of more m ≡ floor_of fs m = cond-false _ _ _ differ in
     let a : ask_of more m ≡ ask_of fs m = cond-false _ _ _ differ in
     let r : reservation_at more i ≡ reservation_at fs i =
@@ -162,13 +163,29 @@ asked_stays l conn fs lawful floor ask mark i =
     ∙ ap (λ (x : ℕ). record { newest = m; floor = floor_of fs m; ask = x; is_open = is_open_at fs i }) a in
     with_reservation conn fs more i r refl
 
+write_stays : (conn : Conn) (fs : List Fact) (s floor ask mark i : ℕ) (b : Bool) (kept : KeptRecord) →
+    kept_at conn (Asked s floor ask mark ∷ (write_adds b kept ++ fs)) i ≡ kept_at conn (Asked s floor ask mark ∷ fs) i
+write_stays conn fs s floor ask mark i true kept = refl
+write_stays conn fs s floor ask mark i false kept = refl
+
+goes_stays : (l : Route) (conn : Conn) (fs : List Fact) → IsLawful l fs → (r i : ℕ) (b : Bool) (kept : KeptRecord) →
+    kept_at conn (Asked (last_of fs + 1) (min (rate_of fs) r) r (emitted_of fs) ∷ (write_adds b kept ++ fs)) i ≡ kept_at conn fs i
+goes_stays l conn fs lawful r i b kept =
+    write_stays conn fs (last_of fs + 1) (min (rate_of fs) r) r (emitted_of fs) i b kept ∙ asked_stays l conn fs lawful (min (rate_of fs) r) r (emitted_of fs) i
+
 ask_stays : (conn : Conn) (fs : List Fact) → IsLawful (route_of conn) fs → (c r i : ℕ) (plan : StorePlan) → Stays conn fs (Ask c r plan) i (ask_answer conn.vc fs r plan)
 ask_stays conn fs lawful c r i Works =
-    cond_both (last_of fs == number_max) _ _ (Stays conn fs (Ask c r Works) i) (λ e. refl) (λ e. asked_stays (route_of conn) conn fs lawful (min (rate_of fs) r) r (emitted_of fs) i)
+    let P = Stays conn fs (Ask c r Works) i in
+    cond_both (last_of fs == number_max) _ _ P (λ e. refl)
+    (λ e. kept_cases P (writes fs r) Works (next_request conn.vc fs r) (goes_stays (route_of conn) conn fs lawful r i (writes fs r) (written_for fs r)) (λ does. refl))
 ask_stays conn fs lawful c r i FailsBefore =
-    cond_both (last_of fs == number_max) _ _ (Stays conn fs (Ask c r FailsBefore) i) (λ e. refl) (λ e. refl)
+    let P = Stays conn fs (Ask c r FailsBefore) i in
+    cond_both (last_of fs == number_max) _ _ P (λ e. refl)
+    (λ e. kept_cases P (writes fs r) FailsBefore (next_request conn.vc fs r) (goes_stays (route_of conn) conn fs lawful r i (writes fs r) (written_for fs r)) (λ does. refl))
 ask_stays conn fs lawful c r i FailsAfter =
-    cond_both (last_of fs == number_max) _ _ (Stays conn fs (Ask c r FailsAfter) i) (λ e. refl) (λ e. refl)
+    let P = Stays conn fs (Ask c r FailsAfter) i in
+    cond_both (last_of fs == number_max) _ _ P (λ e. refl)
+    (λ e. kept_cases P (writes fs r) FailsAfter (next_request conn.vc fs r) (goes_stays (route_of conn) conn fs lawful r i (writes fs r) (written_for fs r)) (λ does. refl))
 
 up_stays : (conn : Conn) (fs : List Fact) (e : Event) (o : Outcome) (st : SourceState) (i : ℕ) → Stays conn fs e i o → Stays conn fs e i (if_up st o)
 up_stays conn fs e o Down i stays = rw (down_adds fs e IsDown) refl

@@ -52,7 +52,7 @@ IsBacked-more k f fs lawful x b within backed =
 -- an asking source shapes at the floor of its last number
 pub asking : (k : Route) (fs : List Fact) → IsLawful k fs → (s : ℕ) → state_of fs ≡ Asking s → (s ≡ last_of fs) × (rate_of fs ≡ floor_of fs s) × (was_asked fs s ≡ true)
 asking k [] lawful s e = absurd (cc)
-asking k (Started t n ∷ fs) lawful s e = absurd (cc)
+asking k (Started t kept ∷ fs) lawful s e = absurd (cc)
 asking k (Crashed ∷ fs) lawful s e = absurd (cc)
 asking k (Heard t granted ∷ fs) lawful s e = absurd (cc)
 asking k (Asked t floor ask mark ∷ fs) lawful s e =
@@ -66,7 +66,7 @@ asking k (f ∷ fs) lawful s e =
 -- the rate counts for each number that was asked
 pub rate_backed : (k : Route) (fs : List Fact) → IsLawful k fs → IsBacked fs (rate_of fs) (last_of fs + 1)
 rate_backed k [] lawful = IsBacked-zero [] 1 (omega arith)
-rate_backed k (Started t n ∷ fs) lawful = IsBacked-zero (Started t n ∷ fs) (n + 1) (omega arith)
+rate_backed k (Started t kept ∷ fs) lawful = IsBacked-zero (Started t kept ∷ fs) (kept.number + 1) (omega arith)
 rate_backed k (Crashed ∷ fs) lawful = IsBacked-zero (Crashed ∷ fs) (last_of fs + 1) (omega arith)
 rate_backed k (Asked t floor ask mark ∷ fs) lawful =
     let may = lawful.0 in

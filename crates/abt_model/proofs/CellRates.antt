@@ -1,10 +1,11 @@
 -- The first hop holds at least the rate of each cell that may still arrive.
-use Rattle.std.proofs.Common.{◌≡◌, ℕ, ◌+◌, ◌≤◌, ◌<◌, inl, inr, refl, true, List, [], ◌∷◌, ◌∙◌, sym, subst, arith}
+use Rattle.std.proofs.Common.{◌≡◌, ap, ℕ, ◌+◌, ◌≤◌, ◌<◌, inl, inr, refl, true, List, [], ◌∷◌, ◌∙◌, sym, subst, arith}
 use Rattle.std.proofs.lemmas.Bool.{eq-eqb, cond-true, cases_eq, cases_lt}
+use Rattle.abt_keep.specs.Record.{KeptRecord}
 use Rattle.abt_facts.specs.declared.fact.Fact.{Fact}
 use Rattle.abt_facts.specs.declared.fact.Fact.TheVariants.{Started, Asked, Emitted}
 use Rattle.abt_facts.specs.Requests.{was_asked, mark_of}
-use Rattle.abt_facts.specs.Source.{rate_of, last_of}
+use Rattle.abt_facts.specs.Source.{rate_of, stored_of, last_of}
 use Rattle.abt_facts.specs.Hop.{newest_of, held_of}
 use Rattle.abt_facts.specs.Cells.{emitted_of, cell_rate_of, fence_of}
 use Rattle.abt_model.proofs.Chain.{may_of, asked_last, newest_asked}
@@ -22,7 +23,10 @@ pub record IsCellBacked (fs : List Fact) (n : ℕ) : Type 0 where
   pub later : (s : ℕ) → was_asked fs s ≡ true → bound ≤ s → n < mark_of fs s
 
 last_more : (l : Route) (f : Fact) (fs : List Fact) → MayFollow l fs f → IsLawful l fs → last_of fs ≤ last_of (f ∷ fs)
-last_more l (Started t n) fs may lawful = let low = (asked_last l fs lawful).0 in omega arith
+last_more l (Started t kept) fs may lawful =
+    let low = (asked_last l fs lawful).0 in
+    let same : kept.number ≡ (stored_of fs).number = ap (λ (r : KeptRecord). r.number) may.0 in
+    omega arith
 last_more l (Asked t floor ask mark) fs may lawful = omega arith
 last_more l other fs may lawful = omega arith
 

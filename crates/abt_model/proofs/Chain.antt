@@ -1,8 +1,9 @@
 -- What the facts of a lawful list say of one another.
-use Rattle.std.proofs.Common.{◌≡◌, ℕ, zero, suc, ◌+◌, ◌-◌, ◌≤◌, ◌⊎◌, inl, inr, refl, true, List, [], ◌∷◌, ◌∙◌, sym, subst, arith}
+use Rattle.std.proofs.Common.{◌≡◌, ℕ, zero, suc, ap, min, ◌+◌, ◌-◌, ◌≤◌, ◌⊎◌, inl, inr, refl, true, List, [], ◌∷◌, ◌∙◌, sym, subst, arith}
 use Rattle.std.specs.Prelude.{◌==◌}
 use Rattle.std.proofs.lemmas.Bool.{false≢true, or_cases, eqb-true, ne_eqb, cond-false}
 use Rattle.std.proofs.lemmas.Bool.Decides.{nat_tests}
+use Rattle.abt_keep.specs.Record.{KeptRecord}
 use Rattle.abt_facts.specs.declared.fact.Fact.{Fact}
 use Rattle.abt_facts.specs.declared.fact.Fact.TheVariants.{Started, Stored, Asked, Heard, Passed, Shut, Turned, Back}
 use Rattle.abt_facts.specs.Requests.{was_asked, floor_of, ask_of}
@@ -166,13 +167,16 @@ pub back_open : (k : Route) (fs : List Fact) → IsLawful k fs → (s j i : ℕ)
 back_open k fs lawful s j i b h = turned_open k fs lawful s i (back_turned k fs lawful s j k.hops (omega arith) b) h
 
 -- asked numbers are above 0 and up to the last, and that is in the store
-pub asked_last : (k : Route) (fs : List Fact) → IsLawful k fs → (last_of fs ≤ stored_of fs) × ((s : ℕ) → was_asked fs s ≡ true → (1 ≤ s) × (s ≤ last_of fs))
+pub asked_last : (k : Route) (fs : List Fact) → IsLawful k fs → (last_of fs ≤ (stored_of fs).number) × ((s : ℕ) → was_asked fs s ≡ true → (1 ≤ s) × (s ≤ last_of fs))
 asked_last k [] lawful = (omega arith, λ s h. absurd (false≢true h))
-asked_last k (Started t n ∷ fs) lawful =
+asked_last k (Started t kept ∷ fs) lawful =
     let old = asked_last k fs lawful.1 in
-    (omega (arith, lawful.0), λ s h. (let o = old.1 s h in (o.0, omega (arith, lawful.0))))
-asked_last k (Stored n ∷ fs) lawful =
+    let same : kept.number ≡ (stored_of fs).number = ap (λ (r : KeptRecord). r.number) lawful.0.0 in
+    (omega arith, λ s h. (let o = old.1 s h in (o.0, omega arith)))
+asked_last k (Stored kept ∷ fs) lawful =
     let old = asked_last k fs lawful.1 in
+    let most = lawful.0.3 in
+    let is : kept.number ≡ min (last_of fs + 64) number_max = ap (λ (r : KeptRecord). r.number) lawful.0.1 in
     (omega arith, old.1)
 asked_last k (Asked t floor ask mark ∷ fs) lawful =
     let old = asked_last k fs lawful.1 in
@@ -237,11 +241,3 @@ newest_asked k fs lawful j = elim (newest_kept fs j) [
   | inr (inl p) ↦ inr (passed_asked k fs lawful (newest_of fs j) j p)
   | inr (inr h) ↦ inr (at_asked k fs lawful (newest_of fs j) j (shut_at k fs lawful (newest_of fs j) j h).0)
 ]
-
--- no number above the last of all is in the store
-pub stored_within : (k : Route) (fs : List Fact) → IsLawful k fs → stored_of fs ≤ number_max
-stored_within k [] lawful = omega arith
-stored_within k (Stored n ∷ fs) lawful =
-    let old = stored_within k fs lawful.1 in
-    omega (arith, lawful.0.1)
-stored_within k (f ∷ fs) lawful = stored_within k fs lawful.1

@@ -19,7 +19,7 @@ use Rattle.abt_node.specs.Rule.{IsRepeat, IsDecision, IsAnswered}
 use Rattle.abt_node.proofs.RuleLemmas.{decision_of-IsDecision, answer_of-IsAnswered}
 use Rattle.abt_model.specs.declared.outcome.Outcome.TheVariants.{Requested, Answered}
 use Rattle.abt_facts.specs.Requests.{floor_of, ask_of}
-use Rattle.abt_facts.specs.Source.{SourceState, Down, Idle, Asking, state_of, rate_of, last_of, clock_of, next_of}
+use Rattle.abt_facts.specs.Source.{SourceState, Down, Idle, Asking, state_of, rate_of, last_of, clock_of, next_of, writes}
 use Rattle.abt_facts.specs.Sent.{was_passed, was_shut, was_turned, request_is_at, answer_is_at, answer_is_home, request_is_through}
 use Rattle.abt_facts.specs.Hop.{held_of}
 use Rattle.abt_facts.specs.Cells.{emitted_of, last_arrival_of, fence_of, is_in_time}
@@ -28,8 +28,8 @@ use Rattle.abt_net.specs.Topology.{Topology, conn_at}
 use Rattle.abt_cell.specs.Channel.{Channel}
 use Rattle.abt_model.specs.Past.{Past, facts_of}
 use Rattle.abt_source.specs.SourceFacts.{request_of}
-use Rattle.abt_rate.specs.Limits.{emit_max, number_max}
-use Rattle.abt_model.specs.Answers.{start_max, if_up, start_answer, next_request, stored_answer, again_answer, emit_answer, arrive_answer, is_hop, answer_by}
+use Rattle.abt_rate.specs.Limits.{emit_max, number_max, start_max}
+use Rattle.abt_model.specs.Answers.{if_up, start_answer, next_request, kept_answer, again_answer, emit_answer, arrive_answer, is_hop, answer_by}
 use Rattle.abt_model.specs.Outcomes.{conn_of, outcome_by}
 use Rattle.abt_model.specs.Promises.{disputes, NeverDisputes}
 use Rattle.abt_model.proofs.Chain.{passed_all, passed_asked, at_asked, asked_last, shut_next_passed, turned_passed, back_turned, turned_open}
@@ -109,10 +109,11 @@ up_agrees Down o e = refl
 up_agrees Idle o e = e
 up_agrees (Asking s) o e = e
 
-stored_agrees : (plan : StorePlan) (request : Terms) → disputes (stored_answer plan request) ≡ false
-stored_agrees Works request = refl
-stored_agrees FailsBefore request = refl
-stored_agrees FailsAfter request = refl
+kept_agrees : (writes : Bool) (plan : StorePlan) (request : Terms) → disputes (kept_answer writes plan request) ≡ false
+kept_agrees true Works request = refl
+kept_agrees true FailsBefore request = refl
+kept_agrees true FailsAfter request = refl
+kept_agrees false plan request = refl
 
 start_agrees : (st : SourceState) (fs : List Fact) (now : ℕ) → disputes (start_answer st fs now) ≡ false
 start_agrees Down fs now =
@@ -145,7 +146,7 @@ arrive_agrees conn fs n a =
 pub step_agrees : (conn : Conn) (reserved capacity : ℕ) (fs : List Fact) → IsLawful (route_of conn) fs → (e : Event) → disputes (answer_by conn reserved capacity fs e) ≡ false
 step_agrees conn reserved capacity fs lawful (Start c now) = start_agrees (state_of fs) fs now
 step_agrees conn reserved capacity fs lawful (Ask c r plan) =
-    up_agrees (state_of fs) _ (cond_both (last_of fs == number_max) _ _ (λ (o : Outcome). disputes o ≡ false) (λ e. refl) (λ e. stored_agrees plan (next_request conn.vc fs r)))
+    up_agrees (state_of fs) _ (cond_both (last_of fs == number_max) _ _ (λ (o : Outcome). disputes o ≡ false) (λ e. refl) (λ e. kept_agrees (writes fs r) plan (next_request conn.vc fs r)))
 step_agrees conn reserved capacity fs lawful (Again c) = again_agrees conn.vc (state_of fs) fs
 step_agrees conn reserved capacity fs lawful (Crash c) = up_agrees (state_of fs) _ refl
 step_agrees conn reserved capacity fs lawful (Emit c now) = up_agrees (state_of fs) _ (emit_agrees fs now)

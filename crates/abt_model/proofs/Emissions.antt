@@ -3,12 +3,14 @@ use Rattle.std.proofs.Common.{◌≡◌, ℕ, ◌+◌, ◌≤◌, ◌<◌, inl, 
 use Rattle.std.specs.Prelude.{◌==◌}
 use Rattle.std.proofs.lemmas.Bool.{ne_eqb, eq-eqb, cond-false, cond-true, cases_eq, cond_both}
 use Rattle.abt_rate.specs.Rate.{IsRate, spacing_of}
+use Rattle.abt_keep.specs.Record.{KeptRecord}
 use Rattle.abt_facts.specs.declared.fact.Fact.{Fact}
 use Rattle.abt_facts.specs.declared.fact.Fact.TheVariants.{Started, Crashed, Asked, Heard, Emitted}
 use Rattle.abt_facts.specs.Requests.{floor_of, ask_of}
-use Rattle.abt_facts.specs.Source.{rate_of, clock_of, next_of}
+use Rattle.abt_facts.specs.Source.{rate_of, stored_of, clock_of, next_of}
 use Rattle.abt_facts.specs.Cells.{emitted_of, moment_of, cell_rate_of}
-use Rattle.abt_model.proofs.Spacings.{spacing_bounds, min_rate}
+use Rattle.abt_model.proofs.Spacings.{min_rate}
+use Rattle.abt_model.proofs.Records.{recorded}
 use Rattle.abt_model.proofs.Lawful.{Route, MayFollow, IsLawful}
 
 pub record AreRates (fs : List Fact) : Type 0 where
@@ -18,7 +20,7 @@ pub record AreRates (fs : List Fact) : Type 0 where
 
 pub are_rates : (l : Route) (fs : List Fact) → IsLawful l fs → AreRates fs
 are_rates l [] lawful = record { now = inl refl; floors = λ s. inl refl; asks = λ s. inl refl }
-are_rates l (Started t n ∷ fs) lawful = let old = are_rates l fs lawful.1 in record { now = inl refl; floors = old.floors; asks = old.asks }
+are_rates l (Started t kept ∷ fs) lawful = let old = are_rates l fs lawful.1 in record { now = inl refl; floors = old.floors; asks = old.asks }
 are_rates l (Crashed ∷ fs) lawful = let old = are_rates l fs lawful.1 in record { now = inl refl; floors = old.floors; asks = old.asks }
 are_rates l (Asked t floor ask mark ∷ fs) lawful =
     let old = are_rates l fs lawful.1 in
@@ -50,10 +52,11 @@ pub record IsSent (fs : List Fact) (n : ℕ) : Type 0 where
 
 pub sent_facts : (l : Route) (fs : List Fact) → IsLawful l fs → (n : ℕ) → n < emitted_of fs → IsSent fs n
 sent_facts l [] lawful n low = absurd (omega arith)
-sent_facts l (Started t m ∷ fs) lawful n low =
+sent_facts l (Started t kept ∷ fs) lawful n low =
     let old = sent_facts l fs lawful.1 n low in
-    let most = (spacing_bounds (cell_rate_of fs n) old.rated old.some).1 in
-    record { rated = old.rated; some = old.some; past = omega (arith, old.past); gap = omega (arith, old.past, most, lawful.0.1) }
+    let held = recorded l fs lawful.1 in
+    let same : kept.spacing ≡ (stored_of fs).spacing = ap (λ (r : KeptRecord). r.spacing) lawful.0.0 in
+    record { rated = old.rated; some = old.some; past = omega (arith, old.past); gap = omega (arith, old.gap, held.due, held.stored.gap, same, lawful.0.1) }
 sent_facts l (Emitted m t r ∷ fs) lawful n low = elim (cases_eq m n) [
   | inl e ↦ (
       let at : moment_of (Emitted m t r ∷ fs) n ≡ t = cond-true _ _ _ (eq-eqb m n e) in

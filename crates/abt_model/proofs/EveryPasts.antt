@@ -6,13 +6,13 @@ use Rattle.abt_model.specs.Past.{Past, facts_of}
 use Rattle.abt_model.specs.Reserved.{capacity_of}
 use Rattle.abt_model.specs.Run.{facts_after}
 use Rattle.abt_model.specs.Safe.{AllConform, IsSafe}
-use Rattle.abt_model.specs.Promises.{EveryPast, NeverDisputes, OneAnswerEach, RatesWait, YesStandsEverywhere, ArrivalsConform, NextIsDue, CellsAreApart, ArrivalsInRange}
+use Rattle.abt_model.specs.Promises.{EveryPast, NeverDisputes, OneAnswerEach, RatesWait, YesStandsEverywhere, ArrivalsConform, NextIsDue, CellsAreApart, ArrivalsInRange, StoreCovers}
 use Rattle.abt_model.proofs.Sums.{AllWithin, facts_after_lawful}
 use Rattle.abt_model.proofs.Answered.{yes_everywhere, rates_wait, one_answer_each}
 use Rattle.abt_model.proofs.Worlds.{cases_option, IsConnLawful, AllLawful, lawful_at}
 use Rattle.abt_model.proofs.Lawful.{route_of}
 use Rattle.abt_model.proofs.Drops.{outcome_agrees}
-use Rattle.abt_model.proofs.Served.{conn_within, cells_are_apart, arrivals_in_range, arrivals_conform, next_is_due}
+use Rattle.abt_model.proofs.Served.{conn_within, cells_are_apart, arrivals_in_range, arrivals_conform, next_is_due, store_covers}
 use Rattle.abt_model.proofs.Arrivals.{all_conform}
 use Rattle.abt_model.proofs.Backed.{rate_held}
 
@@ -64,3 +64,6 @@ every_cell_apart net events rules rates = cells_are_apart net (facts_after net e
 
 pub every_arrival_in_range : EveryPast ArrivalsInRange
 every_arrival_in_range net events rules rates = arrivals_in_range net (facts_after net events) rules (facts_after_lawful net events rates).0
+
+pub every_store_covers : EveryPast StoreCovers
+every_store_covers net events rules rates = store_covers net (facts_after net events) (facts_after_lawful net events rates).0

@@ -5,12 +5,11 @@ use Rattle.abt_net.specs.declared.conn.Conn.{Conn}
 use Rattle.abt_facts.specs.declared.fact.Fact.{Fact}
 use Rattle.abt_facts.specs.declared.fact.Fact.TheVariants.{Started, Crashed, Stored, Asked, Heard, Delivered, Passed, Shut, Turned, Back, Emitted, Arrived}
 use Rattle.abt_facts.specs.Requests.{was_asked, floor_of}
-use Rattle.abt_facts.specs.Source.{Asking, state_of, rate_of, stored_of, last_of, clock_of, next_of}
+use Rattle.abt_facts.specs.Source.{Asking, state_of, rate_of, stored_of, last_of, clock_of, next_of, writes, written_for}
 use Rattle.abt_facts.specs.Sent.{was_delivered, was_passed, was_shut, was_turned, was_back}
 use Rattle.abt_facts.specs.Hop.{newest_of, held_of}
 use Rattle.abt_facts.specs.Cells.{emitted_of, moment_of, fence_of, last_arrival_of, verdict_at}
-use Rattle.abt_rate.specs.Limits.{emit_max, number_max}
-use Rattle.abt_model.specs.Answers.{start_max}
+use Rattle.abt_rate.specs.Limits.{emit_max, number_max, start_max}
 
 -- of a connection: its hops, the least delay of its access line, and by how much that varies
 pub record Route : Type 0 where
@@ -30,10 +29,10 @@ IsYesAtHop k fs s j = ((j ≡ k) × (was_turned fs s ≡ true)) ⊎ (was_back fs
 
 -- the fact may be added to these, which are the newest first
 abbrev pub MayFollow : Route → List Fact → Fact → Type 0
-MayFollow l fs (Started t n) = (n ≡ stored_of fs) × (clock_of fs ≤ t) × (t ≤ start_max)
+MayFollow l fs (Started t kept) = (kept ≡ stored_of fs) × (clock_of fs ≤ t) × (t ≤ start_max)
 MayFollow l fs Crashed = Unit {0}
-MayFollow l fs (Stored s) = (s ≡ last_of fs + 1) × (s ≤ number_max)
-MayFollow l fs (Asked s floor ask mark) = (s ≡ last_of fs + 1) × (s ≤ stored_of fs) × (floor ≡ min (rate_of fs) ask) × (mark ≡ emitted_of fs) × IsRate ask
+MayFollow l fs (Stored kept) = (ask : ℕ) × (kept ≡ written_for fs ask) × (writes fs ask ≡ true) × (last_of fs + 1 ≤ number_max) × IsRate ask
+MayFollow l fs (Asked s floor ask mark) = (s ≡ last_of fs + 1) × (s ≤ (stored_of fs).number) × (floor ≡ min (rate_of fs) ask) × (mark ≡ emitted_of fs) × IsRate ask × (writes fs ask ≡ true → stored_of fs ≡ written_for fs ask)
 MayFollow l fs (Heard s true) = (state_of fs ≡ Asking s) × (was_back fs s 1 ≡ true)
 MayFollow l fs (Heard s false) = (state_of fs ≡ Asking s) × (was_shut fs s 1 ≡ true)
 MayFollow l fs (Delivered s) = was_asked fs s ≡ true

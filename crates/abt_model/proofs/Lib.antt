@@ -7,6 +7,7 @@ pub mod Decisions
 pub mod Steps
 pub mod Spacings
 pub mod Marks
+pub mod Records
 pub mod Emissions
 pub mod CellRates
 pub mod Arrivals

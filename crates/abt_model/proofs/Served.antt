@@ -1,5 +1,5 @@
 -- What an arrival that is enabled meets.
-use Rattle.std.proofs.Common.{◌≡◌, ◌≢◌, ℕ, ◌+◌, ◌*◌, ◌≤◌, refl, List, [], ◌∷◌, length, ◌∙◌, sym, subst, arith}
+use Rattle.std.proofs.Common.{◌≡◌, ◌≢◌, ap, ℕ, ◌+◌, ◌*◌, ◌≤◌, refl, List, [], ◌∷◌, length, ◌∙◌, sym, subst, arith}
 use Rattle.std.specs.Prelude.{◌==◌, not, nat_lt, Some}
 use Rattle.std.proofs.lemmas.Bool.{and_from, cond_both, not-false, ltb-true, ltb-false}
 use Rattle.abt_rate.specs.Rate.{IsRate, spacing_of}
@@ -8,24 +8,26 @@ use Rattle.abt_gcra.specs.declared.verdict.Verdict.{Verdict}
 use Rattle.abt_gcra.specs.Windows.{Arrival, IsVerdictAt}
 use Rattle.abt_gcra.specs.Standing.{IsOwed, TatStandsFor}
 use Rattle.abt_gcra.proofs.WindowsLemmas.{tat_first, tat_next, owed_none}
+use Rattle.abt_keep.specs.Record.{KeptRecord}
 use Rattle.abt_facts.specs.declared.fact.Fact.{Fact}
 use Rattle.abt_facts.specs.declared.fact.Fact.TheVariants.{Started, Emitted, Arrived}
 use Rattle.abt_model.specs.declared.event.Event.TheVariants.{Arrive}
 use Rattle.abt_model.specs.declared.outcome.Outcome.{Outcome}
 use Rattle.abt_net.specs.declared.conn.Conn.{Conn}
 use Rattle.abt_model.specs.declared.outcome.Outcome.TheVariants.{Arrived as HasArrived}
-use Rattle.abt_facts.specs.Source.{clock_of, hold_off, next_of}
+use Rattle.abt_facts.specs.Source.{stored_of, next_of}
 use Rattle.abt_facts.specs.Hop.{held_of}
 use Rattle.abt_facts.specs.Cells.{emitted_of, moment_of, last_arrival_of, fence_of, taken_of, verdict_at, is_in_time}
 use Rattle.abt_net.specs.Topology.{Topology, IsWithinRules, IsConnWithin, conn_at}
 use Rattle.abt_model.specs.Past.{Past, facts_of}
 use Rattle.abt_rate.specs.Limits.{emit_max}
 use Rattle.abt_model.specs.Answers.{arrive_answer}
-use Rattle.abt_model.specs.Promises.{ArrivalsConform, NextIsDue, CellsAreApart, ArrivalsInRange}
+use Rattle.abt_model.specs.Promises.{ArrivalsConform, NextIsDue, CellsAreApart, ArrivalsInRange, Covers, StoreCovers}
 use Rattle.abt_model.proofs.Answered.{past_cases}
 use Rattle.abt_model.proofs.Worlds.{outcome_of-known, AllLawful, lawful_at, all_at}
 use Rattle.abt_model.proofs.Spacings.{spacing_bounds}
 use Rattle.abt_model.proofs.Lawful.{Route, route_of, MayFollow, IsLawful}
+use Rattle.abt_model.proofs.Records.{recorded}
 use Rattle.abt_model.proofs.Arrivals.{tat, arrival, timely}
 use Rattle.abt_model.proofs.Steps.{in_time_tells}
 use Rattle.abt_model.proofs.Emissions.{are_rates}
@@ -55,20 +57,12 @@ moment_within l (Emitted m t r ∷ fs) lawful n =
     cond_both (m == n) t (moment_of fs n) (λ (x : ℕ). x ≤ emit_max) (λ e. lawful.0.5) (λ e. moment_within l fs lawful.1 n)
 moment_within l (f ∷ fs) lawful n = moment_within l fs lawful.1 n
 
--- no cell leaves later than the hold-off after the last moment
-next_low : (l : Route) (fs : List Fact) → IsLawful l fs → next_of fs ≤ clock_of fs + hold_off
-next_low l [] lawful = omega arith
-next_low l (Started t n ∷ fs) lawful = omega arith
-next_low l (Emitted m t r ∷ fs) lawful =
-    let rated : IsRate r = subst IsRate (sym lawful.0.1) (are_rates l fs lawful.1).now in
-    let some = lawful.0.2 in
-    let most = spacing_bounds r rated (omega arith) in
-    omega (arith, most.1)
-next_low l (f ∷ fs) lawful = next_low l fs lawful.1
-
 pub cells_apart : (l : Route) (fs : List Fact) → IsLawful l fs → 234 * emitted_of fs ≤ next_of fs
 cells_apart l [] lawful = omega arith
-cells_apart l (Started t n ∷ fs) lawful = omega (arith, cells_apart l fs lawful.1, next_low l fs lawful.1, lawful.0.1)
+cells_apart l (Started t kept ∷ fs) lawful =
+    let held = recorded l fs lawful.1 in
+    let same : kept.spacing ≡ (stored_of fs).spacing = ap (λ (r : KeptRecord). r.spacing) lawful.0.0 in
+    omega (arith, cells_apart l fs lawful.1, held.due, held.stored.gap, same, lawful.0.1)
 cells_apart l (Emitted m t r ∷ fs) lawful =
     let rated : IsRate r = subst IsRate (sym lawful.0.1) (are_rates l fs lawful.1).now in
     let some = lawful.0.2 in
@@ -79,6 +73,12 @@ cells_apart l (f ∷ fs) lawful = cells_apart l fs lawful.1
 pub cells_are_apart : (net : Topology) (past : Past) → AllLawful net past → CellsAreApart net past
 cells_are_apart net past lawful c =
     past_cases net past lawful c (λ (fs : List Fact). 234 * emitted_of fs ≤ next_of fs) (omega arith) (λ conn law. cells_apart (route_of conn) (facts_of c past) law)
+
+-- what is in the store covers the source
+pub store_covers : (net : Topology) (past : Past) → AllLawful net past → StoreCovers net past
+store_covers net past lawful c =
+    past_cases net past lawful c (λ (fs : List Fact). Covers fs (stored_of fs).spacing)
+    (record { gap = omega arith; rate = omega arith; waiting = omega arith }) (λ conn law. (recorded (route_of conn) (facts_of c past) law).stored)
 
 -- what an arrival meets
 pub arrivals_in_range : (net : Topology) (past : Past) → IsWithinRules net → AllLawful net past → ArrivalsInRange net past

@@ -1,11 +1,11 @@
 -- Each event adds facts that may follow.
 use Rattle.std.proofs.Common.{◌≡◌, ℕ, ◌+◌, ◌-◌, ◌≤◌, ◌<◌, ◌⊎◌, inl, inr, refl, ap, Bool, true, false, List, [], ◌∷◌, ◌++◌, length, ◌∙◌, sym, subst, arith}
-use Rattle.std.specs.Prelude.{◌==◌, not, nat_lt}
+use Rattle.std.specs.Prelude.{◌==◌, not, nat_lt, min}
 use Rattle.std.proofs.lemmas.Bool.{false≢true, or_left, eqb-true, ne_eqb, eq-eqb, cond-false, cond-true, cases_eq, and_parts, cond_both, not-false, ltb-true, ltb-false, eqb-false}
 use Rattle.std.proofs.lemmas.Bool.Decides.{nat_tests}
 use Rattle.abt_rate.specs.Rate.{IsRate}
 use Rattle.abt_facts.specs.declared.fact.Fact.{Fact}
-use Rattle.abt_facts.specs.declared.fact.Fact.TheVariants.{Delivered, Passed, Shut}
+use Rattle.abt_facts.specs.declared.fact.Fact.TheVariants.{Asked as FactAsked, Delivered, Passed, Shut}
 use Rattle.abt_model.specs.declared.outcome.Cause.{Cause}
 use Rattle.abt_node.specs.declared.reply.Onward.{Onward}
 use Rattle.abt_node.specs.declared.reply.Onward.TheVariants.{Pass, Refuse, Drop}
@@ -20,18 +20,22 @@ use Rattle.abt_model.specs.declared.outcome.Heard.{Heard as Hearing}
 use Rattle.abt_model.specs.declared.outcome.Heard.TheVariants.{Ignored}
 use Rattle.abt_model.specs.declared.outcome.Outcome.{Outcome}
 use Rattle.abt_model.specs.declared.outcome.Cause.TheVariants.{Down as IsDown}
-use Rattle.abt_model.specs.declared.outcome.Outcome.TheVariants.{Crashed as HasCrashed, Told as HasTold, NotEnabled}
+use Rattle.abt_model.specs.declared.outcome.Outcome.TheVariants.{Asked as HasAsked, AskRefused, Crashed as HasCrashed, Told as HasTold, NotEnabled}
 use Rattle.abt_facts.specs.Requests.{floor_of}
-use Rattle.abt_facts.specs.Source.{SourceState, Down, Idle, Asking, state_of, rate_of, last_of, clock_of, next_of}
+use Rattle.abt_facts.specs.Source.{SourceState, Down, Idle, Asking, state_of, rate_of, kept_of, last_of, clock_of, next_of, need_of, writes, written_for}
+use Rattle.abt_facts.proofs.Keeps.{written_stored}
 use Rattle.abt_facts.specs.Sent.{was_delivered, was_shut, request_is_at, yes_is_at, answer_is_at, answer_is_home, request_is_through}
 use Rattle.abt_facts.specs.Hop.{newest_of, held_of}
 use Rattle.abt_facts.specs.Cells.{emitted_of, moment_of, last_arrival_of, fence_of, is_in_time}
 use Rattle.abt_cell.specs.Channel.{Channel}
+use Rattle.abt_cell.specs.Message.{Terms}
+use Rattle.abt_source.specs.declared.fault.AskFault.TheVariants.{Keep}
 use Rattle.abt_model.specs.Events.{AsksRate}
-use Rattle.abt_rate.specs.Limits.{emit_max, number_max}
-use Rattle.abt_model.specs.Answers.{start_max, if_up, start_answer, ask_answer, emit_answer, arrive_answer, hearing, told_answer, is_hop, answer_by}
-use Rattle.abt_model.specs.Outcomes.{delivery, request_adds, answer_adds, facts_added}
-use Rattle.abt_model.proofs.Chain.{at_asked, asked_last, stored_within}
+use Rattle.abt_rate.specs.Limits.{emit_max, number_max, start_max}
+use Rattle.abt_model.specs.Answers.{if_up, start_answer, next_request, kept_answer, ask_answer, emit_answer, arrive_answer, hearing, told_answer, is_hop, answer_by}
+use Rattle.abt_model.specs.Outcomes.{delivery, request_adds, answer_adds, write_adds, facts_added}
+use Rattle.abt_model.proofs.Chain.{at_asked, asked_last}
+use Rattle.abt_model.proofs.Records.{recorded, not_above}
 use Rattle.abt_model.proofs.Decisions.{closed_shut, decided, decided_back, decided_pass, decided_refuse, decided_back_pass}
 use Rattle.abt_model.proofs.Lawful.{Route, route_of, IsAtHop, IsYesAtHop, MayFollow, IsLawful}
 
@@ -98,22 +102,46 @@ told_lawful k fs lawful c s true sent (Asking t) is =
 told_lawful k fs lawful c s false sent (Asking t) is =
     cond_both (t == s) (hearing false) Ignored (λ (o : Hearing). IsLawful k (facts_added fs (Told c s false) (HasTold o) ++ fs)) (λ e. ((is ∙ ap Asking (eqb-true t s e), sent), lawful)) (λ e. lawful)
 
+-- an ask that writes answers by its plan, and any other sends its request
+pub kept_cases : (P : Outcome → Type 0) (writes : Bool) (plan : StorePlan) (request : Terms) → P (HasAsked request) → (writes ≡ true → P (AskRefused Keep)) → P (kept_answer writes plan request)
+kept_cases P true Works request goes fails = goes
+kept_cases P true FailsBefore request goes fails = fails refl
+kept_cases P true FailsAfter request goes fails = fails refl
+kept_cases P false plan request goes fails = goes
+
+-- a number is left after the last, where that isn't the greatest
+number_left : (k : Route) (fs : List Fact) → IsLawful k fs → (last_of fs == number_max) ≡ false → last_of fs + 1 ≤ number_max
+number_left k fs lawful e =
+    let differ = eqb-false (last_of fs) number_max e in
+    let held = recorded k fs lawful in
+    omega (arith, differ, held.ahead, held.behind, held.within)
+
+-- a request that is asked for, with what its ask wrote
+asks_lawful : (k : Route) (fs : List Fact) → IsLawful k fs → (r : ℕ) → IsRate r → last_of fs + 1 ≤ number_max → (b : Bool) → writes fs r ≡ b →
+    IsLawful k (FactAsked (last_of fs + 1) (min (rate_of fs) r) r (emitted_of fs) ∷ (write_adds b (written_for fs r) ++ fs))
+asks_lawful k fs lawful r rate left true does =
+    let written = written_for fs r in
+    ((refl, omega (arith, left), refl, refl, rate, λ e. sym (written_stored written fs r)), ((r, refl, does, left, rate), lawful))
+asks_lawful k fs lawful r rate left false does =
+    let held = recorded k fs lawful in
+    let room = not_above (kept_of fs) (last_of fs) (need_of fs r) does in
+    ((refl, omega (arith, held.behind, room.0), refl, refl, rate, λ e. absurd (false≢true (sym does ∙ e))), lawful)
+
 -- an ask, whatever its write does
 asked_lawful : (k : Route) (fs : List Fact) → IsLawful k fs → (vc : Channel) (c r : ℕ) (plan : StorePlan) → IsRate r → IsLawful k (facts_added fs (Ask c r plan) (ask_answer vc fs r plan) ++ fs)
 asked_lawful k fs lawful vc c r Works rate =
-    cond_both (last_of fs == number_max) _ _ (λ (o : Outcome). IsLawful k (facts_added fs (Ask c r Works) o ++ fs)) (λ e. lawful)
-    (λ e. (
-    let differ = eqb-false (last_of fs) number_max e in
-    let below : last_of fs + 1 ≤ number_max = omega (arith, stored_within k fs lawful, (asked_last k fs lawful).0) in
-    ((refl, omega arith, refl, refl, rate), ((refl, below), lawful))))
+    let P : Outcome → Type 0 = λ o. IsLawful k (facts_added fs (Ask c r Works) o ++ fs) in
+    cond_both (last_of fs == number_max) _ _ P (λ e. lawful)
+    (λ e. kept_cases P (writes fs r) Works (next_request vc fs r) (asks_lawful k fs lawful r rate (number_left k fs lawful e) (writes fs r) refl) (λ does. lawful))
 asked_lawful k fs lawful vc c r FailsBefore rate =
-    cond_both (last_of fs == number_max) _ _ (λ (o : Outcome). IsLawful k (facts_added fs (Ask c r FailsBefore) o ++ fs)) (λ e. lawful) (λ e. lawful)
+    let P : Outcome → Type 0 = λ o. IsLawful k (facts_added fs (Ask c r FailsBefore) o ++ fs) in
+    cond_both (last_of fs == number_max) _ _ P (λ e. lawful)
+    (λ e. kept_cases P (writes fs r) FailsBefore (next_request vc fs r) (asks_lawful k fs lawful r rate (number_left k fs lawful e) (writes fs r) refl) (λ does. lawful))
 asked_lawful k fs lawful vc c r FailsAfter rate =
-    cond_both (last_of fs == number_max) _ _ (λ (o : Outcome). IsLawful k (facts_added fs (Ask c r FailsAfter) o ++ fs)) (λ e. lawful)
-    (λ e. (
-    let differ = eqb-false (last_of fs) number_max e in
-    let below : last_of fs + 1 ≤ number_max = omega (arith, stored_within k fs lawful, (asked_last k fs lawful).0) in
-    ((refl, below), lawful)))
+    let P : Outcome → Type 0 = λ o. IsLawful k (facts_added fs (Ask c r FailsAfter) o ++ fs) in
+    cond_both (last_of fs == number_max) _ _ P (λ e. lawful)
+    (λ e. kept_cases P (writes fs r) FailsAfter (next_request vc fs r) (asks_lawful k fs lawful r rate (number_left k fs lawful e) (writes fs r) refl)
+    (λ does. ((r, refl, does, number_left k fs lawful e, rate), lawful)))
 
 pub down_adds : (fs : List Fact) (e : Event) (cause : Cause) → facts_added fs e (NotEnabled cause) ≡ []
 down_adds fs (Ask c r Works) cause = refl

@@ -1,5 +1,5 @@
 -- Worked runs, computed from the definitions alone. Their expected answers were written down before any code stood.
-use Rattle.std.proofs.Common.{◌≡◌, ℕ, refl, true, false, List, [], ◌∷◌}
+use Rattle.std.proofs.Common.{◌≡◌, ℕ, zero, suc, ◌+◌, refl, true, false, List, [], ◌∷◌}
 use Rattle.abt_cell.specs.Channel.{Channel}
 use Rattle.abt_gcra.specs.declared.verdict.Verdict.TheVariants.{Conforming}
 use Rattle.abt_keep.specs.declared.plan.StorePlan.TheVariants.{Works, FailsBefore, FailsAfter}
@@ -221,7 +221,7 @@ pub a_restart_hears_no_old_answer : outcomes_of one_link a_restart_hears_no_old_
     ∷ NotEnabled IsDown
     ∷ Started
     ∷ HasTold Ignored
-    ∷ asked first_channel 2 0 307200
+    ∷ asked first_channel 65 0 307200
     ∷ HasTold Ignored
     ∷ []
 a_restart_hears_no_old_answer = refl
@@ -330,7 +330,7 @@ pub a_stored_number_is_used_up : outcomes_of one_link a_stored_number_is_used_up
     ∷ AskRefused Keep
     ∷ Crashed
     ∷ Started
-    ∷ asked first_channel 2 0 204800
+    ∷ asked first_channel 65 0 204800
     ∷ []
 a_stored_number_is_used_up = refl
 
@@ -352,6 +352,112 @@ pub a_number_that_was_not_stored_is_free : outcomes_of one_link a_number_that_wa
     ∷ asked first_channel 1 0 204800
     ∷ []
 a_number_that_was_not_stored_is_free = refl
+
+-- A second ask finds its number and its need kept, so that its plan has no write to fail. A restart goes on behind what was kept.
+abbrev a_stride_is_kept_at_once_events : List Event
+a_stride_is_kept_at_once_events =
+    Start 0 0
+    ∷ Ask 0 204800 Works
+    ∷ Ask 0 307200 FailsBefore
+    ∷ Crash 0
+    ∷ Start 0 0
+    ∷ Ask 0 204800 Works
+    ∷ []
+
+pub a_stride_is_kept_at_once : outcomes_of one_link a_stride_is_kept_at_once_events
+    ≡ Started
+    ∷ asked first_channel 1 0 204800
+    ∷ asked first_channel 2 0 307200
+    ∷ Crashed
+    ∷ Started
+    ∷ asked first_channel 65 0 204800
+    ∷ []
+a_stride_is_kept_at_once = refl
+
+-- a source that was raised to 1,000 cells per second, sent one cell, and asked for the same rate so many times more
+abbrev asks_again : ℕ → List Event → List Event
+asks_again zero later = later
+asks_again (suc n) later = Ask 0 512000 Works ∷ asks_again n later
+
+abbrev asked_again : (first count : ℕ) → List Outcome → List Outcome
+asked_again first zero later = later
+asked_again first (suc n) later = asked first_channel first 512000 512000 ∷ asked_again (first + 1) n later
+
+abbrev raised_and_asking : List Event → List Event
+raised_and_asking later =
+    Start 0 0
+    ∷ Ask 0 512000 Works
+    ∷ Request 0 1 1
+    ∷ Turn 0 1
+    ∷ Answer 0 1 1 true
+    ∷ Told 0 1 true
+    ∷ Emit 0 1000000000000
+    ∷ Arrive 0 0 1000000001200
+    ∷ asks_again 64 later
+
+abbrev raised_and_asked : List Outcome → List Outcome
+raised_and_asked later =
+    Started
+    ∷ asked first_channel 1 0 512000
+    ∷ Requested Pass
+    ∷ Turned
+    ∷ Answered PassBack
+    ∷ HasTold Raised
+    ∷ Emitted 0 1001000000000
+    ∷ Arrived Conforming
+    ∷ asked_again 2 64 later
+
+-- The next stride kept a spacing of a millisecond, and that is the hold-off of the restart.
+abbrev a_restart_waits_for_the_kept_spacing_events : List Event
+a_restart_waits_for_the_kept_spacing_events = raised_and_asking (
+    Crash 0
+    ∷ Start 0 1000000000000
+    ∷ Ask 0 512000 Works
+    ∷ Request 0 1 129
+    ∷ Turn 0 129
+    ∷ Answer 0 1 129 true
+    ∷ Told 0 129 true
+    ∷ Emit 0 1000999999999
+    ∷ Emit 0 1001000000000
+    ∷ Arrive 0 1 1001000001000
+    ∷ [])
+
+pub a_restart_waits_for_the_kept_spacing : outcomes_of one_link a_restart_waits_for_the_kept_spacing_events
+    ≡ raised_and_asked (
+    Crashed
+    ∷ Started
+    ∷ asked first_channel 129 0 512000
+    ∷ Requested Pass
+    ∷ Turned
+    ∷ Answered PassBack
+    ∷ HasTold Raised
+    ∷ EmitRefused (TooSoon 1001000000000)
+    ∷ Emitted 1 1002000000000
+    ∷ Arrived Conforming
+    ∷ [])
+a_restart_waits_for_the_kept_spacing = refl
+
+-- An ask for a lower rate has a greater need than what is kept, so it writes within the stride.
+abbrev a_greater_need_is_written_events : List Event
+a_greater_need_is_written_events = raised_and_asking (
+    Ask 0 512000 FailsBefore
+    ∷ Ask 0 204800 FailsBefore
+    ∷ Ask 0 204800 Works
+    ∷ Crash 0
+    ∷ Start 0 1000000000000
+    ∷ Ask 0 204800 Works
+    ∷ [])
+
+pub a_greater_need_is_written : outcomes_of one_link a_greater_need_is_written_events
+    ≡ raised_and_asked (
+    asked first_channel 66 512000 512000
+    ∷ AskRefused Keep
+    ∷ asked first_channel 67 204800 204800
+    ∷ Crashed
+    ∷ Started
+    ∷ asked first_channel 131 0 204800
+    ∷ [])
+a_greater_need_is_written = refl
 
 -- What is not enabled says why.
 abbrev causes_are_tried_in_order_events : List Event

@@ -3,11 +3,12 @@ use Rattle.std.proofs.Common.{◌≡◌, ℕ, ◌+◌, ◌-◌, ◌≤◌, ◌�
 use Rattle.std.specs.Prelude.{◌==◌, min, not, if◌then◌else◌, nat_lt}
 use Rattle.std.proofs.lemmas.Bool.{ne_eqb, cond-false, cases_eq, cond_both}
 use Rattle.abt_facts.specs.declared.fact.Fact.{Fact}
-use Rattle.abt_facts.specs.declared.fact.Fact.TheVariants.{Stored, Asked, Delivered, Passed, Shut}
+use Rattle.abt_facts.specs.declared.fact.Fact.TheVariants.{Asked, Delivered, Passed, Shut}
 use Rattle.abt_model.specs.declared.event.Event.{Event}
 use Rattle.abt_model.specs.declared.event.Event.TheVariants.{Start, Ask, Again, Crash, Emit, Arrive, Request, Turn, Answer, Told}
 use Rattle.abt_model.specs.declared.outcome.Outcome.{Outcome}
 use Rattle.abt_net.specs.declared.conn.Conn.{Conn}
+use Rattle.abt_keep.specs.Record.{KeptRecord}
 use Rattle.abt_keep.specs.declared.plan.StorePlan.{StorePlan}
 use Rattle.abt_keep.specs.declared.plan.StorePlan.TheVariants.{Works, FailsBefore, FailsAfter}
 use Rattle.abt_node.specs.declared.reply.Onward.{Onward}
@@ -19,20 +20,20 @@ use Rattle.abt_model.specs.declared.outcome.Heard.{Heard as Hearing}
 use Rattle.abt_model.specs.declared.outcome.Heard.TheVariants.{Raised, Refused, Ignored}
 use Rattle.abt_model.specs.declared.outcome.Outcome.TheVariants.{Crashed as HasCrashed, Told as HasTold}
 use Rattle.abt_facts.specs.Requests.{floor_of, ask_of}
-use Rattle.abt_facts.specs.Source.{SourceState, Down, Idle, Asking, state_of, rate_of, last_of, clock_of, next_of}
+use Rattle.abt_facts.specs.Source.{SourceState, Down, Idle, Asking, state_of, rate_of, last_of, clock_of, next_of, writes, written_for}
 use Rattle.abt_facts.specs.Sent.{was_shut, request_is_at, answer_is_at, answer_is_home, request_is_through}
 use Rattle.abt_facts.specs.Hop.{newest_of, held_of}
 use Rattle.abt_facts.specs.Cells.{emitted_of, last_arrival_of, fence_of, is_in_time}
 use Rattle.abt_cell.specs.Channel.{Channel}
-use Rattle.abt_rate.specs.Limits.{emit_max, number_max}
+use Rattle.abt_rate.specs.Limits.{emit_max, number_max, start_max}
 use Rattle.abt_model.specs.Targets.{target_of, hop_in}
-use Rattle.abt_model.specs.Answers.{start_max, if_up, start_answer, ask_answer, emit_answer, arrive_answer, told_answer, is_hop, answer_by}
-use Rattle.abt_model.specs.Outcomes.{delivery, request_adds, answer_adds, facts_added}
+use Rattle.abt_model.specs.Answers.{if_up, start_answer, next_request, ask_answer, emit_answer, arrive_answer, told_answer, is_hop, answer_by}
+use Rattle.abt_model.specs.Outcomes.{delivery, request_adds, answer_adds, write_adds, facts_added}
 use Rattle.abt_model.proofs.Chain.{asked_last, newest_asked}
 use Rattle.abt_model.proofs.Holds.{passed_other, shut_other, passed_above, passed_again, shut_now, shut_again}
 use Rattle.abt_model.proofs.Lawful.{Route, route_of, IsLawful}
 use Rattle.abt_model.proofs.Decisions.{decided, decided_back, decided_pass, decided_refuse, decided_back_pass}
-use Rattle.abt_model.proofs.Steps.{down_adds}
+use Rattle.abt_model.proofs.Steps.{down_adds, kept_cases}
 
 -- after a step each hop holds no more than before, but for the one that the event comes to, and what it holds more fits
 abbrev pub IsWithin : (sum capacity hop : ℕ) → (old new : List Fact) → ℕ → Type 0
@@ -86,26 +87,42 @@ told_within reserved capacity fs c s i granted Raised = inl (omega arith)
 told_within reserved capacity fs c s i granted Refused = inl (omega arith)
 told_within reserved capacity fs c s i granted Ignored = inl (omega arith)
 
+-- what an ask writes is nothing to the hops
+write_held : (fs : List Fact) (s floor ask mark : ℕ) (b : Bool) (kept : KeptRecord) (i : ℕ) →
+    held_of (Asked s floor ask mark ∷ (write_adds b kept ++ fs)) i ≡ held_of (Asked s floor ask mark ∷ fs) i
+write_held fs s floor ask mark true kept i = refl
+write_held fs s floor ask mark false kept i = refl
+
 -- a new request leaves what each hop holds
-asked_held : (k : Route) (fs : List Fact) → IsLawful k fs → (floor ask mark i : ℕ) → held_of (Asked (last_of fs + 1) floor ask mark ∷ (Stored (last_of fs + 1) ∷ fs)) i ≡ held_of fs i
+asked_held : (k : Route) (fs : List Fact) → IsLawful k fs → (floor ask mark i : ℕ) → held_of (Asked (last_of fs + 1) floor ask mark ∷ fs) i ≡ held_of fs i
 asked_held k fs lawful floor ask mark i =
     let m = newest_of fs i in
     let low : m ≤ last_of fs = elim (newest_asked k fs lawful i) [ inl z ↦ omega arith | inr a ↦ (let n = (asked_last k fs lawful).1 m a in omega arith) ] in
     let differ : (last_of fs + 1 == m) ≡ false = ne_eqb _ _ (λ e. omega arith) in
-    let more : List Fact = Asked (last_of fs + 1) floor ask mark ∷ (Stored (last_of fs + 1) ∷ fs) in
+    let more : List Fact = Asked (last_of fs + 1) floor ask mark ∷ fs in
     let f : floor_of more m ≡ floor_of fs m = cond-false _ _ _ differ in
     let a : ask_of more m ≡ ask_of fs m = cond-false _ _ _ differ in
     ap (λ (x : ℕ). if m == 0 then 0 else (if was_shut fs m i then x else ask_of more m)) f
     ∙ ap (λ (y : ℕ). if m == 0 then 0 else (if was_shut fs m i then floor_of fs m else y)) a
 
+ask_goes : (k : Route) (reserved capacity : ℕ) (fs : List Fact) → IsLawful k fs → (r i : ℕ) (b : Bool) (kept : KeptRecord) →
+    IsWithin reserved capacity 0 fs (Asked (last_of fs + 1) (min (rate_of fs) r) r (emitted_of fs) ∷ (write_adds b kept ++ fs)) i
+ask_goes k reserved capacity fs lawful r i b kept =
+    inl (omega (arith, write_held fs (last_of fs + 1) (min (rate_of fs) r) r (emitted_of fs) b kept i, asked_held k fs lawful (min (rate_of fs) r) r (emitted_of fs) i))
+
 ask_within : (k : Route) (reserved capacity : ℕ) (fs : List Fact) → IsLawful k fs → (vc : Channel) (c r i : ℕ) (plan : StorePlan) → IsWithin reserved capacity 0 fs (facts_added fs (Ask c r plan) (ask_answer vc fs r plan) ++ fs) i
 ask_within k reserved capacity fs lawful vc c r i Works =
-    cond_both (last_of fs == number_max) _ _ (λ (o : Outcome). IsWithin reserved capacity 0 fs (facts_added fs (Ask c r Works) o ++ fs) i)
-    (λ e. inl (omega arith)) (λ e. inl (omega (arith, asked_held k fs lawful (min (rate_of fs) r) r (emitted_of fs) i)))
+    let P : Outcome → Type 0 = λ o. IsWithin reserved capacity 0 fs (facts_added fs (Ask c r Works) o ++ fs) i in
+    cond_both (last_of fs == number_max) _ _ P (λ e. inl (omega arith))
+    (λ e. kept_cases P (writes fs r) Works (next_request vc fs r) (ask_goes k reserved capacity fs lawful r i (writes fs r) (written_for fs r)) (λ does. inl (omega arith)))
 ask_within k reserved capacity fs lawful vc c r i FailsBefore =
-    cond_both (last_of fs == number_max) _ _ (λ (o : Outcome). IsWithin reserved capacity 0 fs (facts_added fs (Ask c r FailsBefore) o ++ fs) i) (λ e. inl (omega arith)) (λ e. inl (omega arith))
+    let P : Outcome → Type 0 = λ o. IsWithin reserved capacity 0 fs (facts_added fs (Ask c r FailsBefore) o ++ fs) i in
+    cond_both (last_of fs == number_max) _ _ P (λ e. inl (omega arith))
+    (λ e. kept_cases P (writes fs r) FailsBefore (next_request vc fs r) (ask_goes k reserved capacity fs lawful r i (writes fs r) (written_for fs r)) (λ does. inl (omega arith)))
 ask_within k reserved capacity fs lawful vc c r i FailsAfter =
-    cond_both (last_of fs == number_max) _ _ (λ (o : Outcome). IsWithin reserved capacity 0 fs (facts_added fs (Ask c r FailsAfter) o ++ fs) i) (λ e. inl (omega arith)) (λ e. inl (omega arith))
+    let P : Outcome → Type 0 = λ o. IsWithin reserved capacity 0 fs (facts_added fs (Ask c r FailsAfter) o ++ fs) i in
+    cond_both (last_of fs == number_max) _ _ P (λ e. inl (omega arith))
+    (λ e. kept_cases P (writes fs r) FailsAfter (next_request vc fs r) (ask_goes k reserved capacity fs lawful r i (writes fs r) (written_for fs r)) (λ does. inl (omega arith)))
 
 -- a source that is down adds nothing
 up_within : (reserved capacity : ℕ) (fs : List Fact) (e : Event) (o : Outcome) (st : SourceState) (i : ℕ) → IsWithin reserved capacity 0 fs (facts_added fs e o ++ fs) i → IsWithin reserved capacity 0 fs (facts_added fs e (if_up st o) ++ fs) i

@@ -1,7 +1,7 @@
 -- What the events of one connection answer, by the connection's facts, the newest first (docs/FORMATS.md, "Events and
 -- outcomes"). The causes that stop an event are tried in the order of that table.
-use Rattle.std.specs.Prelude.{ℕ, ◌+◌, ◌-◌, ◌^◌, ◌==◌, ◌&&◌, not, nat_lt, nat_le, Bool, List, length, if◌then◌else◌, min}
-use Rattle.abt_rate.specs.Limits.{emit_max, number_max}
+use Rattle.std.specs.Prelude.{ℕ, ◌+◌, ◌-◌, ◌==◌, ◌&&◌, not, nat_lt, nat_le, Bool, true, false, List, length, if◌then◌else◌, min}
+use Rattle.abt_rate.specs.Limits.{emit_max, number_max, start_max}
 use Rattle.abt_rate.specs.Rate.{spacing_of}
 use Rattle.abt_cell.specs.Channel.{Channel}
 use Rattle.abt_cell.specs.Message.{Terms, answer_to}
@@ -12,7 +12,7 @@ use Rattle.abt_source.specs.declared.fault.StartFault.TheVariants.{TimeRange as 
 use Rattle.abt_source.specs.declared.fault.AskFault.TheVariants.{SeqExhausted, Keep}
 use Rattle.abt_net.specs.declared.conn.Conn.{Conn}
 use Rattle.abt_facts.specs.declared.fact.Fact.{Fact}
-use Rattle.abt_facts.specs.Source.{SourceState, Down, Idle, Asking, state_of, rate_of, last_of, clock_of, hold_off, next_of}
+use Rattle.abt_facts.specs.Source.{SourceState, Down, Idle, Asking, state_of, rate_of, last_of, clock_of, next_of, writes}
 use Rattle.abt_facts.specs.Sent.{request_is_at, request_is_through, answer_is_at, answer_is_home}
 use Rattle.abt_facts.specs.Hop.{held_of}
 use Rattle.abt_facts.specs.Cells.{emitted_of, fence_of, last_arrival_of, is_in_time, verdict_at}
@@ -25,10 +25,6 @@ use Rattle.abt_model.specs.declared.outcome.Outcome.{Outcome}
 use Rattle.abt_model.specs.declared.outcome.Outcome.TheVariants.{Started, StartRefused, Asked, AskRefused, Repeated, Crashed, Emitted, EmitRefused, Arrived, Requested, Turned, Answered, Told as HasTold, NotEnabled}
 use Rattle.abt_model.specs.Decision.{request_decision, answer_decision}
 use Rattle.abt_source.specs.SourceFacts.{request_of}
-
--- the greatest moment of a start: the hold-off then ends at the last moment at which a cell may leave
-abbrev pub start_max : ℕ
-start_max = emit_max - hold_off
 
 -- what a source that is up answers, while one that is down answers nothing else
 abbrev pub if_up : SourceState → Outcome → Outcome
@@ -52,9 +48,15 @@ stored_answer Works request = Asked request
 stored_answer FailsBefore request = AskRefused Keep
 stored_answer FailsAfter request = AskRefused Keep
 
+-- the store is called only where the ask writes
+abbrev pub kept_answer : (writes : Bool) → StorePlan → Terms → Outcome
+kept_answer true plan request = stored_answer plan request
+kept_answer false plan request = Asked request
+
 abbrev pub ask_answer : Channel → List Fact → ℕ → StorePlan → Outcome
 ask_answer vc facts rate plan =
-    if last_of facts == number_max then AskRefused SeqExhausted else stored_answer plan (next_request vc facts rate)
+    if last_of facts == number_max then AskRefused SeqExhausted
+    else kept_answer (writes facts rate) plan (next_request vc facts rate)
 
 abbrev pub again_answer : Channel → SourceState → List Fact → Outcome
 again_answer vc Down facts = NotEnabled IsDown

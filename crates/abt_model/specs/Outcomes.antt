@@ -1,5 +1,6 @@
 -- What an event answers after the past of a net, and which facts it adds.
 use Rattle.std.specs.Prelude.{ℕ, ◌+◌, ◌==◌, Bool, true, false, List, [], ◌∷◌, if◌then◌else◌, Option, None, Some}
+use Rattle.abt_keep.specs.Record.{KeptRecord}
 use Rattle.abt_keep.specs.declared.plan.StorePlan.TheVariants.{FailsAfter}
 use Rattle.abt_node.specs.declared.reply.Onward.{Onward}
 use Rattle.abt_node.specs.declared.reply.Onward.TheVariants.{Pass, Refuse, Drop}
@@ -10,7 +11,7 @@ use Rattle.abt_net.specs.declared.conn.Conn.{Conn}
 use Rattle.abt_net.specs.Topology.{Topology, conn_at}
 use Rattle.abt_facts.specs.declared.fact.Fact.{Fact}
 use Rattle.abt_facts.specs.declared.fact.Fact.TheVariants.{Started as FactStarted, Crashed as FactCrashed, Stored, Asked as FactAsked, Heard as FactHeard, Emitted as FactEmitted, Delivered, Passed, Shut, Turned as FactTurned, Back as FactBack, Arrived as FactArrived}
-use Rattle.abt_facts.specs.Source.{rate_of, stored_of, last_of}
+use Rattle.abt_facts.specs.Source.{rate_of, stored_of, writes, written_for}
 use Rattle.abt_facts.specs.Hop.{held_of}
 use Rattle.abt_facts.specs.Cells.{emitted_of}
 use Rattle.abt_model.specs.declared.event.Event.{Event}
@@ -61,12 +62,16 @@ answer_adds hop seq true PassBack = FactBack seq hop ∷ []
 answer_adds hop seq false PassBack = Shut seq hop ∷ []
 answer_adds hop seq granted (DropBack cause) = []
 
+-- what an ask writes stands in the store
+abbrev pub write_adds : (writes : Bool) → KeptRecord → List Fact
+write_adds writes written = if writes then Stored written ∷ [] else []
+
 -- The facts that an event of a connection adds to those of that connection, by what it answers, the newest first.
 abbrev pub facts_added : List Fact → Event → Outcome → List Fact
 facts_added facts (Start c now) Started = FactStarted now (stored_of facts) ∷ []
 facts_added facts (Ask c rate plan) (Asked request) =
-    FactAsked request.seq request.floor request.ask (emitted_of facts) ∷ Stored (last_of facts + 1) ∷ []
-facts_added facts (Ask c rate FailsAfter) (AskRefused Keep) = Stored (last_of facts + 1) ∷ []
+    FactAsked request.seq request.floor request.ask (emitted_of facts) ∷ write_adds (writes facts rate) (written_for facts rate)
+facts_added facts (Ask c rate FailsAfter) (AskRefused Keep) = Stored (written_for facts rate) ∷ []
 facts_added facts (Crash c) Crashed = FactCrashed ∷ []
 facts_added facts (Emit c now) (Emitted cell next) = FactEmitted cell now (rate_of facts) ∷ []
 facts_added facts (Arrive c cell at) (Arrived verdict) = FactArrived cell at (held_of facts 1) verdict ∷ []

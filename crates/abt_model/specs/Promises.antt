@@ -14,7 +14,8 @@ use Rattle.abt_net.specs.declared.conn.Conn.{Conn}
 use Rattle.abt_net.specs.Topology.{Topology, IsWithinRules, conn_at}
 use Rattle.abt_facts.specs.declared.fact.Fact.{Fact}
 use Rattle.abt_facts.specs.Requests.{was_asked, floor_of}
-use Rattle.abt_facts.specs.Source.{rate_of, next_of, yes_was_heard}
+use Rattle.abt_facts.specs.Keeping.{counted}
+use Rattle.abt_facts.specs.Source.{open_ask, state_of, rate_of, stored_of, gap_of, next_of, yes_was_heard}
 use Rattle.abt_facts.specs.Sent.{was_shut, was_turned, was_back}
 use Rattle.abt_facts.specs.Hop.{newest_of, held_of, is_open_at}
 use Rattle.abt_facts.specs.Cells.{emitted_of, moment_of, cell_rate_of, after_last_of, last_arrival_of, taken_of}
@@ -86,6 +87,18 @@ NextIsDue net past =
     (c n tat : ℕ) (conn : Conn) → conn_at net c ≡ Some conn → after_last_of (facts_of c past) ≡ n + 1 →
     TatStandsFor (Some tat) (taken_of (facts_of c past)) →
     tat ≤ moment_of (facts_of c past) n + conn.delay + conn.tau + spacing_of (cell_rate_of (facts_of c past) n)
+
+-- A spacing covers a source: it is at least the gap that is running, the spacing of the present rate, and that of the rate which an open
+-- request asks for.
+pub record Covers (facts : List Fact) (spacing : ℕ) : Type 0 where
+  pub gap : gap_of facts ≤ spacing
+  pub rate : counted (rate_of facts) ≤ spacing
+  pub waiting : counted (open_ask facts (state_of facts)) ≤ spacing
+
+-- The spacing that is in the store covers the source, whether it is up or down. So after a crash, whenever that comes, the hold-off of
+-- the next start is at least each gap that was running.
+abbrev pub StoreCovers : Topology → Past → Type 0
+StoreCovers net past = (c : ℕ) → Covers (facts_of c past) (stored_of (facts_of c past)).spacing
 
 -- Cells are 234 picoseconds apart at least, so their count stays in range.
 abbrev pub CellsAreApart : Topology → Past → Type 0

@@ -1,7 +1,7 @@
 //! What is proved of every list of events, over every net within the rules.
 ghost use Rattle.abt_model.specs.Promises.{EveryPast, NeverDisputes, OneAnswerEach, RatesWait};
 ghost use Rattle.abt_model.specs.Promises.{YesStandsEverywhere, ArrivalsConform, NextIsDue};
-ghost use Rattle.abt_model.specs.Promises.{CellsAreApart, ArrivalsInRange};
+ghost use Rattle.abt_model.specs.Promises.{CellsAreApart, ArrivalsInRange, StoreCovers};
 ghost use Rattle.abt_model.specs.Safe.{IsSafe};
 
 /// Rates never run ahead of what is reserved, reservations fit the links, and the cells that arrive conform
@@ -36,4 +36,12 @@ pub fn arrivals_conform()
     ensures due { EveryPast NextIsDue }
     ensures in_range { EveryPast ArrivalsInRange }
     ensures apart { EveryPast CellsAreApart }
+{}
+
+/// What a source's store keeps is at least the gap that is running, the spacing of its rate and that of an open request, at
+/// every moment. So no gap of before a crash is cut short by a start (docs/GUARANTEES.md, "The headline").
+///
+/// This is a law and does nothing.
+pub fn stores_cover_sources()
+    ensures spacing { EveryPast StoreCovers }
 {}

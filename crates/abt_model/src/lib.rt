@@ -14,7 +14,10 @@ mod target_laws;
 pub use command::SourceCommand;
 pub use connection_fact::ConnectionFact;
 pub use event::Event;
-pub use headline::{arrivals_conform, every_past_is_safe, messages_agree, rates_wait_for_answers};
+pub use headline::{
+    arrivals_conform, every_past_is_safe, messages_agree, rates_wait_for_answers,
+    stores_cover_sources,
+};
 pub use one_more::one_more_event;
 pub use outcome::{Cause, Heard, Outcome};
 pub use port_laws::{tables_follow_facts, tables_stand_for_facts};

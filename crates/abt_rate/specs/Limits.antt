@@ -1,6 +1,6 @@
 -- The limits, each once, as numbers (docs/RULES.md, "Limits"). Rates and capacities are units of 1/512 cell per second, moments
 -- and durations picoseconds. That the code's constants are these is proved in the crate that has the constant.
-use Rattle.std.specs.Prelude.{ℕ, ◌^◌, ◌≤◌}
+use Rattle.std.specs.Prelude.{ℕ, ◌-◌, ◌^◌, ◌≤◌}
 
 -- the last of all numbers of requests
 abbrev pub number_max : ℕ
@@ -41,13 +41,21 @@ tau_max = 10 ^ 12
 abbrev pub delay_max : ℕ
 delay_max = 10 ^ 13
 
--- the greatest spacing that is handed to a policer
+-- the least spacing that a rate has
+abbrev pub spacing_min : ℕ
+spacing_min = 234
+
+-- the greatest spacing that a rate has, that is handed to a policer, and that a store keeps
 abbrev pub spacing_max : ℕ
 spacing_max = 10 ^ 12
 
 -- the greatest moment of an emission
 abbrev pub emit_max : ℕ
 emit_max = 2 ^ 61
+
+-- the greatest moment of a start: the longest hold-off, a second, then ends at the last moment at which a cell may leave
+abbrev pub start_max : ℕ
+start_max = 2 ^ 61 - 10 ^ 12
 
 -- the greatest moment of an arrival
 abbrev pub arrive_max : ℕ

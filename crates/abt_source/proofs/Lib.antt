@@ -1,1 +1,2 @@
 pub mod Emissions
+pub mod Asks

@@ -1,10 +1,11 @@
 -- The results of a source's calls, to compute with. What they come to stands in `SourceFacts`.
-use Rattle.std.specs.Prelude.{ℕ, ◌+◌, ◌-◌, ◌&&◌, ◌==◌, nat_le, nat_lt, min, Bool, false, Option, None, Some, Result, Ok, Err, if◌then◌else◌}
+use Rattle.std.specs.Prelude.{ℕ, ◌+◌, ◌&&◌, ◌==◌, nat_le, nat_lt, min, Bool, false, Option, None, Some, Result, Ok, Err, if◌then◌else◌}
 use Rattle.abt_cell.specs.Channel.{Channel, same_channel}
 use Rattle.abt_cell.specs.Message.{Terms, Reply}
-use Rattle.abt_facts.specs.Source.{hold_off}
+use Rattle.abt_facts.specs.Keeping.{need_by, writes_by, written_by}
+use Rattle.abt_keep.specs.Record.{KeptRecord, old_record}
 use Rattle.abt_keep.specs.declared.fault.StoreFault.{StoreFault}
-use Rattle.abt_rate.specs.Limits.{emit_max}
+use Rattle.abt_rate.specs.Limits.{emit_max, spacing_max, start_max}
 use Rattle.abt_rate.specs.Rate.{spacing_of}
 use Rattle.abt_shaper.specs.declared.fault.ShapeFault.{ShapeFault}
 use Rattle.abt_shaper.specs.declared.fault.ShapeFault.TheVariants.{ClockBack, TimeRange as EmissionTimeRange, Zero, TooSoon}
@@ -18,24 +19,29 @@ use Rattle.abt_source.specs.declared.answer.Answered.TheVariants.{Raised, Refuse
 
 -- the source of a connection to which nothing has happened
 abbrev pub new_source : Channel → SourceView
-new_source vc = record { vc = vc; rate = 0; last = 0; next = 0; emitted = None; newest = None }
+new_source vc =
+    record { vc = vc; rate = 0; last = 0; kept = old_record 0; gap = spacing_max; next = 0; emitted = None; newest = None }
 
--- a source that was started from a kept number: no cell leaves during the hold-off
-abbrev pub started_source : SourceView → (number now : ℕ) → SourceView
-started_source s number now =
-    record { vc = s.vc; rate = 0; last = number; next = now + hold_off; emitted = None; newest = None }
-
--- the greatest moment of a start: the hold-off then ends at the last moment at which a cell may leave
-abbrev pub greatest_start : ℕ
-greatest_start = emit_max - hold_off
+-- a source that was started from a kept record: no cell leaves during the hold-off, which is the kept spacing
+abbrev pub started_source : SourceView → KeptRecord → (now : ℕ) → SourceView
+started_source s kept now = record {
+  vc = s.vc;
+  rate = 0;
+  last = kept.number;
+  kept = kept;
+  gap = kept.spacing;
+  next = now + kept.spacing;
+  emitted = None;
+  newest = None;
+}
 
 -- what a start answers, by what the store gave
-abbrev pub result_of_start : SourceView → (now : ℕ) → Result ℕ StoreFault → Result SourceView StartRefused
+abbrev pub result_of_start : SourceView → (now : ℕ) → Result KeptRecord StoreFault → Result SourceView StartRefused
 result_of_start s now (Err _) = Err (record { source = s; fault = StartKeep })
-result_of_start s now (Ok number) =
-    if nat_le now greatest_start then Ok (started_source s number now) else Err (record { source = s; fault = TimeRange })
+result_of_start s now (Ok kept) =
+    if nat_le now start_max then Ok (started_source s kept now) else Err (record { source = s; fault = TimeRange })
 
--- a source that crashed: its last number and the moment of its next cell stay
+-- a source that crashed: its last number, what it knows to be kept, the gap and the moment of its next cell stay
 abbrev pub crashed_source : SourceView → SourceView
 crashed_source s = record s { rate = 0; newest = None }
 
@@ -43,15 +49,40 @@ crashed_source s = record s { rate = 0; newest = None }
 abbrev pub next_request : SourceView → (ask : ℕ) → Terms
 next_request s ask = record { vc = s.vc; seq = s.last + 1; floor = min s.rate ask; ask = ask }
 
+-- the rate that an open request asks for, zero where there is none
+abbrev pub asked_in : Option Terms → ℕ
+asked_in None = 0
+asked_in (Some request) = request.ask
+
+-- the need of an ask, whether it writes, and what it writes then
+abbrev pub need_for : SourceView → (ask : ℕ) → ℕ
+need_for s ask = need_by s.gap s.rate (asked_in s.newest) ask
+
+abbrev pub has_to_write : SourceView → (ask : ℕ) → Bool
+has_to_write s ask = writes_by s.kept s.last (need_for s ask)
+
+abbrev pub record_to_write : SourceView → (ask : ℕ) → KeptRecord
+record_to_write s ask = written_by s.last (need_for s ask)
+
+-- what a source knows to be kept after an ask whose request goes out
+abbrev pub kept_after : SourceView → (ask : ℕ) → KeptRecord
+kept_after s ask = if has_to_write s ask then record_to_write s ask else s.kept
+
 -- a source that waits for the answer to a request, and shapes at its floor meanwhile
 abbrev pub asking_source : SourceView → Terms → SourceView
-asking_source s request = record s { rate = request.floor; last = request.seq; newest = Some request }
+asking_source s request =
+    record s { rate = request.floor; last = request.seq; kept = kept_after s request.ask; newest = Some request }
 
--- what an ask answers, by what the store answered, while numbers are left
+-- what an ask answers that finds its number and its need kept
+abbrev pub request_goes :
+    {S : Type 0} → SourceView → (ask : ℕ) → Result (SourceView × Terms) (AskRefused S)
+request_goes s ask = Ok (asking_source s (next_request s ask), next_request s ask)
+
+-- what an ask answers that writes, by what the store answered
 abbrev pub result_of_ask :
     {S : Type 0} → SourceView → (ask : ℕ) → Result (Unit {0}) StoreFault → Result (SourceView × Terms) (AskRefused S)
 result_of_ask s ask (Err _) = Err (record { source = s; fault = Keep })
-result_of_ask s ask (Ok _) = Ok (asking_source s (next_request s ask), next_request s ask)
+result_of_ask s ask (Ok _) = request_goes s ask
 
 -- whether a moment is before that of the last emission
 abbrev pub is_behind : Option ℕ → (now : ℕ) → Bool

@@ -1,3 +1,3 @@
 pub mod SourceView
-pub mod SourceFacts
 pub mod Calls
+pub mod SourceFacts

@@ -1,12 +1,13 @@
 -- The source that the facts of its connection give (docs/RULES.md, "Source"). Facts are those of one connection, newest first.
-use Rattle.std.specs.Prelude.{◌≡◌, ℕ, List, ◌∷◌, Option, None, Some, true, false}
+use Rattle.std.specs.Prelude.{◌≡◌, ℕ, List, [], ◌∷◌, if◌then◌else◌, Option, None, Some, true, false}
 use Rattle.abt_cell.specs.Channel.{Channel}
 use Rattle.abt_cell.specs.Message.{Terms}
 use Rattle.abt_facts.specs.declared.fact.Fact.{Fact}
-use Rattle.abt_facts.specs.declared.fact.Fact.TheVariants.{Heard}
+use Rattle.abt_facts.specs.declared.fact.Fact.TheVariants.{Stored, Heard}
 use Rattle.abt_facts.specs.Requests.{floor_of, ask_of}
-use Rattle.abt_facts.specs.Source.{SourceState, Down, Idle, Asking, state_of, rate_of, last_of, next_of, emission_of}
+use Rattle.abt_facts.specs.Source.{SourceState, Down, Idle, Asking, state_of, rate_of, last_of, kept_of, gap_of, next_of, emission_of}
 use Rattle.abt_source.specs.SourceView.{SourceView}
+use Rattle.abt_source.specs.Calls.{has_to_write, record_to_write}
 use Rattle.abt_source.specs.declared.answer.Answered.{Answered}
 use Rattle.abt_source.specs.declared.answer.Answered.TheVariants.{Raised, Refused, Ignored}
 
@@ -26,6 +27,8 @@ view_of vc facts = record {
   vc = vc;
   rate = rate_of facts;
   last = last_of facts;
+  kept = kept_of facts;
+  gap = gap_of facts;
   next = next_of facts;
   emitted = emission_of facts;
   newest = waiting_in vc facts (state_of facts);
@@ -35,6 +38,10 @@ view_of vc facts = record {
 pub record StandsFor (facts : List Fact) (state : SourceState) (view : SourceView) : Type 0 where
   pub state_is : state ≡ state_of facts
   pub view_is : view ≡ view_of view.vc facts
+
+-- the fact that an ask adds before its own: the record that it wrote, where it wrote one
+abbrev pub stored_by : SourceView → (ask : ℕ) → List Fact
+stored_by s ask = if has_to_write s ask then Stored (record_to_write s ask) ∷ [] else []
 
 -- What an answer made of a source stands for the facts so far, with the one that the source heard it, unless it was ignored.
 abbrev pub AnsweredStandsFor : List Fact → Answered → Type 0

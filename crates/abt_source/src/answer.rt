@@ -42,6 +42,8 @@ impl Source<Asking> {
             vc,
             rate: floor,
             last,
+            kept,
+            gap,
             shaper,
             state: Asking { request },
         } = self;
@@ -50,6 +52,8 @@ impl Source<Asking> {
             vc,
             rate: if granted { request.ask() } else { floor },
             last,
+            kept,
+            gap,
             shaper,
             state: Idle,
         };

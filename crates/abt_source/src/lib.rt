@@ -4,6 +4,7 @@
 mod answer;
 mod ask;
 mod fault;
+mod need;
 mod source;
 mod start;
 mod state;
@@ -12,5 +13,5 @@ pub use answer::Answered;
 pub use ask::AskRefused;
 pub use fault::{AskFault, StartFault};
 pub use source::Source;
-pub use start::{HOLD_OFF, START_MAX, StartRefused};
+pub use start::{HOLD_OFF_MAX, START_MAX, StartRefused};
 pub use state::{Asking, Down, Idle, State, Up};

@@ -1,8 +1,9 @@
 //! A source starts.
-ghost use Rattle.std.specs.Prelude.{◌≡◌, ℕ, List, ◌∷◌, Result, IfOk, IfErr};
+ghost use Rattle.std.specs.Prelude.{◌≡◌, List, ◌∷◌, Result, IfOk, IfErr};
 ghost use Rattle.abt_facts.specs.Source as state;
 ghost use Rattle.abt_facts.specs.declared.fact.Fact.{Fact};
 ghost use Rattle.abt_facts.specs.declared.fact.Fact.TheVariants.{Started};
+ghost use Rattle.abt_keep.specs.Record.{KeptRecord, IsSpacing};
 ghost use Rattle.abt_keep.specs.Store.{IsCounted};
 ghost use Rattle.abt_keep.specs.declared.fault.StoreFault.{StoreFault};
 
@@ -13,12 +14,11 @@ use abt_keep::SeqStore;
 use abt_rate::Rate;
 use abt_shaper::{EMIT_MAX, Shaper};
 
-/// How long no cell leaves after a start, in picoseconds: the greatest spacing that a rate has, so that it covers a gap
-/// that ran when the source crashed.
-pub const HOLD_OFF: u64 = 1000000000000;
+/// The longest hold-off, in picoseconds: the greatest spacing that a store keeps.
+pub const HOLD_OFF_MAX: u64 = 1000000000000;
 
-/// The greatest moment of a start, so that the hold-off ends at a moment at which a cell may leave.
-pub const START_MAX: u64 = EMIT_MAX - HOLD_OFF;
+/// The greatest moment of a start, so that the longest hold-off ends at a moment at which a cell may leave.
+pub const START_MAX: u64 = EMIT_MAX - HOLD_OFF_MAX;
 
 /// A start that was refused: the source as it was, and why.
 #[must_use]
@@ -34,23 +34,24 @@ impl Source<Down> {
     ghost use Rattle.abt_source.specs.Calls.{result_of_start};
     ghost use Rattle.abt_source.specs.SourceFacts.{StandsFor};
 
-    /// Starts at the moment `now`. The source continues from the number that the store gives; its rate is zero, and no
-    /// cell leaves before the end of the [`HOLD_OFF`].
+    /// Starts at the moment `now`. The source continues from the record that the store gives: from its number, at rate zero,
+    /// and no cell leaves during the hold-off, which is its spacing.
     ///
     /// # Errors
-    /// [`StartFault::Keep`] if the store, which is read first, doesn't give its number, and [`StartFault::TimeRange`]
+    /// [`StartFault::Keep`] if the store, which is read first, doesn't give its record, and [`StartFault::TimeRange`]
     /// above [`START_MAX`].
     pub fn start<K: SeqStore>(self, store: &mut K, now: u64) -> Result<Source<Idle>, StartRefused>
-        ensures gives { (answer : Result ℕ StoreFault)
+        ensures gives { (answer : Result KeptRecord StoreFault)
             × K.kept_gives store.old answer store.new × (result ≡ result_of_start self now answer) }
-        ensures ok { IfOk result (λ source. source.last ≡ K.number store.old) }
-        ensures same { K.number store.new ≡ K.number store.old }
+        ensures ok { IfOk result (λ source. source.kept ≡ K.content store.old) }
+        ensures hold_off { IfOk result (λ source. IsSpacing source.gap) }
+        ensures same { K.content store.new ≡ K.content store.old }
         ensures keep { IfErr result (λ refused. refused.fault ≡ StartFault.Keep →
             IsCounted (K.failure_count store.old) (K.failure_count store.new)) }
         ensures facts { (facts : List Fact) → StandsFor facts state.Down self → IfOk result (λ source.
-            StandsFor (Started now source.last ∷ facts) state.Idle source) }
+            StandsFor (Started now source.kept ∷ facts) state.Idle source) }
     {
-        let Ok(number) = store.kept() else {
+        let Ok(kept) = store.kept() else {
             return Err(StartRefused {
                 source: self,
                 fault: StartFault::Keep,
@@ -65,8 +66,10 @@ impl Source<Down> {
         Ok(Source {
             vc: self.vc,
             rate: Rate::ZERO,
-            last: number,
-            shaper: Shaper::new(now + HOLD_OFF),
+            last: kept.number(),
+            kept,
+            gap: kept.spacing(),
+            shaper: Shaper::new(now + kept.spacing()),
             state: Idle,
         })
     }

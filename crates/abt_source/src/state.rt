@@ -1,5 +1,6 @@
 //! The states of a source.
 use abt_cell::Request;
+use abt_rate::Rate;
 
 mod sealed {
     pub trait Sealed {}
@@ -7,15 +8,20 @@ mod sealed {
 
 /// A state of a source. There are three, and no other crate can add one.
 pub trait State: sealed::Sealed + Drop {
-    ghost use Rattle.std.specs.Prelude.{ℕ, Option};
+    ghost use Rattle.std.specs.Prelude.{ℕ, Option, ◌≡◌};
     ghost use Rattle.abt_cell.specs.Message.{Terms};
     ghost use Rattle.abt_facts.specs.Source.{SourceState};
+    ghost use Rattle.abt_source.specs.Calls.{asked_in};
 
     /// The request that waits for its answer.
     ghost newest: { Self → Option Terms };
 
     /// The state by the facts of the connection, at a source with this last number.
     ghost state_at: { (last : ℕ) → SourceState };
+
+    /// The rate that the open request asks for, which is zero where none waits for its answer.
+    fn open_ask(&self) -> Rate
+        ensures { result ≡ asked_in (newest self.now) };
 }
 
 /// A state of a source that was started: [`Idle`] or [`Asking`].
@@ -54,6 +60,10 @@ impl State for Down {
     ghost newest = { λ _. None };
 
     ghost state_at = { λ _. state.Down };
+
+    fn open_ask(&self) -> Rate {
+        Rate::ZERO
+    }
 }
 
 impl State for Idle {
@@ -63,6 +73,10 @@ impl State for Idle {
     ghost newest = { λ _. None };
 
     ghost state_at = { λ _. state.Idle };
+
+    fn open_ask(&self) -> Rate {
+        Rate::ZERO
+    }
 }
 
 impl State for Asking {
@@ -72,6 +86,10 @@ impl State for Asking {
     ghost newest = { λ asking. Some asking.request };
 
     ghost state_at = { λ last. state.Asking last };
+
+    fn open_ask(&self) -> Rate {
+        self.request.ask()
+    }
 }
 
 impl Up for Idle {

@@ -9,11 +9,14 @@ use abt_rate::Rate;
 use abt_world::Event;
 use std::alloc::{AllocError, Global};
 
-/// Draws the events of a list. Most events in a row are of the same connection.
+/// Draws the events of a list. Most events in a row are of the same connection, and now and then so many are asks that a
+/// stride of numbers ends.
 #[derive(Debug, Drop)]
 pub struct Generator {
     draws: Draws,
     conn: u16,
+    // How many asks are still to be drawn in a row.
+    asks: u64,
 }
 
 impl Generator {
@@ -21,13 +24,14 @@ impl Generator {
         Generator {
             draws: Draws::new(seed),
             conn: 0,
+            asks: 0,
         }
     }
 
     /// The next event after those that a walk has seen.
     pub fn event(&mut self, alloc: Global, walk: &Walk<'_>) -> Result<Event, AllocError> {
         let conns = walk.net().conns();
-        if self.draws.one_in(9) {
+        if self.asks == 0 && self.draws.one_in(9) {
             self.conn = self.draws.small(number(conns.len()));
         }
         let facts = walk.facts_of(alloc, self.conn)?;
@@ -46,7 +50,21 @@ impl Generator {
         if self.draws.one_in(50) {
             sight.conn = number(conns.len()).saturating_add(self.draws.small(3));
         }
-        Ok(drawn(&mut self.draws, sight))
+        Ok(self.next(sight))
+    }
+
+    // The next ask of a row, or an event that is drawn, which may begin such a row.
+    fn next(&mut self, sight: Sight<'_>) -> Event {
+        if self.asks > 0 {
+            self.asks = self.asks.saturating_sub(1);
+            return ask(&mut self.draws, sight);
+        }
+        // Behind a cell a stride keeps a short spacing, as the gap is no second any more.
+        let is_short = words::gap(sight.facts) < 1_000_000_000_000;
+        if self.draws.one_in(if is_short { 50 } else { 500 }) {
+            self.asks = self.draws.below(100);
+        }
+        drawn(&mut self.draws, sight)
     }
 }
 

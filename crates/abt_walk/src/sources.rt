@@ -4,7 +4,7 @@ use crate::step::{Step, adds, not_enabled, nothing};
 use crate::words::{self, State, Terms, request_of};
 use abt_cell::Vc;
 use abt_facts::Fact;
-use abt_keep::StorePlan;
+use abt_keep::{Record, StorePlan};
 use abt_rate::Rate;
 use abt_shaper::ShapeFault;
 use abt_source::{AskFault, StartFault};
@@ -26,8 +26,8 @@ pub(crate) fn start(facts: &[Fact], now: u64) -> Step {
     if now > START_MAX {
         return nothing(Outcome::StartRefused(StartFault::TimeRange));
     }
-    let number = words::stored(facts);
-    adds(Outcome::Started, Fact::Started { now, number })
+    let kept = words::stored(facts);
+    adds(Outcome::Started, Fact::Started { now, kept })
 }
 
 pub(crate) fn ask(vc: Vc, facts: &[Fact], ask: Rate, plan: StorePlan) -> Step {
@@ -38,21 +38,21 @@ pub(crate) fn ask(vc: Vc, facts: &[Fact], ask: Rate, plan: StorePlan) -> Step {
         return nothing(Outcome::AskRefused(AskFault::SeqExhausted));
     };
     let refused = Outcome::AskRefused(AskFault::Keep);
-    match plan {
-        StorePlan::Works => asks(vc, facts, seq, ask),
-        StorePlan::FailsBefore => nothing(refused),
-        StorePlan::FailsAfter => adds(refused, Fact::Stored { seq }),
+    match (words::written(facts, ask), plan) {
+        (Some(_), StorePlan::FailsBefore) => nothing(refused),
+        (Some(kept), StorePlan::FailsAfter) => adds(refused, Fact::Stored { kept }),
+        (written, _) => asks(vc, facts, seq, ask, written),
     }
 }
 
-fn asks(vc: Vc, facts: &[Fact], seq: u32, ask: Rate) -> Step {
+fn asks(vc: Vc, facts: &[Fact], seq: u32, ask: Rate, written: Option<Record>) -> Step {
     let floor = words::rate(facts).min(ask);
     let mark = words::emitted(facts);
     match request_of(vc, seq, Terms { floor, ask, mark }) {
         Some(request) => Step {
             outcome: Outcome::Asked(request),
             added: [
-                Some(Fact::Stored { seq }),
+                stored(written),
                 Some(Fact::Asked {
                     seq,
                     floor,
@@ -62,6 +62,13 @@ fn asks(vc: Vc, facts: &[Fact], seq: u32, ask: Rate) -> Step {
             ],
         },
         None => not_enabled(Cause::Unknown),
+    }
+}
+
+fn stored(written: Option<Record>) -> Option<Fact> {
+    match written {
+        Some(kept) => Some(Fact::Stored { kept }),
+        None => None,
     }
 }
 

@@ -2,6 +2,7 @@
 //! "Facts"). Lists of facts have the oldest first.
 use abt_cell::{Request, Vc};
 use abt_facts::Fact;
+use abt_keep::Record;
 use abt_rate::Rate;
 
 /// What a source is doing.
@@ -82,15 +83,79 @@ pub fn rate(facts: &[Fact]) -> Rate {
     rate
 }
 
-/// The greatest number that was stored.
-pub fn stored(facts: &[Fact]) -> u32 {
-    let mut greatest = 0;
+/// The record that is in the store: the last one that was written.
+pub fn stored(facts: &[Fact]) -> Record {
+    let mut stored = Record::old(0);
     for fact in facts {
-        if let Fact::Stored { seq } = *fact {
-            greatest = greatest.max(seq);
+        if let Fact::Stored { kept } = *fact {
+            stored = kept;
         }
     }
-    greatest
+    stored
+}
+
+/// The record that the source knows to be kept: that of the last start, or one that was written since by an ask whose
+/// request went out. Such a record stands just before its request, but one of an ask that failed may stand there too.
+pub fn kept(facts: &[Fact]) -> Record {
+    let mut known = Record::old(0);
+    for (place, fact) in facts.iter().enumerate() {
+        let (earlier, _) = facts.split_at(place);
+        known = known_after(earlier, known, fact);
+    }
+    known
+}
+
+fn known_after(earlier: &[Fact], known: Record, fact: &Fact) -> Record {
+    match *fact {
+        Fact::Started { kept, .. } => kept,
+        Fact::Asked { ask, .. } => match earlier.last() {
+            Some(Fact::Stored { kept }) if is_above(earlier, known, ask) => *kept,
+            _ => known,
+        },
+        _ => known,
+    }
+}
+
+// Whether the next number, or the need of an ask, is above a record.
+fn is_above(facts: &[Fact], known: Record, ask: Rate) -> bool {
+    last(facts) >= known.number() || need(facts, ask) > known.spacing()
+}
+
+/// The record that an ask has to write, if it has to write one: its number and 63 more, and its need.
+pub fn written(facts: &[Fact], ask: Rate) -> Option<Record> {
+    if is_above(facts, kept(facts), ask) {
+        let number = last(facts).saturating_add(1).saturating_add(63);
+        Record::new(number, need(facts, ask))
+    } else {
+        None
+    }
+}
+
+/// The need of an ask: the greatest of the gap since the last start or cell, and of the spacings of the present rate, of
+/// the rate that an open request asks for, and of the asked rate.
+pub fn need(facts: &[Fact], ask: Rate) -> u64 {
+    let open = match state_after(facts) {
+        State::Asking { seq } => answered_rate(facts, seq, true),
+        _ => Rate::ZERO,
+    };
+    let mut need = gap(facts);
+    for counted in [rate(facts), open, ask] {
+        need = need.max(spacing(counted).unwrap_or(0));
+    }
+    need
+}
+
+/// The hold-off of the last start, or the spacing of the last cell, whichever was later.
+pub fn gap(facts: &[Fact]) -> u64 {
+    let mut gap = 1_000_000_000_000;
+    for fact in facts {
+        gap = match *fact {
+            Fact::Started { kept, .. } => kept.spacing(),
+            Fact::Emitted { rate, .. } => spacing(rate).unwrap_or(0),
+            _ => gap,
+        };
+    }
+    gap
 }
 
 /// The number of the last start or ask.
@@ -98,7 +163,7 @@ pub fn last(facts: &[Fact]) -> u32 {
     let mut last = 0;
     for fact in facts {
         last = match *fact {
-            Fact::Started { number, .. } => number,
+            Fact::Started { kept, .. } => kept.number(),
             Fact::Asked { seq, .. } => seq,
             _ => last,
         };
@@ -130,13 +195,13 @@ pub fn spacing(rate: Rate) -> Option<u64> {
     }
 }
 
-/// The first moment at which the next cell may leave: a second after the last start, or the spacing of its rate after the
-/// last cell, whichever was later.
+/// The first moment at which the next cell may leave: the hold-off after the last start, or the spacing of its rate after
+/// the last cell, whichever was later.
 pub fn next(facts: &[Fact]) -> u64 {
     let mut next: u64 = 0;
     for fact in facts {
         next = match *fact {
-            Fact::Started { now, .. } => now.saturating_add(1_000_000_000_000),
+            Fact::Started { now, kept } => now.saturating_add(kept.spacing()),
             Fact::Emitted { at, rate, .. } => at.saturating_add(spacing(rate).unwrap_or(0)),
             _ => next,
         };

@@ -12,7 +12,7 @@ use Rattle.abt_net.specs.declared.conn.Conn.{Conn}
 use Rattle.abt_net.specs.Topology.{Topology, IsWithinRules, conn_at}
 use Rattle.abt_facts.specs.declared.fact.Fact.{Fact}
 use Rattle.abt_facts.specs.Requests.{floor_of, ask_of}
-use Rattle.abt_facts.specs.Source.{SourceState, Down, Idle, Asking, state_of, rate_of, last_of, clock_of, next_of}
+use Rattle.abt_facts.specs.Source.{SourceState, Down, Idle, Asking, state_of, rate_of, last_of, clock_of, next_of, writes}
 use Rattle.abt_facts.specs.Sent.{answer_is_home}
 use Rattle.abt_facts.specs.Cells.{emitted_of}
 use Rattle.abt_model.specs.declared.event.Event.{Event}
@@ -20,13 +20,12 @@ use Rattle.abt_model.specs.declared.event.Event.TheVariants.{Start, Ask, Again, 
 use Rattle.abt_model.specs.declared.outcome.Cause.TheVariants.{ClockBack, NotSent}
 use Rattle.abt_model.specs.declared.outcome.Outcome.{Outcome}
 use Rattle.abt_model.specs.declared.outcome.Outcome.TheVariants.{AskRefused, Crashed, Emitted, EmitRefused, Repeated, Told as HasTold, NotEnabled}
-use Rattle.abt_rate.specs.Limits.{emit_max, number_max}
-use Rattle.abt_model.specs.Answers.{if_up, start_answer, stored_answer, ask_answer, again_answer, emit_answer, told_answer, answer_by}
+use Rattle.abt_rate.specs.Limits.{emit_max, number_max, start_max}
+use Rattle.abt_model.specs.Answers.{if_up, start_answer, kept_answer, ask_answer, again_answer, emit_answer, told_answer, answer_by}
 use Rattle.abt_model.specs.Outcomes.{conn_of, outcome_of}
 use Rattle.abt_source.specs.SourceFacts.{request_of}
 use Rattle.abt_model.specs.Past.{Past, facts_of}
 use Rattle.abt_model.proofs.Worlds.{outcome_of-known}
-use Rattle.abt_model.specs.Answers.{start_max}
 use Rattle.abt_source.specs.declared.fault.StartFault.TheVariants.{TimeRange as StartTimeRange}
 use Rattle.abt_model.specs.declared.outcome.Outcome.TheVariants.{Started, StartRefused}
 use Rattle.abt_model.proofs.Served.{conn_within}
@@ -35,7 +34,7 @@ use Rattle.abt_weave.specs.Candidates.{is_own_of, is_told}
 use Rattle.abt_weave.specs.Leaving.{facts_done}
 use Rattle.abt_weave.proofs.OwnReplays.{own_replayed}
 use Rattle.abt_weave.proofs.SentBelow.{IsBelow, back_below, shut_below}
-use Rattle.abt_weave.proofs.OwnFacts.{own, state_of-own, clock_of-own, last_of-own, rate_of-own, next_of-own, emitted_of-own, floor_of-own, ask_of-own}
+use Rattle.abt_weave.proofs.OwnFacts.{own, state_of-own, clock_of-own, last_of-own, rate_of-own, next_of-own, emitted_of-own, floor_of-own, ask_of-own, writes-own}
 
 -- what a source answers is what its own facts say
 start_own : (facts : List Fact) (now : ℕ) (state : SourceState) → start_answer state (own facts) now ≡ start_answer state facts now
@@ -43,13 +42,15 @@ start_own facts now Down = ap (λ (n : ℕ). if nat_lt now n then NotEnabled Clo
 start_own facts now Idle = refl
 start_own facts now (Asking s) = refl
 
-abbrev ask_by : Channel → (last rate_now rate : ℕ) → StorePlan → Outcome
-ask_by vc last rate_now rate plan = if last == number_max then AskRefused SeqExhausted else stored_answer plan (record { vc = vc; seq = last + 1; floor = min rate_now rate; ask = rate })
+abbrev ask_by : Channel → (last rate_now : ℕ) (writes : Bool) (rate : ℕ) → StorePlan → Outcome
+ask_by vc last rate_now writes rate plan =
+    if last == number_max then AskRefused SeqExhausted else kept_answer writes plan (record { vc = vc; seq = last + 1; floor = min rate_now rate; ask = rate })
 
 ask_own : (vc : Channel) (facts : List Fact) (rate : ℕ) (plan : StorePlan) → ask_answer vc (own facts) rate plan ≡ ask_answer vc facts rate plan
 ask_own vc facts rate plan =
-    ap (λ (n : ℕ). ask_by vc n (rate_of (own facts)) rate plan) (last_of-own facts)
-    ∙ ap (λ (n : ℕ). ask_by vc (last_of facts) n rate plan) (rate_of-own facts)
+    ap (λ (n : ℕ). ask_by vc n (rate_of (own facts)) (writes (own facts) rate) rate plan) (last_of-own facts)
+    ∙ ap (λ (n : ℕ). ask_by vc (last_of facts) n (writes (own facts) rate) rate plan) (rate_of-own facts)
+    ∙ ap (λ (b : Bool). ask_by vc (last_of facts) (rate_of facts) b rate plan) (writes-own facts rate)
 
 request_own : (vc : Channel) (facts : List Fact) (s : ℕ) → request_of vc (own facts) s ≡ request_of vc facts s
 request_own vc facts s =

@@ -26,9 +26,9 @@ use Rattle.abt_weave.proofs.SentBelow.{IsBelow}
 
 pub was_asked-own : (facts : List Fact) (s : ℕ) → was_asked (own facts) s ≡ was_asked facts s
 was_asked-own [] s = refl
-was_asked-own (Started now number ∷ facts) s = was_asked-own facts s
+was_asked-own (Started now kept ∷ facts) s = was_asked-own facts s
 was_asked-own (Crashed ∷ facts) s = was_asked-own facts s
-was_asked-own (Stored seq ∷ facts) s = was_asked-own facts s
+was_asked-own (Stored kept ∷ facts) s = was_asked-own facts s
 was_asked-own (Asked seq floor ask mark ∷ facts) s = ap (λ b. seq == s || b) (was_asked-own facts s)
 was_asked-own (Heard seq granted ∷ facts) s = was_asked-own facts s
 was_asked-own (Emitted cell at rate ∷ facts) s = was_asked-own facts s

@@ -4,6 +4,7 @@ use Rattle.std.specs.Prelude.{◌==◌, ◌&&◌, if◌then◌else◌, slice_get
 use Rattle.std.proofs.lemmas.Bool.{false≢true, cond-true, cases_eq}
 use Rattle.abt_cell.specs.Message.{Terms}
 use Rattle.abt_gcra.specs.declared.verdict.Verdict.TheVariants.{Conforming}
+use Rattle.abt_keep.specs.Record.{KeptRecord}
 use Rattle.abt_keep.specs.declared.plan.StorePlan.TheVariants.{FailsAfter}
 use Rattle.abt_node.specs.declared.reply.Onward.{Onward}
 use Rattle.abt_node.specs.declared.reply.Onward.TheVariants.{Pass, Refuse, Drop}
@@ -14,14 +15,14 @@ use Rattle.abt_net.specs.declared.conn.Conn.{Conn}
 use Rattle.abt_net.specs.Topology.{Topology, IsWithinRules, conn_at}
 use Rattle.abt_facts.specs.declared.fact.Fact.{Fact}
 use Rattle.abt_facts.specs.declared.fact.Fact.TheVariants.{Started as FactStarted, Stored, Asked as FactAsked, Emitted as FactEmitted, Delivered, Arrived as FactArrived}
-use Rattle.abt_facts.specs.Source.{last_of}
+use Rattle.abt_facts.specs.Source.{writes, written_for}
 use Rattle.abt_facts.specs.Cells.{emitted_of}
 use Rattle.abt_model.specs.declared.event.Event.{Event}
 use Rattle.abt_model.specs.declared.event.Event.TheVariants.{Start, Ask, Crash, Emit, Arrive, Request, Turn, Answer, Told}
 use Rattle.abt_model.specs.declared.outcome.Heard.TheVariants.{Raised}
 use Rattle.abt_model.specs.declared.outcome.Outcome.{Outcome}
 use Rattle.abt_model.specs.declared.outcome.Outcome.TheVariants.{Started, Asked, AskRefused, Crashed, Emitted, Arrived, Requested, Turned, Answered, Told as HasTold, NotEnabled}
-use Rattle.abt_model.specs.Outcomes.{conn_of, outcome_of, facts_added, after_event, request_adds, answer_adds}
+use Rattle.abt_model.specs.Outcomes.{conn_of, outcome_of, facts_added, after_event, request_adds, answer_adds, write_adds}
 use Rattle.abt_model.specs.Past.{facts_of}
 use Rattle.abt_model.proofs.Worlds.{conn_cases, cases_option, facts_of-own, facts_of-other}
 use Rattle.abt_journal.specs.declared.input.PortInput.{PortInput}
@@ -31,7 +32,7 @@ use Rattle.abt_source_journal.specs.declared.entry.SourceEntry.TheVariants.{Did,
 use Rattle.abt_woven.specs.Projections.{Step, Visit, is_enabled, entry_of, place_at_first, past_of, visit, step_at, steps_on, entry_made, entries_on}
 use Rattle.abt_weave.proofs.Candidates.{cond_some, and_both}
 use Rattle.abt_weave.proofs.Growth.{entries_other, entries_none}
-use Rattle.abt_weave.proofs.LineFacts.{line, line-append, rate_of-line, stored_of-line, last_of-line, emitted_of-line}
+use Rattle.abt_weave.proofs.LineFacts.{line, line-append, rate_of-line, stored_of-line, emitted_of-line, writes-line, written_for-line}
 use Rattle.abt_weave.proofs.Places.{Names, named_low, named_now, step_made, entries_made}
 use Rattle.abt_weave.proofs.PortEvents.{visit_is, some_same}
 use Rattle.abt_weave.proofs.OwnEvents.{IsDone, made_own}
@@ -97,10 +98,19 @@ lined_later steps later facts (ArrivedAt cell place ∷ entries) there =
     ∙ lined_later steps later (arrived_by cell (slice_get steps place) ++ facts) entries (λ i n x at names. there (suc i) n x at names)
 
 -- what an event adds is the same of the facts of the line
-line_seq : (facts : List Fact) (request : Terms) → (FactAsked request.seq request.floor request.ask (emitted_of facts) ∷ Stored (last_of facts + 1) ∷ []) ≡ (FactAsked request.seq request.floor request.ask (emitted_of (line facts)) ∷ Stored (last_of (line facts) + 1) ∷ [])
-line_seq facts request =
-    ap (λ (n : ℕ). FactAsked request.seq request.floor request.ask n ∷ Stored (last_of facts + 1) ∷ []) (sym (emitted_of-line facts))
-    ∙ ap (λ (n : ℕ). FactAsked request.seq request.floor request.ask (emitted_of (line facts)) ∷ Stored (n + 1) ∷ []) (sym (last_of-line facts))
+line_written : (b : Bool) (kept : KeptRecord) → line (write_adds b kept) ≡ write_adds b kept
+line_written true kept = refl
+line_written false kept = refl
+
+abbrev asked_adds : List Fact → (rate : ℕ) → Terms → List Fact
+asked_adds facts rate request = FactAsked request.seq request.floor request.ask (emitted_of facts) ∷ write_adds (writes facts rate) (written_for facts rate)
+
+line_asked : (facts : List Fact) (rate : ℕ) (request : Terms) → line (asked_adds facts rate request) ≡ asked_adds (line facts) rate request
+line_asked facts rate request =
+    ap (λ (l : List Fact). FactAsked request.seq request.floor request.ask (emitted_of facts) ∷ l) (line_written (writes facts rate) (written_for facts rate))
+    ∙ ap (λ (n : ℕ). FactAsked request.seq request.floor request.ask n ∷ write_adds (writes facts rate) (written_for facts rate)) (sym (emitted_of-line facts))
+    ∙ ap (λ (b : Bool). FactAsked request.seq request.floor request.ask (emitted_of (line facts)) ∷ write_adds b (written_for facts rate)) (sym (writes-line facts rate))
+    ∙ ap (λ (r : KeptRecord). FactAsked request.seq request.floor request.ask (emitted_of (line facts)) ∷ write_adds (writes (line facts) rate) r) (sym (written_for-line facts rate))
 
 line_delivered : (b : Bool) (seq : ℕ) → line (if b then Delivered seq ∷ [] else []) ≡ (if b then Delivered seq ∷ [] else [])
 line_delivered true seq = refl
@@ -141,9 +151,9 @@ line_did : (facts : List Fact) (place : ℕ) (event : Event) (outcome : Outcome)
 line_did facts place event outcome done told made = did_is (made_own place event outcome done told made)
   where
     each : (d : ℕ) (event : Event) (outcome : Outcome) → is_own_of d event ≡ true → line (facts_added facts event outcome) ≡ facts_added (line facts) event outcome
-    each d (Start c now) Started own = ap (λ (n : ℕ). FactStarted now n ∷ []) (sym (stored_of-line facts))
-    each d (Ask c rate plan) (Asked request) own = line_seq facts request
-    each d (Ask c rate FailsAfter) (AskRefused Keep) own = ap (λ (n : ℕ). Stored (n + 1) ∷ []) (sym (last_of-line facts))
+    each d (Start c now) Started own = ap (λ (r : KeptRecord). FactStarted now r ∷ []) (sym (stored_of-line facts))
+    each d (Ask c rate plan) (Asked request) own = line_asked facts rate request
+    each d (Ask c rate FailsAfter) (AskRefused Keep) own = ap (λ (r : KeptRecord). Stored r ∷ []) (sym (written_for-line facts rate))
     each d (Crash c) Crashed own = refl
     each d (Emit c now) (Emitted cell next) own = ap (λ (n : ℕ). FactEmitted cell now n ∷ []) (sym (rate_of-line facts))
     each d (Told c seq granted) (HasTold Raised) own = refl

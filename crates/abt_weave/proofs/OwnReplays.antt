@@ -4,6 +4,7 @@ use Rattle.std.specs.Prelude.{◌+◌, ◌==◌, ◌&&◌, if◌then◌else◌}
 use Rattle.std.proofs.lemmas.Bool.{cond-true, cases_eq, eq-eqb}
 use Rattle.abt_cell.specs.Message.{Terms}
 use Rattle.abt_net.specs.Topology.{Topology}
+use Rattle.abt_keep.specs.Record.{KeptRecord}
 use Rattle.abt_keep.specs.declared.plan.StorePlan.TheVariants.{FailsAfter}
 use Rattle.abt_node.specs.declared.reply.Onward.{Onward}
 use Rattle.abt_node.specs.declared.reply.Onward.TheVariants.{Pass, Refuse, Drop}
@@ -12,14 +13,14 @@ use Rattle.abt_node.specs.declared.reply.Back.TheVariants.{Pass as PassBack, Dro
 use Rattle.abt_source.specs.declared.fault.AskFault.TheVariants.{Keep}
 use Rattle.abt_facts.specs.declared.fact.Fact.{Fact}
 use Rattle.abt_facts.specs.declared.fact.Fact.TheVariants.{Started as FactStarted, Stored, Asked as FactAsked, Emitted as FactEmitted, Delivered}
-use Rattle.abt_facts.specs.Source.{last_of}
+use Rattle.abt_facts.specs.Source.{writes, written_for}
 use Rattle.abt_facts.specs.Cells.{emitted_of}
 use Rattle.abt_model.specs.declared.event.Event.{Event}
 use Rattle.abt_model.specs.declared.event.Event.TheVariants.{Start, Ask, Crash, Emit, Arrive, Request, Turn, Answer, Told}
 use Rattle.abt_model.specs.declared.outcome.Heard.TheVariants.{Raised}
 use Rattle.abt_model.specs.declared.outcome.Outcome.{Outcome}
 use Rattle.abt_model.specs.declared.outcome.Outcome.TheVariants.{Started, Asked, AskRefused, Crashed, Emitted, Arrived, Requested, Turned, Answered, Told as HasTold}
-use Rattle.abt_model.specs.Outcomes.{conn_of, outcome_of, facts_added, after_event, request_adds, answer_adds}
+use Rattle.abt_model.specs.Outcomes.{conn_of, outcome_of, facts_added, after_event, request_adds, answer_adds, write_adds}
 use Rattle.abt_model.specs.Past.{facts_of}
 use Rattle.abt_model.proofs.Worlds.{conn_cases, facts_of-own, facts_of-other}
 use Rattle.abt_source_journal.specs.declared.entry.SourceEntry.{SourceEntry}
@@ -27,7 +28,7 @@ use Rattle.abt_source_journal.specs.declared.entry.SourceEntry.TheVariants.{Did,
 use Rattle.abt_woven.specs.Projections.{is_enabled, past_of, entry_of, entry_made, place_at_first, entry_at, entries_on}
 use Rattle.abt_woven.proofs.Asked.{other_same}
 use Rattle.abt_weave.specs.Leaving.{facts_done}
-use Rattle.abt_weave.proofs.OwnFacts.{own, own-append, stored_of-own, last_of-own, rate_of-own, emitted_of-own}
+use Rattle.abt_weave.proofs.OwnFacts.{own, own-append, stored_of-own, rate_of-own, emitted_of-own, writes-own, written_for-own}
 
 -- the entry of an event, if it is one
 abbrev as_list : Option SourceEntry → List SourceEntry
@@ -63,17 +64,30 @@ arrived_adds : (b : Bool) (cell place : ℕ) (facts : List Fact) → facts_done 
 arrived_adds true cell place facts = refl
 arrived_adds false cell place facts = refl
 
-added_seq : (facts : List Fact) (request : Terms) → (FactAsked request.seq request.floor request.ask (emitted_of facts) ∷ Stored (last_of facts + 1) ∷ []) ≡ (FactAsked request.seq request.floor request.ask (emitted_of (own facts)) ∷ Stored (last_of (own facts) + 1) ∷ [])
-added_seq facts request =
-    ap (λ (n : ℕ). FactAsked request.seq request.floor request.ask n ∷ Stored (last_of facts + 1) ∷ []) (sym (emitted_of-own facts))
-    ∙ ap (λ (n : ℕ). FactAsked request.seq request.floor request.ask (emitted_of (own facts)) ∷ Stored (n + 1) ∷ []) (sym (last_of-own facts))
+own_written : (b : Bool) (kept : KeptRecord) → own (write_adds b kept) ≡ write_adds b kept
+own_written true kept = refl
+own_written false kept = refl
+
+-- what a request adds
+abbrev asked_adds : List Fact → (rate : ℕ) → Terms → List Fact
+asked_adds facts rate request = FactAsked request.seq request.floor request.ask (emitted_of facts) ∷ write_adds (writes facts rate) (written_for facts rate)
+
+added_same : (facts : List Fact) (rate : ℕ) (request : Terms) → asked_adds facts rate request ≡ asked_adds (own facts) rate request
+added_same facts rate request =
+    ap (λ (n : ℕ). FactAsked request.seq request.floor request.ask n ∷ write_adds (writes facts rate) (written_for facts rate)) (sym (emitted_of-own facts))
+    ∙ ap (λ (b : Bool). FactAsked request.seq request.floor request.ask (emitted_of (own facts)) ∷ write_adds b (written_for facts rate)) (sym (writes-own facts rate))
+    ∙ ap (λ (r : KeptRecord). FactAsked request.seq request.floor request.ask (emitted_of (own facts)) ∷ write_adds (writes (own facts) rate) r) (sym (written_for-own facts rate))
+
+own_asked : (facts : List Fact) (rate : ℕ) (request : Terms) → own (asked_adds facts rate request) ≡ asked_adds (own facts) rate request
+own_asked facts rate request =
+    ap (λ (l : List Fact). FactAsked request.seq request.floor request.ask (emitted_of facts) ∷ l) (own_written (writes facts rate) (written_for facts rate)) ∙ added_same facts rate request
 
 -- what is the source's own of what an event adds is what its entry makes of what is its own
 own_alike : (facts : List Fact) (place : ℕ) (event : Event) (outcome : Outcome) →
     own (facts_added facts event outcome) ++ own facts ≡ facts_done (own facts) (as_list (entry_of place event outcome))
-own_alike facts place (Start c now) Started = ap (λ (n : ℕ). FactStarted now n ∷ own facts) (sym (stored_of-own facts))
-own_alike facts place (Ask c rate plan) (Asked request) = ap (λ (l : List Fact). l ++ own facts) (added_seq facts request)
-own_alike facts place (Ask c rate FailsAfter) (AskRefused Keep) = ap (λ (n : ℕ). Stored (n + 1) ∷ own facts) (sym (last_of-own facts))
+own_alike facts place (Start c now) Started = ap (λ (r : KeptRecord). FactStarted now r ∷ own facts) (sym (stored_of-own facts))
+own_alike facts place (Ask c rate plan) (Asked request) = ap (λ (l : List Fact). l ++ own facts) (own_asked facts rate request)
+own_alike facts place (Ask c rate FailsAfter) (AskRefused Keep) = ap (λ (r : KeptRecord). Stored r ∷ own facts) (sym (written_for-own facts rate))
 own_alike facts place (Crash c) Crashed = refl
 own_alike facts place (Emit c now) (Emitted cell next) = ap (λ (n : ℕ). FactEmitted cell now n ∷ own facts) (sym (rate_of-own facts))
 own_alike facts place (Arrive c cell at) (Arrived verdict) = refl

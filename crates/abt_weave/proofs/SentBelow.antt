@@ -6,6 +6,8 @@ use Rattle.std.proofs.lemmas.Bool.{false≢true, cases_eq, eq-eqb, eqb-true, or_
 use Rattle.std.proofs.lemmas.List.Folds.{list_any-append}
 use Rattle.abt_cell.specs.Channel.{Channel}
 use Rattle.abt_cell.specs.Message.{Terms, Reply, answer_to}
+use Rattle.abt_keep.specs.Record.{KeptRecord}
+use Rattle.abt_facts.specs.Source.{writes, written_for}
 use Rattle.abt_keep.specs.declared.plan.StorePlan.TheVariants.{FailsAfter}
 use Rattle.abt_node.specs.declared.reply.Onward.{Onward}
 use Rattle.abt_node.specs.declared.reply.Onward.TheVariants.{Pass, Refuse, Drop}
@@ -23,7 +25,7 @@ use Rattle.abt_model.specs.declared.event.Event.TheVariants.{Start, Ask, Crash, 
 use Rattle.abt_model.specs.declared.outcome.Heard.TheVariants.{Raised, Refused}
 use Rattle.abt_model.specs.declared.outcome.Outcome.{Outcome}
 use Rattle.abt_model.specs.declared.outcome.Outcome.TheVariants.{Started, Asked, AskRefused, Crashed, Emitted, Arrived, Requested, Turned, Answered, Told as HasTold}
-use Rattle.abt_model.specs.Outcomes.{conn_of, outcome_of, facts_added, after_event}
+use Rattle.abt_model.specs.Outcomes.{conn_of, outcome_of, facts_added, after_event, write_adds}
 use Rattle.abt_source.specs.SourceFacts.{request_of}
 use Rattle.abt_model.specs.Past.{Past, facts_of}
 use Rattle.abt_net.specs.Paths.{hop_of}
@@ -51,9 +53,9 @@ pub record IsBelow (net : Topology) (less more : List Event) : Type 0 where
 
 -- a test that only what a hop did can pass
 pub record IsHopTest (test : Fact → Bool) : Type 0 where
-  pub started : (now number : ℕ) → test (FactStarted now number) ≡ false
+  pub started : (now : ℕ) (kept : KeptRecord) → test (FactStarted now kept) ≡ false
   pub crashed : test FactCrashed ≡ false
-  pub stored : (seq : ℕ) → test (Stored seq) ≡ false
+  pub stored : (kept : KeptRecord) → test (Stored kept) ≡ false
   pub asked : (seq floor ask mark : ℕ) → test (FactAsked seq floor ask mark) ≡ false
   pub heard : (seq : ℕ) (granted : Bool) → test (FactHeard seq granted) ≡ false
   pub emitted : (cell at rate : ℕ) → test (FactEmitted cell at rate) ≡ false
@@ -100,8 +102,9 @@ one_fact test fact h = elim (or_cases (test fact) false h) [ inl e ↦ e | inr e
 one_not : {A : Type 0} → (test : Fact → Bool) (fact : Fact) → test fact ≡ false → list_any test (fact ∷ []) ≡ true → A
 one_not test fact off h = not_true (test fact) off (one_fact test fact h)
 
-two_not : {A : Type 0} → (test : Fact → Bool) (first second : Fact) → test first ≡ false → test second ≡ false → list_any test (first ∷ second ∷ []) ≡ true → A
-two_not test first second off neither h = elim (or_cases (test first) (list_any test (second ∷ [])) h) [ inl e ↦ not_true (test first) off e | inr e ↦ one_not test second neither e ]
+write_not : {A : Type 0} → (test : Fact → Bool) (fact : Fact) (b : Bool) (kept : KeptRecord) → test fact ≡ false → test (Stored kept) ≡ false → list_any test (fact ∷ write_adds b kept) ≡ true → A
+write_not test fact true kept off neither h = elim (or_cases (test fact) (list_any test (Stored kept ∷ [])) h) [ inl e ↦ not_true (test fact) off e | inr e ↦ one_not test (Stored kept) neither e ]
+write_not test fact false kept off neither h = one_not test fact off h
 
 delivery_not : {A : Type 0} → (test : Fact → Bool) → IsHopTest test → (b : Bool) (seq : ℕ) → list_any test (if b then Delivered seq ∷ [] else []) ≡ true → A
 delivery_not test is true seq h = one_not test (Delivered seq) (is.delivered seq) h
@@ -117,7 +120,7 @@ done_by test is facts (Request c hop seq) (Requested (Drop cause)) h = delivery_
 done_by test is facts (Answer c hop seq true) (Answered PassBack) h = inr (inr (inl (record { conn = c; hop = hop; seq = seq; event_is = refl; outcome_is = refl; passes = one_fact test (FactBack seq hop) h })))
 done_by test is facts (Answer c hop seq false) (Answered PassBack) h = inr (inr (inr (record { conn = c; hop = hop; seq = seq; event_is = refl; outcome_is = refl; passes = one_fact test (Shut seq hop) h })))
 done_by test is facts (Start c now) Started h = one_not test _ (is.started now _) h
-done_by test is facts (Ask c rate plan) (Asked request) h = two_not test _ _ (is.asked request.seq request.floor request.ask _) (is.stored _) h
+done_by test is facts (Ask c rate plan) (Asked request) h = write_not test _ (writes facts rate) (written_for facts rate) (is.asked request.seq request.floor request.ask _) (is.stored _) h
 done_by test is facts (Ask c rate FailsAfter) (AskRefused Keep) h = one_not test _ (is.stored _) h
 done_by test is facts (Crash c) Crashed h = one_not test _ is.crashed h
 done_by test is facts (Emit c now) (Emitted cell next) h = one_not test _ (is.emitted cell now _) h

@@ -170,9 +170,9 @@ le_passes m n le = grind (arith, nat_tests)
 
 conforming_pass : (facts : List Fact) → AllConform facts → list_all conforms_if_arrived facts ≡ true
 conforming_pass [] all = refl
-conforming_pass (Started now number ∷ facts) all = conforming_pass facts all
+conforming_pass (Started now kept ∷ facts) all = conforming_pass facts all
 conforming_pass (Crashed ∷ facts) all = conforming_pass facts all
-conforming_pass (Stored seq ∷ facts) all = conforming_pass facts all
+conforming_pass (Stored kept ∷ facts) all = conforming_pass facts all
 conforming_pass (Asked seq floor ask mark ∷ facts) all = conforming_pass facts all
 conforming_pass (Heard seq granted ∷ facts) all = conforming_pass facts all
 conforming_pass (Emitted cell at rate ∷ facts) all = conforming_pass facts all

@@ -20,7 +20,7 @@ use Rattle.abt_model.specs.Past.{Past, facts_of}
 use Rattle.abt_model.specs.Outcomes.{conn_of, outcome_by, outcome_of, past_by, after_event}
 use Rattle.abt_model.specs.PortTable.{port_table}
 use Rattle.abt_model.specs.Run.{facts_after}
-use Rattle.abt_model.proofs.EveryPasts.{every_safe, every_never_disputes, every_one_answer, every_rates_wait, every_yes_stands, every_arrival_conforms, every_next_is_due}
+use Rattle.abt_model.proofs.EveryPasts.{every_safe, every_never_disputes, every_one_answer, every_rates_wait, every_yes_stands, every_arrival_conforms, every_next_is_due, every_store_covers}
 use Rattle.abt_model.proofs.Runs.{facts_from_push}
 use Rattle.abt_model.proofs.Worlds.{other_conn, outcome_of-unknown, after_event-unknown, facts_of-other}
 use Rattle.abt_world.specs.Standing.{WorldView, IsOfPast, StandsFor}
@@ -145,6 +145,7 @@ headline_holds net events rules asks = record {
   raised = every_yes_stands net events rules asks;
   verdicts = every_arrival_conforms net events rules asks;
   due = every_next_is_due net events rules asks;
+  stores = every_store_covers net events rules asks;
 }
 
 pub headline_after : (net : Topology) (events : List Event) (e : Event) → IsWithinRules net → All AsksRate events → AsksRate e → HeadlineHolds net (facts_after net (events ++ e ∷ []))

@@ -13,12 +13,14 @@ use Rattle.abt_source.specs.declared.fault.AskFault.TheVariants.{Keep}
 use Rattle.abt_facts.specs.declared.fact.Fact.{Fact}
 use Rattle.abt_facts.specs.declared.fact.Fact.TheVariants.{Delivered}
 use Rattle.abt_facts.specs.Requests.{floor_of, ask_of}
+use Rattle.abt_facts.specs.Source.{writes, written_for}
+use Rattle.abt_keep.specs.Record.{KeptRecord}
 use Rattle.abt_model.specs.declared.event.Event.{Event}
 use Rattle.abt_model.specs.declared.event.Event.TheVariants.{Start, Ask, Crash, Emit, Arrive, Request, Turn, Answer, Told}
 use Rattle.abt_model.specs.declared.outcome.Heard.TheVariants.{Raised}
 use Rattle.abt_model.specs.declared.outcome.Outcome.{Outcome}
 use Rattle.abt_model.specs.declared.outcome.Outcome.TheVariants.{Started, Asked, AskRefused, Crashed, Emitted, Arrived, Requested, Turned, Answered, Told as HasTold}
-use Rattle.abt_model.specs.Outcomes.{conn_of, outcome_of, facts_added, after_event, request_adds, answer_adds}
+use Rattle.abt_model.specs.Outcomes.{conn_of, outcome_of, facts_added, after_event, request_adds, answer_adds, write_adds}
 use Rattle.abt_model.specs.Past.{facts_of}
 use Rattle.abt_model.proofs.Worlds.{conn_cases, facts_of-own, facts_of-other}
 use Rattle.abt_source_journal.specs.declared.entry.SourceEntry.{SourceEntry}
@@ -56,6 +58,10 @@ floor_requested facts hop seq Pass s = floor_delivered (hop == 1) seq facts s
 floor_requested facts hop seq (Refuse answer) s = floor_delivered (hop == 1) seq facts s
 floor_requested facts hop seq (Drop cause) s = floor_delivered (hop == 1) seq facts s
 
+floor_written : (b : Bool) (kept : KeptRecord) (facts : List Fact) (s : ℕ) → floor_of (write_adds b kept ++ facts) s ≡ floor_of facts s
+floor_written true kept facts s = refl
+floor_written false kept facts s = refl
+
 floor_answered : (facts : List Fact) (hop seq : ℕ) (granted : Bool) (back : Back) (s : ℕ) → floor_of (answer_adds hop seq granted back ++ facts) s ≡ floor_of facts s
 floor_answered facts hop seq true PassBack s = refl
 floor_answered facts hop seq false PassBack s = refl
@@ -65,7 +71,7 @@ floor_answered facts hop seq false (DropBack cause) s = refl
 floor_alike : (facts : List Fact) (entries : List SourceEntry) (place s : ℕ) → floor_of facts s ≡ floor_in entries s → (event : Event) (outcome : Outcome) →
     floor_of (facts_added facts event outcome ++ facts) s ≡ floor_in (as_list (entry_of place event outcome) ++ entries) s
 floor_alike facts entries place s h (Start c now) Started = h
-floor_alike facts entries place s h (Ask c rate plan) (Asked request) = ap (λ n. if request.seq == s then request.floor else n) h
+floor_alike facts entries place s h (Ask c rate plan) (Asked request) = ap (λ n. if request.seq == s then request.floor else n) (floor_written (writes facts rate) (written_for facts rate) facts s ∙ h)
 floor_alike facts entries place s h (Ask c rate FailsAfter) (AskRefused Keep) = h
 floor_alike facts entries place s h (Crash c) Crashed = h
 floor_alike facts entries place s h (Emit c now) (Emitted cell next) = h
@@ -105,6 +111,10 @@ ask_requested facts hop seq Pass s = ask_delivered (hop == 1) seq facts s
 ask_requested facts hop seq (Refuse answer) s = ask_delivered (hop == 1) seq facts s
 ask_requested facts hop seq (Drop cause) s = ask_delivered (hop == 1) seq facts s
 
+ask_written : (b : Bool) (kept : KeptRecord) (facts : List Fact) (s : ℕ) → ask_of (write_adds b kept ++ facts) s ≡ ask_of facts s
+ask_written true kept facts s = refl
+ask_written false kept facts s = refl
+
 ask_answered : (facts : List Fact) (hop seq : ℕ) (granted : Bool) (back : Back) (s : ℕ) → ask_of (answer_adds hop seq granted back ++ facts) s ≡ ask_of facts s
 ask_answered facts hop seq true PassBack s = refl
 ask_answered facts hop seq false PassBack s = refl
@@ -114,7 +124,7 @@ ask_answered facts hop seq false (DropBack cause) s = refl
 ask_alike : (facts : List Fact) (entries : List SourceEntry) (place s : ℕ) → ask_of facts s ≡ ask_in entries s → (event : Event) (outcome : Outcome) →
     ask_of (facts_added facts event outcome ++ facts) s ≡ ask_in (as_list (entry_of place event outcome) ++ entries) s
 ask_alike facts entries place s h (Start c now) Started = h
-ask_alike facts entries place s h (Ask c rate plan) (Asked request) = ap (λ n. if request.seq == s then request.ask else n) h
+ask_alike facts entries place s h (Ask c rate plan) (Asked request) = ap (λ n. if request.seq == s then request.ask else n) (ask_written (writes facts rate) (written_for facts rate) facts s ∙ h)
 ask_alike facts entries place s h (Ask c rate FailsAfter) (AskRefused Keep) = h
 ask_alike facts entries place s h (Crash c) Crashed = h
 ask_alike facts entries place s h (Emit c now) (Emitted cell next) = h

@@ -2,6 +2,7 @@
 //! prover, so that a story's proof doesn't carry each call on to the next one.
 mod failing;
 mod stories;
+mod strides;
 
 use abt_cell::{Answer, Request, Vc};
 use abt_keep::SeqStore;

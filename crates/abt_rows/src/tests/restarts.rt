@@ -15,7 +15,7 @@ fn a_yes_from_before_a_crash_is_ignored(rt: HostRuntime) -> Result<(), Fail> {
         cannot(ask(0, 0x5120), Cause::Down),
         starts(0, 5),
         hears(0, 1, true, Heard::Ignored),
-        (ask(0, 0x5258), asked(100, 2, 0, 0x5258)?),
+        (ask(0, 0x5258), asked(100, 65, 0, 0x5258)?),
         hears(0, 1, true, Heard::Ignored),
     ];
     tell(&rt, &mut world(rt.alloc(), &net)?, &story)
@@ -40,7 +40,7 @@ fn a_number_that_was_not_used_is_asked_with_again(rt: HostRuntime) -> Result<(),
 #[test]
 fn a_restart_goes_on_from_the_number_in_the_store(rt: HostRuntime) -> Result<(), Fail> {
     let net = lone(rt.alloc())?;
-    for (plan, seq) in [(StorePlan::FailsAfter, 2), (StorePlan::FailsBefore, 1)] {
+    for (plan, seq) in [(StorePlan::FailsAfter, 65), (StorePlan::FailsBefore, 1)] {
         let mut world = world(rt.alloc(), &net)?;
         tell(&rt, &mut world, &fails_to_ask(plan))?;
         let story = [

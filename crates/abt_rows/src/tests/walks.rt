@@ -3,6 +3,7 @@
 mod answers;
 mod crowd;
 mod failing;
+mod kept;
 mod lists;
 mod logs;
 mod stories;

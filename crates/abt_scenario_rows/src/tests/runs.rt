@@ -2,6 +2,7 @@
 mod cells;
 mod requests;
 mod streams;
+mod strides;
 mod traces;
 
 use abt_scenario::{EngineFault, run_text};
@@ -33,7 +34,7 @@ const EXAMPLE_REPORT: &str =
 // Demands the report of a text. Where memory is refused nothing went out, and the text is run again.
 fn reports(rt: &impl Abort, alloc: Global, text: &str, report: &str) -> Result<(), Fail> {
     for _ in 0..2 {
-        let mut out = Narrow::new(1024, 1024);
+        let mut out = Narrow::new(1024, 4096);
         match run_text(alloc, &mut text.as_bytes(), &mut out) {
             Ok(()) => {
                 assert_eq!(rt; std::str::from_utf8(out.taken()), Ok(report));
@@ -61,7 +62,7 @@ fn expect(
     text.push_str("]\n")?;
     text.push_str(net)?;
     let mut report = format!(in alloc; "events {}\n", rows.len())?;
-    push_answers(alloc, &mut report, rows)?;
+    push_answers(alloc, &mut report, rows, 1)?;
     report.push_str(end)?;
     reports(rt, alloc, text.as_str(), report.as_str())
 }
@@ -75,17 +76,29 @@ fn push_events(text: &mut String, rows: &[(&str, &str)]) -> Result<(), AllocErro
     Ok(())
 }
 
+// The answers of events of which the first has this number.
 fn push_answers(
     alloc: Global,
     report: &mut String,
     rows: &[(&str, &str)],
+    first: u64,
 ) -> Result<(), AllocError> {
-    for (index, (_event, answer)) in rows.iter().enumerate() {
-        let number = index as u64 + 1;
-        let line = format!(in alloc; "{number} {answer}\n")?;
-        report.push_str(line.as_str())?;
+    let mut number = first;
+    for (_event, answer) in rows {
+        push_answer(alloc, report, number, answer)?;
+        number = number.saturating_add(1);
     }
     Ok(())
+}
+
+fn push_answer(
+    alloc: Global,
+    report: &mut String,
+    number: u64,
+    answer: &str,
+) -> Result<(), AllocError> {
+    let line = format!(in alloc; "{number} {answer}\n")?;
+    report.push_str(line.as_str())
 }
 
 #[test]

@@ -20,7 +20,7 @@ fn a_refused_start_hands_the_source_back(rt: HostRuntime) -> Result<(), Fail> {
 }
 
 #[test]
-fn the_last_moment_of_a_start_is_one_hold_off_before_the_last_of_a_cell(
+fn the_last_moment_of_a_start_is_the_longest_hold_off_before_the_last_of_a_cell(
     rt: HostRuntime,
 ) -> Result<(), Fail> {
     // 2^61 - 10^12, and one more.
@@ -97,7 +97,7 @@ fn a_restarted_source_ignores_yesterdays_yes(rt: HostRuntime) -> Result<(), Fail
     let (source, first) = ask(started(&rt, &mut store)?, &mut store, slow())?;
     let source = start(source.crash(), &mut store, 5)?;
     let (source, second) = ask(source, &mut store, middle())?;
-    request_is(&rt, &second, 2, Rate::ZERO, middle());
+    request_is(&rt, &second, 65, Rate::ZERO, middle());
     let source = ignore(source, &first)?;
     shapes_at(&rt, &source, Rate::ZERO);
     Ok(())
@@ -128,12 +128,12 @@ fn cells_leave_at_the_rate_of_the_moment(rt: HostRuntime) -> Result<(), Fail> {
 
 #[test]
 fn faults_have_texts(rt: HostRuntime) -> Result<(), Fail> {
-    let keep = "the store did not give its number";
+    let keep = "the store did not give its record";
     says(&rt, rt.alloc(), &StartFault::Keep, keep)?;
     let range = "the moment of the start is out of range";
     says(&rt, rt.alloc(), &StartFault::TimeRange, range)?;
     let exhausted = "no sequence number is left";
     says(&rt, rt.alloc(), &AskFault::SeqExhausted, exhausted)?;
-    let keep = "the store did not take the next number";
+    let keep = "the store did not take the next record";
     says(&rt, rt.alloc(), &AskFault::Keep, keep)
 }

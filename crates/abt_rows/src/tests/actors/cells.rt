@@ -36,7 +36,7 @@ fn a_lower_rate_spaces_the_next_cell(rt: HostRuntime) -> Result<(), Fail> {
 #[test]
 fn cells_are_numbered_over_restarts(rt: HostRuntime) -> Result<(), Fail> {
     let mut actor = raised(&rt, 0, fast())?;
-    let second = request(2, Rate::ZERO, fast())?;
+    let second = request(65, Rate::ZERO, fast())?;
     let story = [
         (emit(1000000000000), emitted(0, 1001000000000)),
         (emit(1001000000000), emitted(1, 1002000000000)),

@@ -1,5 +1,6 @@
 //! The facts that commands add (docs/RULES.md, "Facts"), the newer one first.
 use super::*;
+use abt_keep::Record;
 
 // Carries out each command, which has to add the facts beside it.
 fn adds(rt: &impl Abort, actor: &mut SourceActor, story: &[(SourceCommand, Added)]) {
@@ -9,21 +10,35 @@ fn adds(rt: &impl Abort, actor: &mut SourceActor, story: &[(SourceCommand, Added
     }
 }
 
-// The facts of an ask.
-fn asked(seq: u32, floor: Rate, ask: Rate, mark: u64) -> Added {
-    let asked = Fact::Asked {
+// The fact of an ask that sent its request.
+fn asked(seq: u32, floor: Rate, ask: Rate, mark: u64) -> Fact {
+    Fact::Asked {
         seq,
         floor,
         ask,
         mark,
-    };
-    Added::Two(asked, Fact::Stored { seq })
+    }
+}
+
+// The fact that a record was written with this number and the greatest spacing.
+fn stored(number: u32) -> Fact {
+    Fact::Stored {
+        kept: Record::old(number),
+    }
+}
+
+fn started(now: u64, number: u32) -> Fact {
+    Fact::Started {
+        now,
+        kept: Record::old(number),
+    }
 }
 
 #[test]
-fn a_request_is_stored_and_marked_by_the_cells_before_it(rt: HostRuntime) -> Result<(), Fail> {
+fn a_stride_is_stored_and_each_request_marked_by_the_cells_before_it(
+    rt: HostRuntime,
+) -> Result<(), Fail> {
     let mut actor = SourceActor::new(connection()?);
-    let started = Fact::Started { now: 7, number: 0 };
     let yes_heard = Fact::Heard {
         seq: 1,
         granted: true,
@@ -38,11 +53,14 @@ fn a_request_is_stored_and_marked_by_the_cells_before_it(rt: HostRuntime) -> Res
         granted: false,
     };
     let story = [
-        (start(7), Added::One(started)),
-        (ask(slow()), asked(1, Rate::ZERO, slow(), 0)),
+        (start(7), Added::One(started(7, 0))),
+        (
+            ask(slow()),
+            Added::Two(asked(1, Rate::ZERO, slow(), 0), stored(64)),
+        ),
         (yes(request(1, Rate::ZERO, slow())?), Added::One(yes_heard)),
         (emit(1000000000007), Added::One(left)),
-        (ask(middle()), asked(2, slow(), middle(), 1)),
+        (ask(middle()), Added::One(asked(2, slow(), middle(), 1))),
         (no(request(2, slow(), middle())?), Added::One(no_heard)),
         (SourceCommand::Crash, Added::One(Fact::Crashed)),
     ];
@@ -51,9 +69,8 @@ fn a_request_is_stored_and_marked_by_the_cells_before_it(rt: HostRuntime) -> Res
 }
 
 #[test]
-fn a_refused_ask_may_have_stored_its_number(rt: HostRuntime) -> Result<(), Fail> {
+fn a_refused_ask_may_have_stored_its_stride(rt: HostRuntime) -> Result<(), Fail> {
     let mut actor = SourceActor::new(connection()?);
-    let stored = Fact::Stored { seq: 1 };
     let unwritten = SourceCommand::Ask {
         rate: slow(),
         plan: StorePlan::FailsBefore,
@@ -64,11 +81,11 @@ fn a_refused_ask_may_have_stored_its_number(rt: HostRuntime) -> Result<(), Fail>
     };
     let story = [
         (written, Added::Nothing),
-        (start(0), Added::One(Fact::Started { now: 0, number: 0 })),
+        (start(0), Added::One(started(0, 0))),
         (unwritten, Added::Nothing),
-        (written, Added::One(stored)),
+        (written, Added::One(stored(64))),
         (SourceCommand::Crash, Added::One(Fact::Crashed)),
-        (start(0), Added::One(Fact::Started { now: 0, number: 1 })),
+        (start(0), Added::One(started(0, 64))),
     ];
     adds(&rt, &mut actor, &story);
     Ok(())

@@ -29,7 +29,7 @@ fn a_source_that_is_down_only_starts(rt: HostRuntime) -> Result<(), Fail> {
 #[test]
 fn a_restarted_source_ignores_yesterdays_yes(rt: HostRuntime) -> Result<(), Fail> {
     let first = request(1, Rate::ZERO, slow())?;
-    let second = request(2, Rate::ZERO, middle())?;
+    let second = request(65, Rate::ZERO, middle())?;
     let mut actor = SourceActor::new(connection()?);
     let story = [
         (start(0), Outcome::Started),
@@ -66,7 +66,7 @@ fn a_crash_takes_the_rate_and_the_open_request(rt: HostRuntime) -> Result<(), Fa
 #[test]
 fn the_clock_outlives_a_crash(rt: HostRuntime) -> Result<(), Fail> {
     let mut actor = raised(&rt, 9, slow())?;
-    let second = request(2, Rate::ZERO, slow())?;
+    let second = request(65, Rate::ZERO, slow())?;
     // 400 cells per second are 2,500,000,000 ps apart.
     let left = Outcome::Emitted {
         cell: 0,

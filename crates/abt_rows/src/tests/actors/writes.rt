@@ -37,7 +37,7 @@ fn number_after(rt: &impl Abort, plan: StorePlan, restarts: bool) -> Result<u32,
 fn a_number_that_failed_is_given_up_by_a_restart_alone(rt: HostRuntime) -> Result<(), Fail> {
     let rows = [
         (StorePlan::FailsAfter, false, 1),
-        (StorePlan::FailsAfter, true, 2),
+        (StorePlan::FailsAfter, true, 65),
         (StorePlan::FailsBefore, false, 1),
         (StorePlan::FailsBefore, true, 1),
     ];
@@ -50,7 +50,16 @@ fn a_number_that_failed_is_given_up_by_a_restart_alone(rt: HostRuntime) -> Resul
 #[test]
 fn a_failed_write_leaves_the_open_request(rt: HostRuntime) -> Result<(), Fail> {
     let mut actor = raised(&rt, 0, fast())?;
-    let open = request(2, slow(), slow())?;
+    // The first 64 asks need no more than one write.
+    for seq in 2..64 {
+        let asked = Outcome::Asked(request(seq, slow(), slow())?);
+        goes(
+            &rt,
+            &mut actor,
+            &[(ask_under(StorePlan::FailsBefore), asked)],
+        );
+    }
+    let open = request(64, slow(), slow())?;
     let story = [
         (ask(slow()), Outcome::Asked(open)),
         (
@@ -65,7 +74,8 @@ fn a_failed_write_leaves_the_open_request(rt: HostRuntime) -> Result<(), Fail> {
     Ok(())
 }
 
-// A start reads the store, and would be refused under a plan that is left.
+// A start reads the store, and would be refused under a plan that is left; so would the next ask that writes. The second ask
+// has nothing to write, and its plan goes with it.
 #[test]
 fn a_plan_is_for_its_own_ask_alone(rt: HostRuntime) -> Result<(), Fail> {
     let mut actor = SourceActor::new(connection()?);
@@ -74,10 +84,17 @@ fn a_plan_is_for_its_own_ask_alone(rt: HostRuntime) -> Result<(), Fail> {
         (ask_under(StorePlan::FailsBefore), stopped(Cause::Down)),
         (start(0), Outcome::Started),
         (ask(slow()), Outcome::Asked(first)),
+        (
+            ask_under(StorePlan::FailsBefore),
+            Outcome::Asked(request(2, Rate::ZERO, slow())?),
+        ),
         (SourceCommand::Crash, Outcome::Crashed),
         (ask_under(StorePlan::FailsAfter), stopped(Cause::Down)),
         (start(0), Outcome::Started),
-        (ask(slow()), Outcome::Asked(request(2, Rate::ZERO, slow())?)),
+        (
+            ask(slow()),
+            Outcome::Asked(request(65, Rate::ZERO, slow())?),
+        ),
     ];
     goes(&rt, &mut actor, &story);
     Ok(())

@@ -109,7 +109,7 @@ fn a_restart_goes_on_from_its_store(rt: HostRuntime) -> Result<(), Fail> {
             ("ask 0 5120", "not-enabled Down"),
             ("start 0 5", "started"),
             ("told-yes 0 1", "told Ignored"),
-            ("ask 0 5258", "asked 2 0000 5258"),
+            ("ask 0 5258", "asked 65 0000 5258"),
             ("told-yes 0 1", "told Ignored"),
         ],
         "connection 0 rate 0000 held 5120\n\
@@ -146,7 +146,7 @@ fn a_number_that_was_kept_is_lost_by_a_crash(rt: HostRuntime) -> Result<(), Fail
             ("ask 0 5120 after", "refused Keep"),
             ("crash 0", "crashed"),
             ("start 0 0", "started"),
-            ("ask 0 5120", "asked 2 0000 5120"),
+            ("ask 0 5120", "asked 65 0000 5120"),
         ],
         "connection 0 rate 0000 held 0000\n\
          port 0 total 0 capacity 512000\n\

@@ -12,7 +12,7 @@ pub(super) struct Narrow {
     piece: usize,
     room: usize,
     len: usize,
-    octets: [u8; 1024],
+    octets: [u8; 4096],
 }
 
 impl Narrow {
@@ -21,25 +21,25 @@ impl Narrow {
             piece,
             room,
             len: 0,
-            octets: [0; 1024],
+            octets: [0; 4096],
         }
     }
 
     pub(super) fn taken(&self) -> &[u8] {
-        &self.octets[..self.len.min(1024)]
+        &self.octets[..self.len.min(4096)]
     }
 }
 
 impl Write for Narrow {
     fn write(&mut self, buf: &[u8]) -> io::Result<usize> {
-        if self.len >= self.room || self.len >= 1024 {
+        if self.len >= self.room || self.len >= 4096 {
             return Err(Error::from(ErrorKind::Other));
         }
         let count = buf
             .len()
             .min(self.piece)
             .min(self.room - self.len)
-            .min(1024 - self.len);
+            .min(4096 - self.len);
         self.octets[self.len..self.len + count].copy_from_slice(&buf[..count]);
         self.len += count;
         Ok(count)

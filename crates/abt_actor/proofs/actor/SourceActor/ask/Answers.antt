@@ -8,18 +8,18 @@ use Rattle.abt_actor.specs.Commands.{command_answer, command_adds}
 use Rattle.abt_source.specs.SourceFacts.{StandsFor, view_of}
 use Rattle.abt_actor.specs.Actor.{ActorView, actor_of}
 use Rattle.abt_actor.specs.Sources.{source_in, state_in, actor_in}
-use Rattle.abt_actor.proofs.Asking.{goes, stays, request_answered, request_after, refusal_answered, refusal_after}
+use Rattle.abt_actor.proofs.Asking.{goes, stays, request_answered, request_after, refusal_answered, refusal_after, written_by_facts, written_some}
 use Rattle.abt_actor.proofs.actor.SourceActor.ask.Goals as goal
 
 -- the actor before
 abbrev before : goal.After-of_request → ActorView
-before c = actor_in c.self.inside.running c.self.inside.store.number c.self.inside.cells c.self.inside.clock
+before c = actor_in c.self.inside.running c.self.inside.store.kept c.self.inside.cells c.self.inside.clock
 
 up : (c : goal.After-of_request) → (before c).state ≢ Down
 up c = search rules
 
 abbrev before' : goal.After-of_refusal → ActorView
-before' c = actor_in c.self.inside.running c.self.inside.store.number c.self.inside.cells c.self.inside.clock
+before' c = actor_in c.self.inside.running c.self.inside.store.kept c.self.inside.cells c.self.inside.clock
 
 up' : (c : goal.After-of_refusal) → (before' c).state ≢ Down
 up' c = search rules
@@ -35,30 +35,32 @@ returns-in-Ok c vc facts is =
       view_is = ap (λ a. a.source) was ∙ ap (λ v. view_of v facts) (sym (ap (λ a. a.source.vc) was));
     } in
     let stands = c.in-Ok.ensures.facts facts (emitted_of facts) stood in
-    let number : c.in-Ok.request.seq ≡ last_of facts + 1 = ap (λ (r : Terms). r.seq) gone.asked ∙ ap (λ a. a.source.last + 1) was in
-    let added = c.of_request.ensures facts c.args.plan c.args.rate (ap (λ a. a.cells) was) number in
-    let after = request_after vc facts (before c) c.self.inside.running c.plan.new.self c.ask-asked.new.store c.args.rate (emitted_of facts)
-    c.in-Ok.source c.in-Ok.request was c.self.invariant.1 refl gone stands in
+    let written = written_by_facts vc facts (before c).source c.args.rate c.record_to_write-written.result (ap (λ a. a.source) was) c.record_to_write-written.ensures in
+    let added = c.of_request.ensures facts c.args.plan c.args.rate (ap (λ a. a.cells) was) written in
+    let held = ap (λ s. s.kept) c.plan.ensures in
+    let after = request_after vc facts (before c) c.self.inside.running c.plan.new.self c.ask-asked.new.store c.args.rate
+    c.in-Ok.source c.in-Ok.request was refl held gone stands in
     record {
       answer = subst (λ p. Asked c.in-Ok.request ≡ command_answer vc facts (Ask c.args.rate p)) plan
           (request_answered vc facts (before c) c.self.inside.running c.plan.new.self c.ask-asked.new.store c.args.rate c.in-Ok.source c.in-Ok.request was (up c) refl gone);
       adds = added;
-      becomes = rw added (rw (ap (λ s. s.number) c.plan-2.ensures) after);
+      becomes = rw added (rw (ap (λ s. s.kept) c.plan-2.ensures) after);
     }
 
 pub returns-in-Err : goal.returns-in-Err
 returns-in-Err c vc facts is =
     let was : before' c ≡ actor_of vc facts = c.self.view_is ∙ is in
     let plan = ap (λ s. s.plan) c.plan.ensures in
-    let held = ap (λ s. s.number) c.plan.ensures in
+    let held = ap (λ s. s.kept) c.plan.ensures in
     let stayed = stays c.self.inside.running c.in-Err.running c.plan.new.self c.args.rate c.in-Err.fault c.ask-asked.new.store
     (ap (λ r. (r, c.ask-asked.new.store)) (sym c.in-Err.is) ∙ c.ask-asked.ensures.value) in
-    let added = c.of_refusal.ensures facts c.args.rate (c.last-last.ensures ∙ ap (λ a. a.source.last) was) in
-    let after = subst (λ p. record (before' c) { kept = c.ask-asked.new.store.number } ≡ actor_of vc (command_adds facts (Ask c.args.rate p) (AskRefused c.in-Err.fault) ++ facts)) plan
-    (refusal_after vc facts (before' c) c.self.inside.running c.plan.new.self c.ask-asked.new.store c.args.rate c.in-Err.fault was c.self.invariant.1 refl held stayed.1) in
+    let written = written_by_facts vc facts (before' c).source c.args.rate c.record_to_write-written.result (ap (λ a. a.source) was) c.record_to_write-written.ensures in
+    let added = c.of_refusal.ensures facts c.args.rate written in
+    let after = subst (λ p. record (before' c) { kept = c.ask-asked.new.store.kept } ≡ actor_of vc (command_adds facts (Ask c.args.rate p) (AskRefused c.in-Err.fault) ++ facts)) plan
+    (refusal_after vc facts (before' c) c.self.inside.running c.plan.new.self c.ask-asked.new.store c.args.rate c.in-Err.fault was refl held stayed.1) in
     record {
       answer = subst (λ p. AskRefused c.in-Err.fault ≡ command_answer vc facts (Ask c.args.rate p)) plan
           (refusal_answered vc facts (before' c) c.self.inside.running c.plan.new.self c.ask-asked.new.store c.args.rate c.in-Err.fault was (up' c) refl stayed.1);
       adds = added;
-      becomes = rw added (rw stayed.0 (rw (ap (λ s. s.number) c.plan-2.ensures) after));
+      becomes = rw added (rw stayed.0 (rw (ap (λ s. s.kept) c.plan-2.ensures) after));
     }

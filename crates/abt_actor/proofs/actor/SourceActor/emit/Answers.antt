@@ -10,7 +10,7 @@ use Rattle.abt_actor.proofs.actor.SourceActor.emit.Goals as goal
 
 -- the actor before
 abbrev pub before : goal.In-Ok → ActorView
-before c = actor_in c.self.inside.running c.self.inside.store.number c.self.inside.cells c.self.inside.clock
+before c = actor_in c.self.inside.running c.self.inside.store.kept c.self.inside.cells c.self.inside.clock
 
 up : (c : goal.In-Ok) → (before c).state ≢ Down
 up c = search rules
