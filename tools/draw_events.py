@@ -39,6 +39,8 @@ class Drawing:
         self.nonsense = chosen.choice([0, 0.02, 0.1, 0.3])
         self.emits = chosen.choice([0, 10, 40, 80])
         self.asks_anew = chosen.choice([1, 5, 20])
+        # In some lists a source that has sent a cell goes on asking, so that strides end and keep a short spacing.
+        self.asks_on = chosen.choice([0, 0, 2000])
         most = len(net.connections)
         self.active = chosen.sample(range(most), min(most, chosen.choice([1, 4, 16, 64])))
 
@@ -65,9 +67,10 @@ class Drawing:
         cells = {self.emit: self.emits if course.rate() else 1, self.arrive: self.emits if course.of("emitted")[course.fence() :] else 0}
         if asking is None:
             return {self.start: 20, self.message: 5, self.emit: 1, self.ask: 1, self.arrive: cells[self.arrive] / 4}
+        more = self.asks_on if course.gap() < SECOND else 0
         if asking == 0:
-            return {self.ask: 15, self.message: 5, self.crash: self.crashes, self.again: 1, **cells}
-        return {self.ask: self.asks_anew, self.message: 100, self.again: 5, self.crash: self.crashes, **cells}
+            return {self.ask: 15 + more, self.message: 5, self.crash: self.crashes, self.again: 1, **cells}
+        return {self.ask: self.asks_anew + more, self.message: 100, self.again: 5, self.crash: self.crashes, **cells}
 
     def start(self, conn, course):
         later = self.chosen.choice([0, 0, 1, self.chosen.randrange(3 * SECOND)])

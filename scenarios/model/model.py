@@ -12,6 +12,7 @@ from reading import Fault, read
 SECOND = 10**12
 LAST_NUMBER = 2**32 - 1
 LAST_EMISSION = 2**61
+STRIDE = 64
 
 
 def code(units):
@@ -77,7 +78,18 @@ class Course:
         return rate
 
     def stored(self):
-        return max((fact[1] for fact in self.of("asked", "stored")), default=0)
+        """The number and the spacing in the store: those of the last write, or of an empty store."""
+        written = self.of("stored")
+        return written[-1][1:3] if written else (0, SECOND)
+
+    def kept(self):
+        """The number and the spacing that the source knows to be in its store."""
+        for kind, *rest in reversed(self.facts):
+            if kind == "started":
+                return rest[1:]
+            if kind == "stored" and rest[2] == "works":
+                return rest[:2]
+        return 0, SECOND
 
     def last(self):
         number = 0
@@ -88,6 +100,17 @@ class Course:
                 number = rest[0]
         return number
 
+    def gap(self):
+        """For how long no cell leaves after the last start or the last cell."""
+        kind, *rest = self.of("started", "emitted")[-1]
+        return rest[2] if kind == "started" else spacing(rest[2])
+
+    def need(self, rate):
+        """The greatest gap that may be running at any moment until the next ask, if this rate is asked for."""
+        waiting = self.asking()
+        rates = [self.rate(), self.request(waiting)[1] if waiting else 0, rate]
+        return max([self.gap()] + [spacing(units) for units in rates if units])
+
     def clock(self):
         return max([fact[1] for fact in self.of("started")] + [fact[2] for fact in self.of("emitted")], default=0)
 
@@ -96,7 +119,7 @@ class Course:
         moment = 0
         for kind, *rest in self.facts:
             if kind == "started":
-                moment = rest[0] + SECOND
+                moment = rest[0] + rest[2]
             elif kind == "emitted":
                 moment = rest[1] + spacing(rest[2])
         return moment
@@ -168,7 +191,7 @@ class World:
             return "not-enabled ClockBack"
         if now > LAST_EMISSION - SECOND:
             return "refused TimeRange"
-        course.add("started", now, course.stored())
+        course.add("started", now, *course.stored())
         return "started"
 
     def ask(self, course, rate, plan):
@@ -177,10 +200,13 @@ class World:
         seq = course.last() + 1
         if seq > LAST_NUMBER:
             return "refused SeqExhausted"
-        if plan == "after":
-            course.add("stored", seq)
-        if plan != "works":
-            return "refused Keep"
+        number, covered = course.kept()
+        need = course.need(rate)
+        if seq > number or need > covered:
+            if plan != "before":
+                course.add("stored", min(seq + STRIDE - 1, LAST_NUMBER), need, plan)
+            if plan != "works":
+                return "refused Keep"
         floor = min(course.rate(), rate)
         course.add("asked", seq, floor, rate, len(course.of("emitted")))
         return f"asked {seq} {code(floor)} {code(rate)}"

@@ -71,7 +71,7 @@ crash 0 -> crashed
 ask 0 5120 -> not-enabled Down
 start 0 5 -> started
 told-yes 0 1 -> told Ignored
-ask 0 5258 -> asked 2 0000 5258
+ask 0 5258 -> asked 65 0000 5258
 told-yes 0 1 -> told Ignored
 """)
 
@@ -115,7 +115,50 @@ start 0 0 -> started
 ask 0 5120 after -> refused Keep
 crash 0 -> crashed
 start 0 0 -> started
-ask 0 5120 -> asked 2 0000 5120
+ask 0 5120 -> asked 65 0000 5120
+""")
+
+STRIDE_AT_ONCE = story("""
+start 0 0 -> started
+ask 0 5120 -> asked 1 0000 5120
+ask 0 5258 before -> asked 2 0000 5258
+crash 0 -> crashed
+start 0 0 -> started
+ask 0 5120 -> asked 65 0000 5120
+""")
+
+# A source of 1,000 cells per second, which asks for that 64 times more: the last of these keeps 128 and a millisecond.
+ASKING_ON = story("""
+start 0 0 -> started
+ask 0 53e8 -> asked 1 0000 53e8
+request 0 1 1 -> passed
+turn 0 1 -> turned
+yes 0 1 1 -> passed
+told-yes 0 1 -> told Raised
+emit 0 1000000000000 -> emitted 0 1001000000000
+arrive 0 0 1000000001200 -> arrived Conforming
+""") + [["ask 0 53e8", f"asked {seq} 53e8 53e8"] for seq in range(2, 66)]
+
+SHORTER_HOLD_OFF = story("""
+crash 0 -> crashed
+start 0 1000000000000 -> started
+ask 0 53e8 -> asked 129 0000 53e8
+request 0 1 129 -> passed
+turn 0 129 -> turned
+yes 0 1 129 -> passed
+told-yes 0 129 -> told Raised
+emit 0 1000999999999 -> refused TooSoon 1001000000000
+emit 0 1001000000000 -> emitted 1 1002000000000
+arrive 0 1 1001000001000 -> arrived Conforming
+""")
+
+GREATER_NEED = story("""
+ask 0 53e8 before -> asked 66 53e8 53e8
+ask 0 5120 before -> refused Keep
+ask 0 5120 -> asked 67 5120 5120
+crash 0 -> crashed
+start 0 1000000000000 -> started
+ask 0 5120 -> asked 131 0000 5120
 """)
 
 NOT_KEPT = story("""
@@ -173,7 +216,10 @@ safe""")
     check(ONE, GRANTED + RESTARTED, HELD)
     check(ONE, RAISED + CELLS, "connection 0 rate 53e8 held 53e8\nport 0 total 512000 capacity 512000\nsafe")
     check(ONE, RAISED + FENCED, "connection 0 rate 5120 held 5120\nport 0 total 204800 capacity 512000\nsafe")
-    for lines in KEPT_AT_ONCE, KEPT_BEFORE_A_CRASH, NOT_KEPT, CAUSES:
+    full = "held 53e8\nport 0 total 512000 capacity 512000\nsafe"
+    check(ONE, ASKING_ON + SHORTER_HOLD_OFF, f"connection 0 rate 53e8 {full}")
+    check(ONE, ASKING_ON + GREATER_NEED, f"connection 0 rate 0000 {full}")
+    for lines in KEPT_AT_ONCE, KEPT_BEFORE_A_CRASH, STRIDE_AT_ONCE, NOT_KEPT, CAUSES:
         check(ONE, lines, IDLE)
     check(ONE, story(f"start 0 {2**61 - SECOND + 1} -> refused TimeRange"), IDLE)
     check(FAST, GREATEST, "connection 0 rate 7fff held 7fff\nport 0 total 2196875771904 capacity 2196875771904\nsafe")
