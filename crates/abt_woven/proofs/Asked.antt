@@ -1,7 +1,7 @@
 -- The facts of a connection have the requests that its source's projection has.
-use Rattle.std.proofs.Common.{◌≡◌, ◌≢◌, ℕ, inl, inr, refl, ap, Bool, true, false, List, [], ◌∷◌, ◌++◌, ◌∙◌, sym, subst, Option, None, Some, reverse}
+use Rattle.std.proofs.Common.{◌≡◌, ◌≢◌, ℕ, inl, inr, refl, ap, Bool, true, false, List, [], ◌∷◌, ◌++◌, ◌∙◌, sym, Option, None, Some, reverse}
 use Rattle.std.specs.Prelude.{◌==◌, ◌&&◌, if◌then◌else◌}
-use Rattle.std.proofs.lemmas.Bool.{cond-false, cond-true, cases_eq, eq-eqb, ne_eqb}
+use Rattle.std.proofs.lemmas.Bool.{cond-false, cond-true, eq-eqb, ne_eqb}
 use Rattle.std.proofs.lemmas.List.{reverse-append, append-nil}
 use Rattle.abt_net.specs.Topology.{Topology}
 use Rattle.abt_keep.specs.declared.plan.StorePlan.TheVariants.{FailsAfter}
@@ -18,7 +18,7 @@ use Rattle.abt_model.specs.declared.event.Event.TheVariants.{Start, Ask, Crash, 
 use Rattle.abt_model.specs.declared.outcome.Heard.TheVariants.{Raised}
 use Rattle.abt_model.specs.declared.outcome.Outcome.{Outcome}
 use Rattle.abt_model.specs.declared.outcome.Outcome.TheVariants.{Started, Asked, AskRefused, Crashed, Emitted, Arrived, Requested, Turned, Answered, Told as HasTold}
-use Rattle.abt_model.specs.Outcomes.{conn_of, outcome_of, facts_added, after_event, request_adds, answer_adds}
+use Rattle.abt_model.specs.Outcomes.{conn_of, outcome_of, facts_added, request_adds, answer_adds}
 use Rattle.abt_model.specs.Past.{facts_of}
 use Rattle.abt_model.proofs.Worlds.{conn_cases, facts_of-own, facts_of-other}
 use Rattle.abt_source_journal.specs.declared.entry.SourceEntry.{SourceEntry}
