@@ -1,6 +1,6 @@
 -- No message is dropped since ports and sources disagree.
 use Rattle.std.proofs.Common.{◌≡◌, ℕ, ◌+◌, ◌-◌, ◌≤◌, ◌<◌, inl, inr, refl, ap, Bool, true, false, List, length, ◌∙◌, sym, arith}
-use Rattle.std.specs.Prelude.{◌&&◌, ◌==◌, not, nat_lt, Option}
+use Rattle.std.specs.Prelude.{◌&&◌, ◌==◌, not, nat_lt}
 use Rattle.std.proofs.lemmas.Bool.{false≢true, ne_eqb, false_from_ne_true, and_from, and_parts, cond_both, not-false}
 use Rattle.abt_facts.specs.declared.fact.Fact.{Fact}
 use Rattle.abt_model.specs.declared.event.Event.{Event}

@@ -1,7 +1,7 @@
 -- The tables that the facts of a net give its ports.
 use Rattle.std.proofs.Common.{◌≡◌, ◌≢◌, ℕ, zero, suc, ◌+◌, ◌<◌, inl, inr, refl, ap, true, false, List, [], ◌∷◌, ◌++◌, length, map, ◌∙◌, sym, subst, arith}
 use Rattle.std.specs.Prelude.{◌==◌, if◌then◌else◌, slice_index, slice_get, sum_by, AllPairs, Option, None, Some}
-use Rattle.std.proofs.lemmas.Bool.{false≢true, ne_eqb, cond-false, cond-true, cases_Bool, cases_order, cases_eq, false_from_ne_true, eqb-false}
+use Rattle.std.proofs.lemmas.Bool.{false≢true, ne_eqb, cond-false, cond-true, cases_Bool, cases_order, false_from_ne_true, eqb-false}
 use Rattle.std.specs.List.{slice_index_or, enumerate_from}
 use Rattle.std.specs.FinMap as finmap
 use Rattle.std.proofs.lemmas.List.Sums.{sum_by-cons}
@@ -17,7 +17,7 @@ use Rattle.abt_net.specs.Topology.{Topology, IsWithinRules, conn_at}
 use Rattle.abt_cell.specs.Channel.{Channel, channel_cmp, same_channel}
 use Rattle.abt_model.specs.Past.{Past, facts_of}
 use Rattle.abt_net.specs.Paths.{hop_of}
-use Rattle.abt_model.specs.Outcomes.{conn_of, facts_added, after_event}
+use Rattle.abt_model.specs.Outcomes.{facts_added, after_event}
 use Rattle.abt_model.specs.PortTable.{kept_at, kept_from, port_table, hop_visited, VisitsBy, TotalsAreReserved, TablesHaveRows, TablesStay}
 use Rattle.abt_node.specs.Table.{Connection, held_at, connection_at, with_connection}
 use Rattle.abt_model.proofs.Sums.{numbered_sum, holding}

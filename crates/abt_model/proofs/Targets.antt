@@ -1,11 +1,5 @@
 -- Each event has one target, and each target one event.
-use Rattle.std.proofs.Common.{◌≡◌, ℕ, Bool, List, refl, sym, ap, ◌∙◌}
-use Rattle.std.specs.Prelude.{slice_index, ◌-◌}
-use Rattle.abt_keep.specs.declared.plan.StorePlan.{StorePlan}
-use Rattle.abt_facts.specs.declared.fact.Fact.{Fact}
-use Rattle.abt_net.specs.declared.conn.Conn.{Conn}
-use Rattle.abt_net.specs.Topology.{Topology}
-use Rattle.abt_model.specs.Past.{Past}
+use Rattle.std.proofs.Common.{◌≡◌, ℕ, refl, sym, ap, ◌∙◌}
 use Rattle.abt_model.specs.declared.event.Event.{Event}
 use Rattle.abt_model.specs.declared.event.Event.TheVariants.{Start, Ask, Again, Crash, Emit, Arrive, Request, Turn, Answer, Told}
 use Rattle.abt_model.specs.declared.target.SourceEvent.{SourceEvent}
@@ -15,9 +9,6 @@ use Rattle.abt_model.specs.declared.target.HopEvent.TheVariants as hop
 use Rattle.abt_model.specs.declared.target.Target.{Target}
 use Rattle.abt_model.specs.declared.target.Target.TheVariants.{Source, Hop, End}
 use Rattle.abt_model.specs.Targets.{target_of, event_at, event_at_source, event_at_hop}
-use Rattle.abt_model.specs.Reserved.{reserved_on}
-use Rattle.abt_model.specs.Answers.{answer_by}
-use Rattle.abt_model.specs.Outcomes.{conn_of, port_of}
 
 pub event_there : (e : Event) → event_at (target_of e) ≡ e
 event_there (Start c now) = refl

@@ -9,7 +9,7 @@ use Rattle.abt_net.specs.Topology.{Topology, IsWithinRules, conn_at}
 use Rattle.abt_model.specs.declared.event.Event.{Event}
 use Rattle.abt_model.specs.declared.event.Event.TheVariants.{Arrive, Request, Turn, Answer, Told}
 use Rattle.abt_model.specs.declared.outcome.Outcome.{Outcome}
-use Rattle.abt_model.specs.Outcomes.{conn_of, outcome_at, outcome_of}
+use Rattle.abt_model.specs.Outcomes.{conn_of, outcome_of}
 use Rattle.abt_model.specs.Past.{Past, facts_of}
 use Rattle.abt_model.proofs.Worlds.{outcome_of-unknown, cases_option}
 use Rattle.abt_journal.specs.declared.entry.Entry.{Entry}

@@ -1,7 +1,7 @@
 -- The facts of an access line are those that its source's projection and the first port's make.
 use Rattle.std.proofs.Common.{◌≡◌, ℕ, zero, suc, ◌+◌, ◌<◌, inl, inr, refl, ap, Bool, true, false, List, [], ◌∷◌, ◌++◌, length, ◌∙◌, sym, subst, Option, None, Some, arith}
 use Rattle.std.specs.Prelude.{◌==◌, ◌&&◌, if◌then◌else◌, slice_get, slice_index}
-use Rattle.std.proofs.lemmas.Bool.{false≢true, cond-true, cases_eq}
+use Rattle.std.proofs.lemmas.Bool.{false≢true, cond-true}
 use Rattle.abt_cell.specs.Message.{Terms}
 use Rattle.abt_gcra.specs.declared.verdict.Verdict.TheVariants.{Conforming}
 use Rattle.abt_keep.specs.Record.{KeptRecord}

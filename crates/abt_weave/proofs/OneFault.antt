@@ -7,7 +7,7 @@ use Rattle.std.proofs.lemmas.Option.{slice_get_within}
 use Rattle.abt_net.specs.Topology.{Topology, IsWithinRules}
 use Rattle.abt_model.specs.declared.event.Event.{Event}
 use Rattle.abt_model.specs.Events.{AsksRate}
-use Rattle.abt_model.specs.Outcomes.{conn_of, outcome_of}
+use Rattle.abt_model.specs.Outcomes.{outcome_of}
 use Rattle.abt_source_journal.specs.declared.entry.SourceEntry.{SourceEntry}
 use Rattle.abt_source_journal.specs.declared.entry.SourceEntry.TheVariants.{Did}
 use Rattle.abt_woven.specs.declared.actor.Actor.{Actor}

@@ -1,7 +1,7 @@
 -- A source after events is the one that did what its projection says.
-use Rattle.std.proofs.Common.{◌≡◌, ℕ, inl, inr, refl, ap, Bool, true, false, List, [], ◌∷◌, ◌++◌, ◌∙◌, sym, subst, Option, None, Some}
+use Rattle.std.proofs.Common.{◌≡◌, ℕ, inl, inr, refl, ap, Bool, true, false, List, [], ◌∷◌, ◌++◌, ◌∙◌, sym, Option, None, Some}
 use Rattle.std.specs.Prelude.{◌+◌, ◌==◌, ◌&&◌, if◌then◌else◌}
-use Rattle.std.proofs.lemmas.Bool.{cond-true, cases_eq, eq-eqb}
+use Rattle.std.proofs.lemmas.Bool.{cond-true, eq-eqb}
 use Rattle.abt_cell.specs.Message.{Terms}
 use Rattle.abt_net.specs.Topology.{Topology}
 use Rattle.abt_keep.specs.Record.{KeptRecord}

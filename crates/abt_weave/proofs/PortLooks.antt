@@ -16,7 +16,7 @@ use Rattle.abt_model.specs.declared.outcome.Cause.TheVariants.{NotSent}
 use Rattle.abt_model.specs.declared.outcome.Outcome.TheVariants.{Turned, NotEnabled}
 use Rattle.abt_model.specs.Past.{Past, facts_of}
 use Rattle.abt_model.specs.Answers.{is_hop}
-use Rattle.abt_model.specs.Outcomes.{conn_of, outcome_at, outcome_of}
+use Rattle.abt_model.specs.Outcomes.{outcome_at, outcome_of}
 use Rattle.abt_model.specs.Run.{facts_after}
 use Rattle.abt_model.proofs.Worlds.{all_at}
 use Rattle.abt_model.specs.PortTable.{hop_visited}

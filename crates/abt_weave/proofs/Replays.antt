@@ -1,6 +1,6 @@
 -- The table that a port has after events is the one that its projection makes of its first table.
 use Rattle.std.proofs.Common.{◌≡◌, ◌≢◌, ℕ, ◌+◌, ◌-◌, ◌≤◌, inl, inr, refl, ap, Bool, true, false, List, [], ◌∷◌, length, ◌∙◌, sym, subst, Option, None, Some, arith, map}
-use Rattle.std.specs.Prelude.{◌==◌, not, nat_lt, if◌then◌else◌, slice_index, option_map, fold, All}
+use Rattle.std.specs.Prelude.{◌==◌, not, nat_lt, if◌then◌else◌, slice_index, fold, All}
 use Rattle.std.proofs.lemmas.Bool.{cond-false, cond-true, cases_eq, eq-eqb, ne_eqb}
 use Rattle.std.proofs.lemmas.List.Sums.{fold-append}
 use Rattle.abt_cell.specs.Channel.{Channel}
@@ -40,7 +40,7 @@ use Rattle.abt_journal.specs.declared.input.PortInput.{PortInput}
 use Rattle.abt_journal.specs.declared.input.PortReply.{PortReply}
 use Rattle.abt_journal.specs.declared.input.PortReply.TheVariants.{Requested as RequestedOut, Answered as AnsweredOut, Arrived as ArrivedOut}
 use Rattle.abt_journal.specs.Replay.{reply_by, table_after, replay}
-use Rattle.abt_woven.specs.Projections.{Step, step_of, Visit, reply_of, input_of, visit_by, visit_of, visit, past_of, step_at, steps_on}
+use Rattle.abt_woven.specs.Projections.{Step, step_of, Visit, reply_of, input_of, visit, past_of, step_at, steps_on}
 use Rattle.abt_weave.proofs.OwnEvents.{unvisited_by}
 use Rattle.abt_weave.proofs.PortEvents.{IsVisit, known_at, input_at, visit_is, visit_made, has_reply, reply_enabled, some_same}
 use Rattle.abt_weave.proofs.PortLooks.{first_hop}

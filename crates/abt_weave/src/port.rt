@@ -1,7 +1,7 @@
 //! The next entry of a port.
 ghost use Rattle.std.specs.Prelude.{◌≡◌, ◌<◌, ◌+◌, ◌^◌, slice_get, slice_index, length, reverse, false, Some, IfOk, IfSome, IsNone};
 ghost use Rattle.abt_model.specs.declared.event.Event.{Event as EventSpec};
-ghost use Rattle.abt_model.specs.Outcomes.{conn_of, outcome_of};
+ghost use Rattle.abt_model.specs.Outcomes.{outcome_of};
 ghost use Rattle.abt_net.specs.Topology.{IsWithinRules};
 ghost use Rattle.abt_weave.specs.Candidates as candidates;
 ghost use Rattle.abt_weave.specs.Comes.{Comes, IsComing, IsExpected};

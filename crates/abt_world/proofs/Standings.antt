@@ -1,6 +1,6 @@
 -- A world to which one more event happened stands for one more.
 use Rattle.std.proofs.Common.{◌≡◌, ℕ, zero, suc, ◌≤◌, ◌<◌, List, [], ◌∷◌, ◌++◌, inl, inr, refl, sym, subst, ap, ◌∙◌, arith, length, take, drop, map, Result, Ok, Err}
-use Rattle.std.specs.Prelude.{Some, None, Option, option_map, slice_get, slice_set, All, MatchResult, OnOk, unwrap_or}
+use Rattle.std.specs.Prelude.{Some, None, option_map, slice_get, slice_set, All, MatchResult, OnOk, unwrap_or}
 use Rattle.std.proofs.lemmas.Bool.{cases_eq}
 use Rattle.std.proofs.lemmas.Option.{slice_get_past}
 use Rattle.std.proofs.lemmas.List.Elements.{All-append, All-cons, All-nil, All-take}

@@ -1,6 +1,5 @@
 -- An event that fits leaves beginnings of the journals.
-use Rattle.std.proofs.Common.{◌≡◌, ◌≢◌, ℕ, inl, inr, refl, ap, Bool, true, false, List, [], ◌∷◌, ◌++◌, length, ◌∙◌, sym, subst, Option, None, Some}
-use Rattle.std.specs.Prelude.{◌==◌, if◌then◌else◌, slice_get}
+use Rattle.std.proofs.Common.{◌≡◌, ℕ, inl, inr, refl, ap, List, ◌∷◌, ◌++◌, length, ◌∙◌, sym, subst, Option, None, Some}
 use Rattle.std.proofs.lemmas.Bool.{cond-false, cond-true, cases_eq, eq-eqb, ne_eqb}
 use Rattle.abt_net.specs.Topology.{Topology}
 use Rattle.abt_model.specs.declared.event.Event.{Event}

@@ -1,7 +1,7 @@
 -- What Turns change: only whether a yes is sent to the last hop.
 use Rattle.std.proofs.Common.{◌≡◌, ◌≢◌, ℕ, ◌+◌, ◌⊎◌, inl, inr, refl, ap, Bool, true, false, List, [], ◌∷◌, ◌++◌, length, ◌∙◌, sym, subst, Option, None, Some}
-use Rattle.std.specs.Prelude.{◌==◌, ◌&&◌, ◌||◌, ◌-◌, not, if◌then◌else◌, slice_index}
-use Rattle.std.proofs.lemmas.Bool.{false≢true, cond-false, cond-true, cond_both, cases_Bool, cases_eq, eq-eqb, ne_eqb, eqb-true, or_left, or_cases, false_from_ne_true}
+use Rattle.std.specs.Prelude.{◌==◌, ◌||◌, ◌-◌, not, if◌then◌else◌, slice_index}
+use Rattle.std.proofs.lemmas.Bool.{false≢true, cond-false, cond-true, cond_both, cases_Bool, cases_eq, eq-eqb, ne_eqb, or_left}
 use Rattle.std.proofs.lemmas.List.{append-nil}
 use Rattle.abt_keep.specs.declared.plan.StorePlan.{StorePlan}
 use Rattle.abt_keep.specs.declared.plan.StorePlan.TheVariants.{Works, FailsBefore, FailsAfter}
@@ -25,8 +25,7 @@ use Rattle.abt_model.specs.Past.{Past, facts_of, with_facts}
 use Rattle.abt_model.specs.Reserved.{held_on, reserved_on}
 use Rattle.abt_model.proofs.Sums.{numbered_same}
 use Rattle.abt_journal.specs.declared.input.PortReply.{PortReply}
-use Rattle.abt_source_journal.specs.declared.entry.SourceEntry.{SourceEntry}
-use Rattle.abt_woven.specs.Projections.{Step, Visit, is_enabled, reply_of, past_of, visit_by, visit, step_at, steps_on, entry_at, entries_on}
+use Rattle.abt_woven.specs.Projections.{Visit, is_enabled, reply_of, past_of, visit_by, step_at, steps_on, entries_on}
 use Rattle.abt_woven.specs.Stuck.{IsTurn, AreTurns}
 
 -- an answer, by whether it was sent

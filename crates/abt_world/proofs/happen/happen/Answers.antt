@@ -2,7 +2,6 @@ use Rattle.std.proofs.Common.{◌≡◌, ℕ, ◌+◌, ◌∙◌, List, refl, sy
 use Rattle.std.specs.Prelude.{Some}
 use Rattle.abt_net.specs.Topology.{Topology}
 use Rattle.abt_net.specs.declared.conn.Conn.{Conn}
-use Rattle.abt_node.specs.Table.{Table}
 use Rattle.abt_facts.specs.declared.fact.Fact.{Fact}
 use Rattle.abt_actor.specs.Facts.{facts_in}
 use Rattle.abt_model.specs.declared.event.Event.{Event}
