@@ -1,8 +1,11 @@
 //! Ledgers.
-ghost use Rattle.std.specs.Prelude.{◌≡◌, ◌+◌, ◌-◌, ◌≤◌, ◌↔◌, IsOk, IfOk, IfErr, OnOk, OnErr};
+ghost use Rattle.std.specs.Prelude.{◌≡◌, ◌+◌, ◌-◌, ◌<◌, ◌≤◌, ◌↔◌, IsOk, IfOk, IfErr, OnOk, OnErr, IsErrOf};
+ghost use Rattle.abt_rate.specs.Limits.{capacity_max};
+ghost use Rattle.abt_ledger.specs.Capacity.{capacity_fault, capacity_answer, capacity_after};
 
+use crate::fault::CapacityFault;
 use crate::hold::Hold;
-use abt_rate::Rate;
+use abt_rate::{CAPACITY_MAX, Rate};
 use std::marker::Model;
 
 /// The capacity of a link, and the sum of what is held of it, in units of 1/512 cell per second.
@@ -39,6 +42,27 @@ impl Ledger {
         ensures { result ≡ self.now.capacity }
     {
         self.capacity
+    }
+
+    /// Gives the link another capacity, in units, of which no less can be than is held. What is held stays.
+    pub fn set_capacity(&mut self, capacity: u64) -> Result<(), CapacityFault>
+        ensures value { result ≡ capacity_answer (capacity_fault self.old.total capacity) }
+        ensures capacity { self.new.capacity ≡ capacity_after self.old.capacity capacity (capacity_fault self.old.total capacity) }
+        ensures below_sum { IsErrOf result CapacityFault.BelowSum ↔ (capacity < self.old.total) }
+        ensures above_limit { IsErrOf result CapacityFault.AboveLimit
+            ↔ ((self.old.total ≤ capacity) × (capacity_max < capacity)) }
+        ensures ok { OnOk result (self.new.capacity ≡ capacity) }
+        ensures total { self.new.total ≡ self.old.total }
+        ensures same { OnErr result (self.new ≡ self.old) }
+    {
+        if capacity < self.total {
+            return Err(CapacityFault::BelowSum);
+        }
+        if capacity > CAPACITY_MAX {
+            return Err(CapacityFault::AboveLimit);
+        }
+        self.capacity = capacity;
+        Ok(())
     }
 
     /// The sum of what is held, in units.

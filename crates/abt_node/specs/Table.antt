@@ -1,5 +1,5 @@
--- What contracts see of a port: a table of its connections (docs/RULES.md, "Node"), what a request, an answer and a
--- cell are answered by it, and the table after each.
+-- What contracts see of a port: a table of its connections (docs/RULES.md, "Node"), what a request, an answer, a cell and
+-- a new capacity are answered by it, and the table after each.
 use Rattle.std.specs.Prelude.{ℕ, ◌-◌, Option, None, Some, Result, Ok, Err, nat_lt, if◌then◌else◌, refl, sum_by, option_and_then}
 use Rattle.std.specs.Option.{option_map}
 use Rattle.std.specs.Coded.{Coded, code_by, coded×, coded_ℕ, coded_option}
@@ -9,6 +9,8 @@ use Rattle.abt_cell.specs.Message.{Terms, Reply}
 use Rattle.abt_rate.specs.Limits.{arrive_max}
 use Rattle.abt_gcra.specs.Policing.{Policing, policing_code, fresh_policing, policed}
 use Rattle.abt_gcra.specs.declared.verdict.Verdict.{Verdict}
+use Rattle.abt_ledger.specs.Capacity.{capacity_fault, capacity_answer, capacity_after}
+use Rattle.abt_ledger.specs.declared.fault.CapacityFault.{CapacityFault}
 use Rattle.abt_node.specs.declared.fault.ArriveFault.{ArriveFault}
 use Rattle.abt_node.specs.declared.fault.ArriveFault.TheVariants as fault
 use Rattle.abt_node.specs.declared.reply.Onward.{Onward}
@@ -146,3 +148,12 @@ table_by_arrival t vc at (Some c) =
 -- the table after the cell
 abbrev pub table_after_arrival : Table → Channel → ℕ → Table
 table_after_arrival t vc at = table_by_arrival t vc at (connection_at t vc)
+
+-- A new capacity
+
+-- what a port answers that is to have it, and the table then
+abbrev pub capacity_set : Table → ℕ → Result (Unit {0}) CapacityFault
+capacity_set t capacity = capacity_answer (capacity_fault (sum_of t) capacity)
+
+abbrev pub table_after_capacity : Table → ℕ → Table
+table_after_capacity t capacity = record t { capacity = capacity_after t.capacity capacity (capacity_fault (sum_of t) capacity) }

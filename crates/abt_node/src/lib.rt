@@ -9,6 +9,7 @@ mod port;
 mod reply;
 mod row;
 
+pub use abt_ledger::CapacityFault;
 pub use fault::{AddFault, ArriveFault};
 pub use grant::{Decided, Grant, Open, Shut, State};
 pub use laws::{

@@ -7,6 +7,7 @@ ghost use Rattle.indexmap.specs.IndexMap as index;
 ghost use Rattle.abt_cell.specs.Channel.{same_channel};
 ghost use Rattle.abt_node.specs.Table.{new_table, opening, connection_at, with_connection, held_at, sum_of};
 ghost use Rattle.abt_node.specs.Table.{reply_to, table_after, answer_to, table_after_answer};
+ghost use Rattle.abt_node.specs.Table.{capacity_set, table_after_capacity};
 ghost use Rattle.abt_node.specs.Table.{arrival_at, table_after_arrival, policing_at};
 ghost use Rattle.abt_node.specs.Rows.{connection_of};
 
@@ -15,7 +16,7 @@ use crate::reply::{Back, DropCause, Onward};
 use crate::row::Row;
 use abt_cell::{Answer, Request, Vc};
 use abt_gcra::Verdict;
-use abt_ledger::Ledger;
+use abt_ledger::{CapacityFault, Ledger};
 use abt_rate::{CONNECTIONS_MAX, Rate};
 use indexmap::IndexMap;
 use std::alloc::{AllocError, Global};
@@ -90,6 +91,20 @@ impl Port {
         ensures { result ≡ self.now.capacity }
     {
         self.ledger.capacity()
+    }
+
+    /// Gives the link another capacity, in units, of which no less can be than is held. What the port keeps of its
+    /// connections stays.
+    pub fn set_capacity(&mut self, capacity: u64) -> Result<(), CapacityFault>
+        ensures value { result ≡ capacity_set self.old capacity }
+        ensures table { self.new ≡ table_after_capacity self.old capacity }
+        ensures below_sum { IsErrOf result CapacityFault.BelowSum ↔ (capacity < sum_of self.old) }
+        ensures above_limit { IsErrOf result CapacityFault.AboveLimit
+            ↔ ((sum_of self.old ≤ capacity) × (capacity_max < capacity)) }
+        ensures ok { OnOk result (self.new.capacity ≡ capacity) }
+        ensures same { OnErr result (self.new ≡ self.old) }
+    {
+        self.ledger.set_capacity(capacity)
     }
 
     /// The sum of what is held for the connections, in units.

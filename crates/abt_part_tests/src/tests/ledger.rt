@@ -1,4 +1,4 @@
-use abt_ledger::Ledger;
+use abt_ledger::{CapacityFault, Ledger};
 use abt_rate::Rate;
 
 /// The capacity of a link of 1,000 cells per second, in units.
@@ -32,4 +32,34 @@ fn two_connections_share_a_link(rt: HostRuntime) {
     ledger.close(first);
     ledger.close(second);
     assert_eq!(rt; ledger.total(), 0);
+}
+
+#[test]
+fn a_link_shrinks_to_what_is_held(rt: HostRuntime) {
+    let mut ledger = Ledger::new(CAPACITY);
+    let hold = ledger.open();
+    let (Ok(hold) | Err(hold)) = ledger.change(hold, Rate::from_code(0x5258));
+    let answers = (
+        ledger.set_capacity(307199),
+        ledger.capacity(),
+        ledger.set_capacity(307200),
+        ledger.capacity(),
+        ledger.set_capacity(1152921504606846977),
+        ledger.capacity(),
+        ledger.set_capacity(1152921504606846976),
+    );
+    let (total, capacity) = (ledger.total(), ledger.capacity());
+    ledger.close(hold);
+    assert_eq!(rt; answers.0, Err(CapacityFault::BelowSum));
+    assert_eq!(rt; answers.1, 512000);
+    assert_eq!(rt; (answers.2, answers.3), (Ok(()), 307200));
+    assert_eq!(rt;
+        (answers.4, answers.5),
+        (Err(CapacityFault::AboveLimit), 307200)
+    );
+    assert_eq!(rt;
+        (answers.6, total, capacity),
+        (Ok(()), 307200, 1152921504606846976)
+    );
+    assert_eq!(rt; ledger.set_capacity(0), Ok(()));
 }

@@ -7,7 +7,9 @@ use super::channel;
 use abt_cell::{Answer, Request, Vc};
 use abt_gcra::Verdict;
 use abt_ledger::Ledger;
-use abt_node::{AddFault, ArriveFault, Back, Decided, DropCause, Grant, Onward, Port};
+use abt_node::{
+    AddFault, ArriveFault, Back, CapacityFault, Decided, DropCause, Grant, Onward, Port,
+};
 use abt_rate::{Rate, TAU_MAX};
 use std::alloc::Global;
 use std::process::Abort;
@@ -109,6 +111,10 @@ fn refused(rt: &impl Abort, port: &mut Port, request: &Request) {
 
 fn answered(rt: &impl Abort, port: &mut Port, request: &Request, granted: bool, expected: Back) {
     assert_eq!(rt; port.answer(&Answer::of(request, granted)), expected);
+}
+
+fn sized(rt: &impl Abort, port: &mut Port, capacity: u64, expected: Result<(), CapacityFault>) {
+    assert_eq!(rt; port.set_capacity(capacity), expected);
 }
 
 fn arrived(
@@ -213,6 +219,35 @@ fn a_no_gives_back_what_is_held_above_the_floor(rt: HostRuntime) -> Result<(), F
     arrived(&rt, &mut port, raised, 0, Ok(Verdict::Conforming));
     arrived(&rt, &mut port, raised, 2499999799, Ok(Verdict::TooEarly));
     arrived(&rt, &mut port, raised, 2499999800, Ok(Verdict::Conforming));
+    Ok(())
+}
+
+// A link is lowered to what is reserved on it and no further. It then refuses a rise, and can be lowered again once the source
+// has given way.
+#[test]
+fn a_link_shrinks_to_what_is_reserved(rt: HostRuntime) -> Result<(), Fail> {
+    let (_, most, all) = rates();
+    let asker = channel(100)?;
+    let mut port = new_port(rt.alloc())?;
+    add(&rt, &mut port, asker, None);
+    let first = request(asker, 1, Rate::ZERO, most)?;
+    requested(&rt, &mut port, &first, Onward::Pass);
+    sized(&rt, &mut port, 307199, Err(CapacityFault::BelowSum));
+    is_made_of(&rt, &port, 7, 512000);
+    sized(&rt, &mut port, 307200, Ok(()));
+    is_made_of(&rt, &port, 7, 307200);
+    stands(&rt, &port, 1, 307200);
+    refused(&rt, &mut port, &request(asker, 2, Rate::ZERO, all)?);
+    dropped(&rt, &mut port, &first, DropCause::Stale);
+    sized(&rt, &mut port, 0, Ok(()));
+    sized(
+        &rt,
+        &mut port,
+        1152921504606846977,
+        Err(CapacityFault::AboveLimit),
+    );
+    is_made_of(&rt, &port, 7, 0);
+    stands(&rt, &port, 1, 0);
     Ok(())
 }
 
