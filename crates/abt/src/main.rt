@@ -2,15 +2,7 @@
 //! scenario, and what is shown of a run of it in threads.
 #![tactic(auto)]
 
-mod carrying;
-mod command;
-mod environment;
-#[cfg(test)]
-mod tests;
-mod words;
-
-use carrying::carry_out;
-use environment::{answer_words, given_plan};
+use abt_commands::{answer_words, carry_out, given_plan};
 use std::process::ExitCode;
 
 fn main(rt: HostRuntime) -> ExitCode {

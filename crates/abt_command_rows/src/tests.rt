@@ -12,7 +12,7 @@ mod told;
 ghost use Rattle.std.specs.Prelude.{IfOk};
 ghost use Rattle.abt_perform.specs.Plans.{IsWithinLimits};
 
-use crate::words::plan_words;
+use abt_commands::plan_words;
 use abt_perform::{Plan, perform};
 use std::alloc::Global;
 use std::io::{self, Error, ErrorKind, Read, Write};

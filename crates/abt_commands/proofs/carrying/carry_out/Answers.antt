@@ -1,7 +1,7 @@
 -- The plan names a file: what has that is carried out, or the file isn't opened.
 use Rattle.std.proofs.Common.{sym, rules}
-use Rattle.abt.proofs.Files.{done_here, refused_here, unopened_here}
-use Rattle.abt.proofs.carrying.carry_out.Goals as goal
+use Rattle.abt_commands.proofs.Files.{done_here, refused_here, unopened_here}
+use Rattle.abt_commands.proofs.carrying.carry_out.Goals as goal
 
 pub returns-in-Ok-clause-ok : goal.returns-in-Ok-clause-ok
 returns-in-Ok-clause-ok g c is_zero =

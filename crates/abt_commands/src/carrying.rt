@@ -5,7 +5,7 @@ ghost use Rattle.std.specs.Option.{option_map};
 ghost use Rattle.abt_perform.specs.Names.{fault_line};
 ghost use Rattle.abt_perform.specs.Plans.{IsWithinLimits, ReadsFor};
 ghost use Rattle.abt_perform.specs.declared.fault.Fault.TheVariants.{Memory};
-ghost use Rattle.abt.specs.Carried.{IsDone, IsRefused, IsDoneHere, IsRefusedHere, ReadsHere, file_of, open_line};
+ghost use Rattle.abt_commands.specs.Carried.{IsDone, IsRefused, IsDoneHere, IsRefusedHere, ReadsHere, file_of, open_line};
 
 use abt_perform::{MEMORY_LINE, OPEN_LINE, Plan, perform, tell_text};
 use abt_perform_threads::perform_threads;
