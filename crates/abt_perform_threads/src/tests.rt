@@ -9,7 +9,7 @@ mod streams;
 
 use crate::perform_threads;
 use abt_perform::Plan;
-use std::alloc::Global;
+use std::alloc::{AllocError, Global};
 use std::io::{self, Error, ErrorKind, Read, Write};
 use std::process::Abort;
 use std::sync::Wait;
@@ -107,6 +107,13 @@ fn run_over<T: Threads + Wait + Sync, R: Read>(
         out,
         errors,
     }
+}
+
+/// The net of one port with its one connection, and what follows.
+fn on_one_port(alloc: Global, more: &str) -> Result<String, AllocError> {
+    let mut text = String::from_str(alloc, ONE_PORT)?;
+    text.push_str(more)?;
+    Ok(text)
 }
 
 /// Runs a scenario's text, and demands the status, what goes out and what is told.

@@ -1,43 +1,43 @@
-use super::{CROSSING, Narrow, ONE_PORT, expect};
+use super::{CROSSING, Narrow, expect, on_one_port};
 use crate::faults::{fault_of_run, fault_of_show};
 use crate::showing::ShowFault;
 use abt_perform::{Fault, tell_fault};
 use abt_ports::GatherFault;
 use abt_threads::RunFault;
 use abt_weave::{Actor, Sequence, WeaveFault};
+use std::alloc::Global;
 use std::process::Abort;
+use std::sync::Wait;
 use std::test::Fail;
+use std::thread::Threads;
+
+// Runs a scenario's text, and demands that nothing goes out, and what is told.
+fn is_told<T: Threads + Wait + Sync + Abort>(
+    rt: &T,
+    alloc: Global,
+    workers: u16,
+    scenario: &[u8],
+    fault: &str,
+) {
+    expect(rt, alloc, workers, scenario, "", fault);
+}
 
 #[test]
 fn a_jitter_above_the_tau_is_told(rt: HostRuntime) -> Result<(), Fail> {
     let alloc = rt.alloc();
-    let scenario = format!(in alloc; "{ONE_PORT}script = [\"emit 0 201\"]\n")?;
-    expect(&rt, alloc, 4, scenario.as_bytes(), "", "fault: Scripts\n");
+    let scenario = on_one_port(alloc, "script = [\"emit 0 201\"]\n")?;
+    is_told(&rt, alloc, 4, scenario.as_bytes(), "fault: Scripts\n");
     Ok(())
 }
 
 #[test]
 fn link_workers_are_counted_before_scripts_are_looked_at(rt: HostRuntime) -> Result<(), Fail> {
     let alloc = rt.alloc();
-    let scenario = format!(in alloc; "{ONE_PORT}script = [\"emit 0 201\"]\n")?;
+    let scenario = on_one_port(alloc, "script = [\"emit 0 201\"]\n")?;
     for workers in [0, 65, u16::MAX] {
-        expect(
-            &rt,
-            alloc,
-            workers,
-            scenario.as_bytes(),
-            "",
-            "fault: Workers\n",
-        );
-        expect(
-            &rt,
-            alloc,
-            workers,
-            CROSSING.as_bytes(),
-            "",
-            "fault: Workers\n",
-        );
-        expect(&rt, alloc, workers, b"", "", "fault: MissingKey ports\n");
+        is_told(&rt, alloc, workers, scenario.as_bytes(), "fault: Workers\n");
+        is_told(&rt, alloc, workers, CROSSING.as_bytes(), "fault: Workers\n");
+        is_told(&rt, alloc, workers, b"", "fault: MissingKey ports\n");
     }
     Ok(())
 }
@@ -51,22 +51,16 @@ fn each_fault_of_a_scenario_is_told_as_of_a_run(rt: HostRuntime) -> Result<(), F
         ("ports = 5", "fault: WrongType ports\n"),
         ("ports = []\nevents = [\"crash\"]", "fault: EventText 1\n"),
     ] {
-        expect(&rt, alloc, 1, text.as_bytes(), "", fault);
+        is_told(&rt, alloc, 1, text.as_bytes(), fault);
     }
-    let net = format!(in alloc;
-        "{ONE_PORT}[[connection]]\nvpi = 1\nvci = 101\npath = [7]\ndelay = 0\ntau = 0\n"
-    )?;
-    expect(&rt, alloc, 1, net.as_bytes(), "", "fault: Net NoPort 1\n");
-    let script = format!(in alloc; "{ONE_PORT}script = [\"start 0\", \"emit 5\"]\n")?;
-    expect(
-        &rt,
+    let net = on_one_port(
         alloc,
-        1,
-        script.as_bytes(),
-        "",
-        "fault: ScriptText 0 2\n",
-    );
-    expect(&rt, alloc, 1, b"ports = []\xff", "", "fault: NotUtf8\n");
+        "[[connection]]\nvpi = 1\nvci = 101\npath = [7]\ndelay = 0\ntau = 0\n",
+    )?;
+    is_told(&rt, alloc, 1, net.as_bytes(), "fault: Net NoPort 1\n");
+    let script = on_one_port(alloc, "script = [\"start 0\", \"emit 5\"]\n")?;
+    is_told(&rt, alloc, 1, script.as_bytes(), "fault: ScriptText 0 2\n");
+    is_told(&rt, alloc, 1, b"ports = []\xff", "fault: NotUtf8\n");
     Ok(())
 }
 
@@ -79,7 +73,6 @@ fn tells(rt: &impl Abort, fault: Fault, line: &str) {
 
 #[test]
 fn faults_of_threads_are_told_by_the_name_alone(rt: HostRuntime) {
-    let alloc = rt.alloc();
     for (fault, line) in [
         (RunFault::Workers, "fault: Workers\n"),
         (RunFault::Scripts, "fault: Scripts\n"),
@@ -90,15 +83,24 @@ fn faults_of_threads_are_told_by_the_name_alone(rt: HostRuntime) {
     ] {
         tells(&rt, fault_of_run(fault), line);
     }
+}
+
+#[test]
+fn faults_of_what_is_shown_are_told_by_the_name_alone(rt: HostRuntime) {
+    let alloc = rt.alloc();
     let mismatch = ShowFault::Weave(WeaveFault::Mismatch {
         actor: Actor::Port(3),
         place: 7,
     });
-    tells(&rt, fault_of_show(&mismatch), "fault: Mismatch\n");
+    tells_of_show(&rt, &mismatch, "fault: Mismatch\n");
     let stuck = ShowFault::Weave(WeaveFault::NoOrder(Sequence::new(alloc)));
-    tells(&rt, fault_of_show(&stuck), "fault: NoOrder\n");
+    tells_of_show(&rt, &stuck, "fault: NoOrder\n");
     let memory = ShowFault::Weave(WeaveFault::Memory);
-    tells(&rt, fault_of_show(&memory), "fault: memory\n");
-    tells(&rt, fault_of_show(&ShowFault::Trace), "fault: memory\n");
-    tells(&rt, fault_of_show(&ShowFault::Write), "fault: write\n");
+    tells_of_show(&rt, &memory, "fault: memory\n");
+    tells_of_show(&rt, &ShowFault::Trace, "fault: memory\n");
+    tells_of_show(&rt, &ShowFault::Write, "fault: write\n");
+}
+
+fn tells_of_show(rt: &impl Abort, fault: &ShowFault, line: &str) {
+    tells(rt, fault_of_show(fault), line);
 }

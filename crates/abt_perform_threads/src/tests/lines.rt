@@ -1,4 +1,4 @@
-use super::{ALL, CROSSING, ONE_PORT, expect};
+use super::{ALL, CROSSING, expect, on_one_port};
 use std::alloc::Global;
 use std::process::Abort;
 use std::sync::Wait;
@@ -43,7 +43,7 @@ fn events_of_a_scenario_say_nothing_here(rt: HostRuntime) {
 #[test]
 fn a_jitter_may_be_the_tau(rt: HostRuntime) -> Result<(), Fail> {
     let alloc = rt.alloc();
-    let scenario = format!(in alloc; "{ONE_PORT}script = [\"emit 0 200\"]\n")?;
+    let scenario = on_one_port(alloc, "script = [\"emit 0 200\"]\n")?;
     expect(&rt, alloc, 4, scenario.as_bytes(), ALL, "");
     Ok(())
 }

@@ -1,7 +1,11 @@
 //! Each allocation fails in turn where these tests are run by `rt try --test --fail-alloc N` (docs/TESTING.md): then that is told, the
 //! lines before it stay, and the same call is done when it is made again.
 use super::{ALL, CROSSING, Ended, run_over};
+use std::alloc::Global;
+use std::process::Abort;
+use std::sync::Wait;
 use std::test::Fail;
+use std::thread::Threads;
 
 /// Whether memory was refused. A thread that isn't started for want of it is told as that.
 fn lacked_memory(end: &Ended) -> bool {
@@ -30,10 +34,20 @@ fn a_text_that_is_no_scenario_is_told_as_that_or_memory_was_refused(
         ("ports = 5", "fault: WrongType ports\n"),
         ("ports = []\nevents = [\"crash\"]", "fault: EventText 1\n"),
     ] {
-        let first = run_over(&rt, rt.alloc(), 1, &mut text.as_bytes(), 64);
-        assert!(rt; first.is(1, "", fault) || first.is(1, "", "fault: memory\n"));
-        let second = run_over(&rt, rt.alloc(), 1, &mut text.as_bytes(), 64);
-        assert!(rt; first.is(1, "", fault) || second.is(1, "", fault));
+        is_told_of_two(&rt, rt.alloc(), text, fault);
     }
     Ok(())
+}
+
+// Demands that of two runs one tells the fault, and the first that or want of memory.
+fn is_told_of_two<T: Threads + Wait + Sync + Abort>(
+    rt: &T,
+    alloc: Global,
+    text: &str,
+    fault: &str,
+) {
+    let first = run_over(rt, alloc, 1, &mut text.as_bytes(), 64);
+    assert!(rt; first.is(1, "", fault) || first.is(1, "", "fault: memory\n"));
+    let second = run_over(rt, alloc, 1, &mut text.as_bytes(), 64);
+    assert!(rt; first.is(1, "", fault) || second.is(1, "", fault));
 }

@@ -1,5 +1,5 @@
 //! That parcels are neither lost nor repeated, which the three lines don't show.
-use super::ONE_PORT;
+use super::on_one_port;
 use crate::Unrun;
 use abt_ports::OpenGate;
 use std::alloc::Global;
@@ -9,7 +9,7 @@ use std::thread::Threads;
 // How many steps the port did for a source that asks, and listens until it is answered.
 fn steps<T: Threads + Wait + Sync>(rt: &T, alloc: Global) -> Option<usize> {
     let script = "script = [\"start 0\", \"ask 5120\", \"listen 20000000\"]\n";
-    let text = format!(in alloc; "{ONE_PORT}{script}").ok()?;
+    let text = on_one_port(alloc, script).ok()?;
     let unrun = Unrun::read_from(alloc, &mut text.as_bytes()).ok()?;
     let ran = unrun.run(rt, alloc, 1, &OpenGate).ok()?;
     let entries = ran.gathered.journals.ports.first()?;

@@ -1,8 +1,12 @@
-use super::{ALL, CROSSING, Narrow, ONE_PORT, run_over};
+use super::{ALL, CROSSING, Narrow, ONE_PORT, on_one_port, run_over};
 use crate::perform_threads;
 use abt_perform::Plan;
+use std::alloc::Global;
 use std::io::{self, Error, ErrorKind, Read};
+use std::process::Abort;
+use std::sync::Wait;
 use std::test::Fail;
+use std::thread::Threads;
 
 /// A reader that gives a text one octet a call, and fails at its end.
 #[derive(Drop)]
@@ -39,28 +43,34 @@ impl Read for Endless {
 #[test]
 fn where_the_output_breaks_off_the_lines_before_stay(rt: HostRuntime) {
     for room in 0..20usize {
-        let mut reader = CROSSING.as_bytes();
-        let end = run_over(&rt, rt.alloc(), 3, &mut reader, room);
-        assert_eq!(rt; end.status, 1);
-        assert_eq!(rt; end.errors.taken(), "fault: write\n".as_bytes());
-        assert_eq!(rt; end.out.taken().len(), room);
-        assert!(rt; ALL.as_bytes().starts_with(end.out.taken()));
+        breaks_off(&rt, rt.alloc(), room);
     }
     let mut reader = CROSSING.as_bytes();
     let end = run_over(&rt, rt.alloc(), 3, &mut reader, 20);
     assert!(rt; end.is(0, ALL, ""));
 }
 
+// Demands that as much of the lines goes out as there is room for.
+fn breaks_off<T: Threads + Wait + Sync + Abort>(rt: &T, alloc: Global, room: usize) {
+    let mut reader = CROSSING.as_bytes();
+    let end = run_over(rt, alloc, 3, &mut reader, room);
+    assert_eq!(rt; end.status, 1);
+    assert_eq!(rt; end.errors.taken(), "fault: write\n".as_bytes());
+    assert_eq!(rt; end.out.taken().len(), room);
+    assert!(rt; ALL.as_bytes().starts_with(end.out.taken()));
+}
+
 #[test]
 fn a_reader_that_fails_at_any_read_is_told(rt: HostRuntime) {
     let scenario = ONE_PORT.as_bytes();
     for given in 0..scenario.len() {
-        let mut reader = Failing {
-            left: &scenario[..given],
-        };
-        let end = run_over(&rt, rt.alloc(), 1, &mut reader, 64);
-        assert!(rt; end.is(1, "", "fault: read\n"));
+        fails_behind(&rt, rt.alloc(), &scenario[..given]);
     }
+}
+
+fn fails_behind<T: Threads + Wait + Sync + Abort>(rt: &T, alloc: Global, left: &[u8]) {
+    let end = run_over(rt, alloc, 1, &mut Failing { left }, 64);
+    assert!(rt; end.is(1, "", "fault: read\n"));
 }
 
 #[test]
@@ -72,20 +82,30 @@ fn a_reader_that_never_ends_is_too_long(rt: HostRuntime) {
 #[test]
 fn a_fault_that_cannot_be_told_changes_no_status(rt: HostRuntime) -> Result<(), Fail> {
     let alloc = rt.alloc();
-    let scenario = format!(in alloc; "{ONE_PORT}script = [\"emit 0 201\"]\n")?;
+    let scenario = on_one_port(alloc, "script = [\"emit 0 201\"]\n")?;
+    for room in 0..16usize {
+        tells_a_part(&rt, alloc, scenario.as_bytes(), room);
+    }
+    Ok(())
+}
+
+// Demands that as much of the fault is told as there is room for.
+fn tells_a_part<T: Threads + Wait + Sync + Abort>(
+    rt: &T,
+    alloc: Global,
+    scenario: &[u8],
+    room: usize,
+) {
     let plan = Plan::Threads {
         file: None,
         workers: 1,
     };
-    for room in 0..16usize {
-        let mut reader = scenario.as_bytes();
-        let mut out = Narrow::new(64);
-        let mut errors = Narrow::new(room);
-        let status = perform_threads(&rt, alloc, &plan, &mut reader, &mut out, &mut errors);
-        assert_eq!(rt; status, 1);
-        assert_eq!(rt; out.taken().len(), 0);
-        let line = "fault: Scripts\n".as_bytes();
-        assert_eq!(rt; errors.taken(), &line[..room.min(line.len())]);
-    }
-    Ok(())
+    let mut reader = scenario;
+    let mut out = Narrow::new(64);
+    let mut errors = Narrow::new(room);
+    let status = perform_threads(rt, alloc, &plan, &mut reader, &mut out, &mut errors);
+    assert_eq!(rt; status, 1);
+    assert_eq!(rt; out.taken().len(), 0);
+    let line = "fault: Scripts\n".as_bytes();
+    assert_eq!(rt; errors.taken(), &line[..room.min(line.len())]);
 }
