@@ -2,8 +2,7 @@
 
 A run with an allocation refused has to end as one without (the C library can do without some of its own), or with status 1,
 `fault: memory` on standard error and nothing on standard output. Of `abt threads` the lines before may stay, and a thread that isn't
-started for want of memory is `fault: Thread`; its allocations come in no fixed order, so of these only some are tried, also with all
-allocations behind the first one refused: the link workers have to be stopped all the same.
+started for want of memory is `fault: Thread`; its allocations come in no fixed order, so of these only some are tried.
 
 usage: refusals.py [PROGRAM]    of this program, else the one that `./abt` builds
 """
@@ -40,7 +39,6 @@ COMMANDS = [
 ]
 THREADS = (["threads", "threads_one_source.toml", "--workers", "1"], b"")
 THREADS_TRIED = 400
-LASTING_TRIED = 160
 MOST_TRIED = 5_000
 AT_ONCE = 2
 BATCH = 32
@@ -62,21 +60,21 @@ def run(program, preload, command, **more):
     return done.stdout.decode(), done.stderr.decode(), done.returncode
 
 
-def refused(program, preload, folder, command, number, more):
+def refused(program, preload, folder, command, number):
     """How a command ends with this allocation refused, if it has so many."""
     mark = Path(folder) / "refused" / str(number)
-    end = run(program, preload, command, FAULTS_ALLOCATION=str(number), FAULTS_AT=str(mark), **more)
+    end = run(program, preload, command, FAULTS_ALLOCATION=str(number), FAULTS_AT=str(mark))
     return end if mark.exists() else None
 
 
-def ends_of(program, preload, folder, command, most, more):
+def ends_of(program, preload, folder, command, most):
     """How a command ends with each of its allocations refused in turn."""
     ends = []
     (Path(folder) / "refused").mkdir()
     with ThreadPoolExecutor(AT_ONCE) as pool:
         while len(ends) < most:
             numbers = range(len(ends) + 1, len(ends) + 1 + BATCH)
-            batch = list(pool.map(lambda number: refused(program, preload, folder, command, number, more), numbers))
+            batch = list(pool.map(lambda number: refused(program, preload, folder, command, number), numbers))
             ends += [end for end in batch if end is not None]
             if None in batch:
                 break
@@ -84,14 +82,14 @@ def ends_of(program, preload, folder, command, most, more):
     return ends
 
 
-def faults(program, preload, folder, command, most, **more):
+def faults(program, preload, folder, command):
     """The refusals of a command that end otherwise, how many there are, and how many are told."""
     without = run(program, preload, command)
     with_threads = command is THREADS
     allowed = {(text, MEMORY, 1) for text in (LINES if with_threads else ("",))}
     if with_threads:
         allowed.add(("", "fault: Thread\n", 1))
-    ends = ends_of(program, preload, folder, command, most, more)
+    ends = ends_of(program, preload, folder, command, THREADS_TRIED if with_threads else MOST_TRIED)
     others = [(number, end) for number, end in enumerate(ends, 1) if end != without and end not in allowed]
     return others, len(ends), sum(end in allowed for end in ends)
 
@@ -103,19 +101,16 @@ def main(program):
         if preload is None:
             print("refusals: not run, as there is no C compiler")
             return
-        sweeps = [(command, MOST_TRIED, {}) for command in COMMANDS]
-        sweeps += [(THREADS, THREADS_TRIED, {}), (THREADS, LASTING_TRIED, {"FAULTS_LASTING": "1"})]
-        for command, most, more in sweeps:
-            others, count, memory = faults(program, preload, folder, command, most, **more)
+        for command in [*COMMANDS, THREADS]:
+            others, count, memory = faults(program, preload, folder, command)
             tried += count
             told += memory
-            what = " and all behind it" if more else ""
             for number, end in others[:5]:
-                print(f"refusals: {command[0]}, allocation {number} of {count}{what}: {end!r}")
+                print(f"refusals: {command[0]}, allocation {number} of {count}: {end!r}")
             wrong += len(others)
             if not memory:
                 wrong += 1
-                print(f"refusals: {command[0]}: no refusal of {count}{what} is told")
+                print(f"refusals: {command[0]}: no refusal of {count} is told")
     print(f"refusals: {tried} allocations refused, {told} told as want of memory, {wrong} otherwise")
     sys.exit(1 if wrong else 0)
 
