@@ -3,7 +3,6 @@ use super::{ALL, CROSSING, Narrow};
 use crate::{Shown, Unrun, judge, show_run};
 use abt_ports::Gate;
 use std::alloc::Global;
-use std::process::Abort;
 use std::sync::Wait;
 use std::sync::atomic::{AtomicU64, Ordering};
 use std::test::Fail;
@@ -42,27 +41,14 @@ fn the_scripts_run_once(rt: HostRuntime) -> Result<(), Fail> {
     };
     let mut out = Narrow::new(64);
     let shown = shown_past(&rt, rt.alloc(), &gate, &mut out).ok_or("no run")?;
-    let entries = entries_of(&shown);
-    assert_eq!(rt; gate.steps.load(Ordering::SeqCst), entries);
-    assert!(rt; entries >= 4);
-    assert_eq!(rt; out.taken(), ALL.as_bytes());
-    is_judged(&rt, shown, entries)
-}
-
-// How many entries the journals of the ports have.
-fn entries_of(shown: &Shown) -> u64 {
     let mut entries = 0u64;
     for journal in &shown.ran.gathered.journals.ports {
         entries = entries.saturating_add(journal.len() as u64);
     }
-    entries
-}
-
-// Demands an outcome for each event that was found, and no fewer events than entries.
-fn is_judged(rt: &impl Abort, shown: Shown, entries: u64) -> Result<(), Fail> {
-    let Ok(judged) = shown.judged else {
-        return Err(Fail::from("not judged"));
-    };
+    assert_eq!(rt; gate.steps.load(Ordering::SeqCst), entries);
+    assert!(rt; entries >= 4);
+    assert_eq!(rt; out.taken(), ALL.as_bytes());
+    let judged = shown.judged.map_err(|_| Fail::from("not judged"))?;
     assert_eq!(rt; judged.events.len(), judged.trace.outcomes.len());
     assert!(rt; judged.events.len() as u64 >= entries);
     Ok(())
