@@ -50,6 +50,10 @@ never_capped : (answer : Result (Unit {0}) CapacityFault) → NotEnabled Unknown
 never_capped (Ok done) e = absurd (cc)
 never_capped (Err fault) e = absurd (cc)
 
+-- what a port that has the table of a past answers
+abbrev pub answer_set : Topology → Past → (p capacity : ℕ) → Result (Unit {0}) CapacityFault
+answer_set net past p u = capacity_answer (capacity_fault (reserved_on net past p) u)
+
 pub capacities_served : (net : Topology) (past : Past) → IsWithinRules net → AllLawful net past → CapacitiesServed net past
 capacities_served net past rules lawful p u answer said =
     let total = totals_reserved net past rules lawful p in
