@@ -1,5 +1,6 @@
 use Rattle.std.proofs.Common.{◌≡◌, ◌<◌, ◌≤◌, ℕ, inl, inr, List, [], ◌∷◌, ◌++◌, map, refl, sym, subst, ap, ◌∙◌, length, arith, ◌^◌}
-use Rattle.std.specs.Prelude.{Option, None, Some, is_some, option_map, slice_get, slice_set}
+use Rattle.std.specs.Prelude.{Option, None, Some, IsSome, is_some, option_map, slice_get, slice_set}
+use Rattle.std.proofs.lemmas.Bool.{false≢true}
 use Rattle.std.proofs.lemmas.Option.{slice_get_past, slice_get-get_or, slice_get-map}
 use Rattle.std.proofs.lemmas.List.{length-map, length-set}
 use Rattle.abt_node.specs.Table.{Table}
@@ -16,7 +17,7 @@ use Rattle.abt_world.specs.Looked.{looks_at, looks_by}
 use Rattle.abt_world.specs.Seen.{seen}
 use Rattle.abt_world.specs.Standing.{WorldView, StandsFor}
 use Rattle.abt_world.specs.Steps.{ArePorts}
-use Rattle.abt_world.proofs.Standings.{step_alone, step_unknown, step_taken, port_count, written_over, map_set, set_same, headline_after}
+use Rattle.abt_world.proofs.Standings.{step_unknown, step_taken, port_count, written_over, map_set, set_same, headline_after}
 use Rattle.abt_world.proofs.Final.{AreOfPast}
 use Rattle.abt_world.proofs.Looking.{path_looked}
 use Rattle.abt_world.proofs.Sendings.{few_hops}
@@ -28,7 +29,12 @@ use Rattle.abt_world.specs.Tallied.{shapes_above, IsTallied}
 use Rattle.abt_world.specs.Touches.{visited, Touches}
 use Rattle.abt_world.proofs.Tallying.{AreMarks, counted_before, tallied_after}
 use Rattle.abt_world.proofs.Touching.{rewrites_length}
-use Rattle.abt_world.proofs.world.World.step.Goals as goal
+use Rattle.abt_world.proofs.world.World.at_connection.Goals as goal
+
+-- it is of a connection
+of_one : (o : Option ℕ) → o ≡ None → IsSome o → ⊥
+of_one None e some = false≢true some
+of_one (Some c) e some = absurd (cc)
 
 pub returns-in_default-clause-outcome : goal.returns-in_default-clause-outcome
 returns-in_default-clause-outcome c net events stands =
@@ -37,7 +43,7 @@ returns-in_default-clause-outcome c net events stands =
     let world : WorldView = record { net = c.self.inside.net.now; ports = c.self.inside.ports.items; courses = map seen c.self.inside.courses.items; looks = c.self.inside.looks } in
     let count = ap length c.conns.ensures.value ∙ ap (λ (n : Topology). length n.conns) before.stands.net_is in
     elim (cases_option (conn_of e)) [
-      | inl alone ↦ step_alone net events world e 0 before c.asks_rate.ensures alone
+      | inl alone ↦ absurd (of_one (conn_of e) alone c.requires)
       | inr own ↦ (let past_end = c.in_default.ensures.none refl own.0 own.1 in step_unknown net events world e own.0 0 before c.asks_rate.ensures own.1 (omega (arith, past_end, count)))
     ]
 
@@ -122,7 +128,7 @@ returns-in_default-clause-counted c net events stands =
     let net_is = ap (λ (w : WorldView). w.net) c.self.view_is ∙ stands.stands.net_is in
     let count = ap length c.conns.ensures.value ∙ ap (λ (n : Topology). length n.conns) net_is in
     elim (cases_option (conn_of e)) [
-      | inl alone ↦ sym (ap (looks_by net past e) alone)
+      | inl alone ↦ absurd (of_one (conn_of e) alone c.requires)
       | inr own ↦ (
           let past_end = c.in_default.ensures.none refl own.0 own.1 in
           let unknown : conn_at net own.0 ≡ None = slice_get_past net.conns own.0 (omega (arith, past_end, count)) in
@@ -161,9 +167,8 @@ invariant_of-self-in-Ok c =
     let written = written_over c.self.inside.ports.len ports held c.self.inside.ports.ok.0 (rewrites_length port held ports touches.0) in
     let some = counted_before net held ports (map seen courses) c.counting.result port conn (seen old) c.self.inside.tally
     c.self.invariant.2 rules.own_channels known was touches in
-    let over_is : over_at c.visited-port.result c.capacities.result.now c.deref.result.now ≡ over_at port net.capacities held =
-    ap (λ (o : Option ℕ). over_at o c.capacities.result.now c.deref.result.now) c.visited-port.ensures
-    ∙ ap (λ (us : List ℕ). over_at port us c.deref.result.now) c.capacities.ensures.value ∙ ap (over_at port net.capacities) c.deref.ensures.value in
+    let over_is : over_at c.visited-port.result c.deref.result.now ≡ over_at port held =
+    ap (λ (o : Option ℕ). over_at o c.deref.result.now) c.visited-port.ensures ∙ ap (over_at port) c.deref.ensures.value in
     let above_is : shapes_above c.deref.result.now (conn, seen old) ≡ shapes_above held (conn, seen old) =
     ap (λ (ps : List Table). shapes_above ps (conn, seen old)) c.deref.ensures.value in
     let before : AreMarks net held conn (seen old) port c.counted_marks-before.result = record {
@@ -173,12 +178,12 @@ invariant_of-self-in-Ok c =
     } in
     let after : AreMarks net ports conn (seen new) port c.marks-after.result = record {
       above = c.marks-after.ensures.above ∙ ap (λ (ps : List Table). shapes_above ps (conn, seen new)) (c.deref-in-Ok.ensures.value ∙ written);
-      over = c.marks-after.ensures.over ∙ ap (λ (o : Option ℕ). over_at o c.capacities-in-Ok.result.now c.deref-in-Ok.result.now) c.visited-port.ensures
-          ∙ ap (λ (us : List ℕ). over_at port us c.deref-in-Ok.result.now) c.capacities-in-Ok.ensures.value ∙ ap (over_at port net.capacities) (c.deref-in-Ok.ensures.value ∙ written);
+      over = c.marks-after.ensures.over ∙ ap (λ (o : Option ℕ). over_at o c.deref-in-Ok.result.now) c.visited-port.ensures
+          ∙ ap (over_at port) (c.deref-in-Ok.ensures.value ∙ written);
       broken = c.marks-after.ensures.broken;
     } in
     let few : length net.conns < 2 ^ 63 = omega (arith, rules.connections) in
-    let few_ports : length net.capacities < 2 ^ 63 = omega (arith, rules.ports) in
+    let few_ports : length held < 2 ^ 63 = omega (arith, rules.ports, c.self.invariant.3) in
     let told = tallied_after net held ports (map seen courses) c.counting.result port conn (seen old) (seen new) c.self.inside.tally c.after-self-inside.result c.counted_marks-before.result c.marks-after.result
     c.self.invariant.2 rules.own_channels (length-map courses seen ∙ many) few few_ports known was touches before after
     c.after-self-inside.ensures.above c.after-self-inside.ensures.over c.after-self-inside.ensures.broken in (
@@ -186,6 +191,7 @@ invariant_of-self-in-Ok c =
       rules,
       subst (λ (ps : List Table). IsTallied net ps (map seen (slice_set courses c.counting.result new)) c.after-self-inside.result) (sym written)
           (subst (λ (cs : List CourseView). IsTallied net ports cs c.after-self-inside.result) (sym (map_set seen courses c.counting.result new)) told),
+      ap length written ∙ rewrites_length port held ports touches.0 ∙ c.self.invariant.3,
     )
 
 pub invariant_of-self-in-Err : goal.invariant_of-self-in-Err
@@ -212,6 +218,7 @@ invariant_of-self-in-Err c =
       c.self.invariant.1,
       subst (λ (ps : List Table). IsTallied net ps (map seen (slice_set courses c.counting.result new)) c.self.inside.tally) (sym written)
           (subst (λ (cs : List CourseView). IsTallied net held cs c.self.inside.tally) (sym left) c.self.invariant.2),
+      ap length written ∙ c.self.invariant.3,
     )
 
 pub returns-in-Ok-clause-counted : goal.returns-in-Ok-clause-counted
