@@ -20,7 +20,7 @@ returns-clause-worked g c =
     worked_or c.args.net.now c.args.scripts.now c.args.operations.now c.args.plan.workers (map (λ h. h.promise) staff.crew.sources.items) (map (λ h. h.promise) staff.crew.links.items)
     (option_map (λ h. h.promise) staff.operator) joined.operator joined.sources.items joined.links.items c.worked_of.result
     (rw sources c.start_sources-crew.ensures.each) (rw (links, same) c.start_links-crew.ensures.each)
-    (promised_of (λ h. h.promise) staff.operator c.caller.caller (length c.args.net.now.conns + c.args.plan.workers) c.args.operations.now (search rules) c.start_operator-staff.ensures.operator)
+    (promised_of (λ h. h.promise) staff.operator _ (length c.args.net.now.conns + c.args.plan.workers) c.args.operations.now (ap (λ conns. length conns + c.args.plan.workers) c.conns.ensures.value) c.start_operator-staff.ensures.operator)
     (λ all. (length-map staff.crew.sources.items (λ h. h.promise) ∙ search rules, length-map staff.crew.links.items (λ h. h.promise) ∙ search rules))
     c.stop_and_join.ensures.sources c.stop_and_join.ensures.links c.stop_and_join.ensures.operator c.worked_of.ensures.fault c.worked_of.ensures.accesses c.worked_of.ensures.sources c.worked_of.ensures.links c.worked_of.ensures.operator
 
