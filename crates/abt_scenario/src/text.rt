@@ -145,7 +145,7 @@ fn operations_in(alloc: Global, values: &[Value]) -> Result<Sequence<Operation>,
     ensures { Gives (λ operations. operations) (operations_from 1 (texts_among (items_view values.now))) result }
 {
     let mut operations = Sequence::with_room(alloc, values.len())?;
-    let mut number = 1;
+    let mut number: u64 = 1;
     for value in values {
         let Some(text) = value.as_str() else {
             continue;
