@@ -5,6 +5,7 @@ import tomllib
 LONGEST = 16_777_216
 PAST_WHOLE = 2**63
 CONN_NUMBERS = 2**16
+PORT_NUMBERS = 2**16
 REQUEST_NUMBERS = 2**32
 PLANS = {(): "works", ("before",): "before", ("after",): "after"}
 
@@ -92,6 +93,8 @@ def event(text):
                 return "answer", conn(), hop(), seq(), verb == "yes"
             case "told-yes" | "told-no", 2:
                 return "told", conn(), seq(), verb == "told-yes"
+            case "capacity", 2:
+                return verb, number(words[0], PORT_NUMBERS), number(words[1])
     except ValueError:
         pass
     return None

@@ -95,6 +95,13 @@ fn each_event_has_its_text(rt: HostRuntime) {
                 granted: false,
             },
         ),
+        (
+            "capacity 65535 307200",
+            Event::Capacity {
+                port: 65535,
+                capacity: 307_200,
+            },
+        ),
     ];
     for (text, said) in rows {
         assert_eq!(rt; event_of(text), Some(said), "{text}");
@@ -116,6 +123,8 @@ fn numbers_are_1_to_19_digits_that_fit(rt: HostRuntime) {
         "request 0 65536 1",
         "request 0 1 4294967296",
         "turn 0 4294967296",
+        "capacity 65536 0",
+        "capacity 0 10000000000000000000",
         "start 0 +5",
         "start +0 5",
         "start 0 -5",
@@ -147,6 +156,8 @@ fn words_stand_between_single_spaces(rt: HostRuntime) {
         "starts 0 9",
         "told 0 9",
         "told-yes 0",
+        "capacity 0",
+        "capacity 0 1 2",
         "listen 5",
         "again",
     ] {

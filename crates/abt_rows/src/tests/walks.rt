@@ -23,6 +23,7 @@ fn agrees(rt: &impl Abort, trace: &Trace, walked: &Walked) {
     }
     assert_eq!(rt; trace.rates.as_slice(), walked.end.rates.as_slice());
     assert_eq!(rt; trace.totals.as_slice(), walked.end.totals.as_slice());
+    assert_eq!(rt; trace.capacities.as_slice(), walked.end.capacities.as_slice());
     assert_eq!(rt; trace.safe, walked.end.safe);
     assert_eq!(rt; trace.held.len(), walked.end.held.len());
     for (path, held) in trace.held.as_slice().iter().zip(&walked.end.held) {
@@ -41,9 +42,13 @@ fn stands(rt: &impl Abort, world: &World<'_>, end: &Standing) {
     for (port, total) in end.totals.iter().enumerate() {
         assert_eq!(rt; world.total(number(port)), Some(*total));
     }
+    for (port, capacity) in end.capacities.iter().enumerate() {
+        assert_eq!(rt; world.capacity(number(port)), Some(*capacity));
+    }
     assert_eq!(rt; world.rate(number(end.rates.len())), None);
     assert_eq!(rt; world.held(number(end.held.len()), 1), None);
     assert_eq!(rt; world.total(number(end.totals.len())), None);
+    assert_eq!(rt; world.capacity(number(end.capacities.len())), None);
     assert_eq!(rt; world.safe(), end.safe);
 }
 
