@@ -346,7 +346,7 @@ class World:
 def run(octets):
     """The exit status, the output and the standard error of `abt run` over these octets."""
     try:
-        ports, conns, events = read(octets)
+        ports, conns, events, _ = read(octets)
     except Fault as fault:
         return 1, "", f"fault: {fault}\n"
     return 0, World(ports, conns).report(events), ""

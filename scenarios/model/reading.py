@@ -1,4 +1,4 @@
-"""Scenarios from text, after docs/FORMATS.md, "Scenario" and "Scripts"."""
+"""Scenarios from text, after docs/FORMATS.md, "Scenario", "Scripts" and "Operator"."""
 import re
 import tomllib
 
@@ -123,6 +123,17 @@ def is_command(text):
     return True
 
 
+def operation(text):
+    """The port and the capacity of an operator's text, or None."""
+    verb, *words = text.split(" ")
+    try:
+        if verb == "capacity" and len(words) == 2:
+            return number(words[0], PORT_NUMBERS), number(words[1])
+    except ValueError:
+        pass
+    return None
+
+
 def net_fault(ports, conns):
     """The first fault of ports and connections, the name before the connection, or None."""
     by_name = {
@@ -166,7 +177,7 @@ def document(octets):
 
 
 def read(octets):
-    """The ports, the connections and the events of a scenario; its first fault is raised."""
+    """The ports, the connections, the events and the operations of a scenario; its first fault is raised."""
     table = document(octets)
     ports = wholes(needed(table, "ports"), "ports", PAST_WHOLE)
     tables = table.get("connection", [])
@@ -174,6 +185,7 @@ def read(octets):
         raise Fault("WrongType connection")
     conns = [connection(one) for one in tables]
     event_texts = texts(table, "events")
+    operation_texts = texts(table, "operator")
     fault = net_fault(ports, conns)
     if fault:
         raise Fault(f"Net {fault}")
@@ -184,4 +196,7 @@ def read(octets):
         for count, text in enumerate(conn["script"], 1):
             if not is_command(text):
                 raise Fault(f"ScriptText {at} {count}")
-    return ports, conns, events
+    operations = [operation(text) for text in operation_texts]
+    if None in operations:
+        raise Fault(f"OperatorText {operations.index(None) + 1}")
+    return ports, conns, events, operations

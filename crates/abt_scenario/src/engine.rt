@@ -108,6 +108,7 @@ fn report_of_run(alloc: Global, scenario: Scenario) -> Result<String, AllocError
         net,
         events,
         scripts: _,
+        operator: _,
     } = scenario;
     let trace = run(alloc, &net, events.as_slice())?;
     // The trace says it all: a long list of events isn't kept beside the report.

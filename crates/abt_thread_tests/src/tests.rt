@@ -6,5 +6,6 @@ mod gates;
 mod heard;
 mod links;
 mod locks;
+mod operators;
 mod relays;
 mod rows;
