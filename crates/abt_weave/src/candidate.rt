@@ -35,14 +35,15 @@ pub(crate) fn stop_of(net: &Net, vc: Vc, port: u16) -> Option<Stop>
     })
 }
 
-// The channel that an input is about.
-pub(crate) fn channel_of(input: &PortInput) -> Vc
+// The channel that an input is about, if it is about one.
+pub(crate) fn channel_of(input: &PortInput) -> Option<Vc>
     ensures { result ≡ candidates.channel_of input.now }
 {
     match input {
-        PortInput::Request(request) => request.vc(),
-        PortInput::Answer(answer) => answer.vc(),
-        PortInput::Arrive { vc, .. } => *vc,
+        PortInput::Request(request) => Some(request.vc()),
+        PortInput::Answer(answer) => Some(answer.vc()),
+        PortInput::Arrive { vc, .. } => Some(*vc),
+        PortInput::Capacity(_) => None,
     }
 }
 
@@ -72,7 +73,7 @@ fn has_rates(rates: Rates, floor: Rate, ask: Rate) -> bool
     floor == rates.floor && ask == rates.ask
 }
 
-// The event that brings this to a port, where its step takes this place in the port's journal.
+// The event of a connection that brings this to a port, where its step takes this place in the port's journal.
 pub(crate) fn event_of(
     stop: Stop,
     place: u64,
@@ -118,6 +119,7 @@ pub(crate) fn event_of(
                 at: *at,
             })
         }
+        PortInput::Capacity(_) => None,
     }
 }
 
