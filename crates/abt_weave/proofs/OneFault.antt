@@ -14,7 +14,7 @@ use Rattle.abt_source_journal.specs.declared.entry.SourceEntry.TheVariants.{Did}
 use Rattle.abt_woven.specs.declared.actor.Actor.{Actor}
 use Rattle.abt_woven.specs.declared.actor.Actor.TheVariants.{Source, Port}
 use Rattle.abt_woven.specs.declared.actor.Stuck.{Stuck}
-use Rattle.abt_woven.specs.Projections.{Step, is_enabled, place_at_first, past_of, steps_on, entries_on}
+use Rattle.abt_woven.specs.Projections.{Step, Visit, is_enabled, place_at_first, past_of, visit, steps_on, entries_on}
 use Rattle.abt_woven.specs.Stuck.{Journaled, port_journal, source_journal, AreTurns, IsBeginning, ArePlaced, StandsStill, PortMismatches, SourceMismatches}
 use Rattle.abt_woven.proofs.Turns.{steps_turns, entries_turns}
 use Rattle.abt_weave.specs.Actors.{IsAmong, placed_on}

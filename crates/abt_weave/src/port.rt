@@ -245,8 +245,8 @@ fn look_at_capacity<'run>(
         (λ earlier mismatches. IsPortSettled given.now.net.now journals earlier port mismatches) board.old board.new) }
 {
     let p = usize::from(port);
-    let place = board.port_places[p];
-    if entry.place != place as u64 {
+    let placed = board.port_places[p];
+    if entry.place != placed as u64 {
         return Ok(Look::Waits);
     }
     let event = Event::Capacity { port, capacity };
@@ -254,7 +254,7 @@ fn look_at_capacity<'run>(
     match try_visit(&mut board.world, &event, &entry.reply)? {
         Tried::Agrees => {
             board.events.push(event)?;
-            board.port_places[p] = place + 1;
+            board.port_places[p] = placed + 1;
             Ok(Look::Placed)
         }
         Tried::Differs => {
