@@ -12,7 +12,7 @@ use Rattle.abt_model.specs.declared.outcome.Cause.TheVariants.{Unknown}
 use Rattle.abt_model.specs.declared.outcome.Outcome.{Outcome}
 use Rattle.abt_model.specs.declared.outcome.Outcome.TheVariants.{NotEnabled}
 use Rattle.abt_model.specs.Answers.{capped}
-use Rattle.abt_model.specs.Past.{Past}
+use Rattle.abt_model.specs.Past.{Past, facts_of}
 use Rattle.abt_model.specs.Outcomes.{outcome_of}
 use Rattle.abt_model.specs.Run.{facts_after}
 use Rattle.abt_journal.specs.declared.input.PortInput.{PortInput}
@@ -78,7 +78,7 @@ capacity_turns net earlier turns all p u = elim (outcome_turns net earlier turns
 capacity_only : (net : Topology) (earlier turns : List Event) → AreTurns net earlier turns → (p u : ℕ) (event : Event) (v : Visit) → visit net (past_of net (turns ++ earlier)) event ≡ Some v → v.port ≡ p → v.input ≡ CapacityIn u →
     reply_of (outcome_of net (past_of net earlier) (Capacity p u)) ≡ Some v.reply
 capacity_only net earlier turns all p u event v is here input = elim (visit_cases net (past_of net (turns ++ earlier)) event v is) [
-  | inl parts ↦ absurd (facts_none parts.conn.vc _ event v.input parts.input u input)
+  | inl parts ↦ absurd (facts_none parts.conn.vc (facts_of parts.c (past_of net (turns ++ earlier))) event v.input parts.input u input)
   | inr alone ↦ (
       let brought : CapacityIn alone.capacity ≡ CapacityIn u = sym alone.input ∙ input in
       let capacities : alone.capacity ≡ u = cc in

@@ -18,7 +18,7 @@ use Rattle.abt_facts.specs.declared.fact.Fact.TheVariants.{Started as FactStarte
 use Rattle.abt_facts.specs.Source.{writes, written_for}
 use Rattle.abt_facts.specs.Cells.{emitted_of}
 use Rattle.abt_model.specs.declared.event.Event.{Event}
-use Rattle.abt_model.specs.declared.event.Event.TheVariants.{Start, Ask, Crash, Emit, Arrive, Request, Turn, Answer, Told}
+use Rattle.abt_model.specs.declared.event.Event.TheVariants.{Start, Ask, Crash, Emit, Arrive, Request, Turn, Answer, Told, Capacity}
 use Rattle.abt_model.specs.declared.outcome.Heard.TheVariants.{Raised}
 use Rattle.abt_model.specs.declared.outcome.Outcome.{Outcome}
 use Rattle.abt_model.specs.declared.outcome.Outcome.TheVariants.{Started, Asked, AskRefused, Crashed, Emitted, Arrived, Requested, Turned, Answered, Told as HasTold, NotEnabled}
@@ -144,6 +144,7 @@ line_none facts place (Answer c hop seq granted) other none = refl
 line_none facts place (Told c seq granted) (NotEnabled cause) none = refl
 line_none facts place (Told c seq granted) (HasTold heard) none = absurd (cc)
 line_none facts place (Told c seq granted) other none = refl
+line_none facts place (Capacity p u) outcome none = refl
 line_none facts place other outcome none = absurd (cc)
 
 -- what a source did adds the same to the line

@@ -10,7 +10,7 @@ use Rattle.abt_net.specs.declared.conn.Conn.{Conn}
 use Rattle.abt_net.specs.Topology.{Topology, IsWithinRules, conn_at}
 use Rattle.abt_facts.specs.declared.fact.Fact.{Fact}
 use Rattle.abt_model.specs.declared.event.Event.{Event}
-use Rattle.abt_model.specs.declared.event.Event.TheVariants.{Arrive, Request, Turn, Answer, Told}
+use Rattle.abt_model.specs.declared.event.Event.TheVariants.{Arrive, Request, Turn, Answer, Told, Capacity}
 use Rattle.abt_model.specs.Outcomes.{conn_of, outcome_of}
 use Rattle.abt_cell.specs.Message.{answer_to}
 use Rattle.abt_source.specs.SourceFacts.{request_of}
@@ -98,6 +98,7 @@ named_now net rules earlier c conn (Told d seq granted) x n known whose made nam
     let is : x ≡ Did event o = sym (some_same both.1) in absurd (subst (λ y. Names y n) is names)
 named_now net rules earlier c conn (Turn d seq) x n known whose made names = absurd (cc)
 named_now net rules earlier c conn (Answer d hop seq granted) x n known whose made names = absurd (cc)
+named_now net rules earlier c conn (Capacity p u) x n known whose made names = absurd (cc)
 named_now net rules earlier c conn other x n known whose made names = absurd (subst (λ y. Names y n) (sym (some_same made)) names)
 
 -- the entries of a source after an event

@@ -10,6 +10,9 @@ use Rattle.abt_weave.proofs.PortEvents.{some_same}
 use Rattle.abt_weave.proofs.Comings.{stop_low, beside_read, coming_found, comes_stop, comes_channel, coming_only, port_at}
 use Rattle.abt_weave.proofs.port.candidate.Goals as goal
 
+pub returns-in_err-vc-clause-rules : goal.returns-in_err-vc-clause-rules
+returns-in_err-vc-clause-rules c = c.type_inv.given.net
+
 pub returns-in_err-vc-clause-only : goal.returns-in_err-vc-clause-only
 returns-in_err-vc-clause-only c = λ event comes.
     absurd (comes_channel c.args.given.now.net.now (journaled c.args.given.now.ports.now c.args.given.now.sources.now) (reverse c.args.board.now.events.items) c.args.port c.args.entry.now.place c.args.entry.now.input event (sym c.in_err-vc.ensures) comes)
