@@ -1,5 +1,5 @@
 -- All ends of weaving are one.
-use Rattle.std.proofs.Common.{◌≡◌, ℕ, zero, suc, ◌<◌, refl, ap, false, List, [], ◌∷◌, ◌++◌, length, reverse, ◌∙◌, sym, subst, arith, Some}
+use Rattle.std.proofs.Common.{◌≡◌, ℕ, zero, suc, ◌<◌, inl, inr, refl, ap, false, List, [], ◌∷◌, ◌++◌, length, reverse, ◌∙◌, sym, subst, arith, Some}
 use Rattle.std.specs.Prelude.{◌&&◌, not, slice_get, All}
 use Rattle.std.proofs.lemmas.List.{length-append}
 use Rattle.std.proofs.lemmas.List.Elements.{All-cons}

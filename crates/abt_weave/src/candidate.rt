@@ -21,22 +21,8 @@ pub(crate) struct Stop {
     pub hop: u16,
 }
 
-// Where a port stands on the path of the connection that has this channel.
-pub(crate) fn stop_of(net: &Net, vc: Vc, port: u16) -> Option<Stop>
-    ensures some { IfSome result (λ stop. IsStop net.now vc port stop.conn stop.hop) }
-    ensures rules { IsWithinRules net.now }
-    ensures only { (c hop : ℕ) → IsStop net.now vc port c hop → result ≡ Some (record { conn = c; hop = hop }) }
-{
-    let conn = net.find(vc)?;
-    let hop = net.conns()[usize::from(conn)].path.hop_of(port)?;
-    Some(Stop {
-        conn,
-        hop: hop as u16,
-    })
-}
-
 // The channel that an input is about, if it is about one.
-pub(crate) fn channel_of(input: &PortInput) -> Option<Vc>
+fn channel_of(input: &PortInput) -> Option<Vc>
     ensures { result ≡ candidates.channel_of input.now }
 {
     match input {
@@ -45,6 +31,22 @@ pub(crate) fn channel_of(input: &PortInput) -> Option<Vc>
         PortInput::Arrive { vc, .. } => Some(*vc),
         PortInput::Capacity(_) => None,
     }
+}
+
+// Where a port stands on the path of the connection that an input is about, if it is about one.
+pub(crate) fn stop_of(net: &Net, input: &PortInput, port: u16) -> Option<Stop>
+    ensures some { IfSome result (λ stop. IsStop net.now input.now port stop.conn stop.hop) }
+    ensures rules { IsWithinRules net.now }
+    ensures only { (c hop : ℕ) → IsStop net.now input.now port c hop → result ≡ Some (record { conn = c; hop = hop }) }
+{
+    let conns = net.conns();
+    let vc = channel_of(input)?;
+    let conn = net.find(vc)?;
+    let hop = conns[usize::from(conn)].path.hop_of(port)?;
+    Some(Stop {
+        conn,
+        hop: hop as u16,
+    })
 }
 
 fn is_sent_at(next: Option<SourceEntry>, place: u64) -> bool

@@ -13,7 +13,7 @@ ghost use Rattle.abt_model.specs.Run.{facts_after};
 ghost use Rattle.abt_weave.specs.Board.{journaled, IsBoard, IsAfterLook, IsPortSettled};
 
 use crate::board::{Board, world_after};
-use crate::candidate::{channel_of, event_of, own_turn, stop_of};
+use crate::candidate::{event_of, own_turn, stop_of};
 use crate::given::Given;
 use crate::look::Look;
 use crate::trying::{Tried, try_turn, try_visit};
@@ -49,8 +49,7 @@ fn candidate(given: &Given, board: &Board, port: u16, place: usize, entry: &Entr
         (comes : Comes given.now.net.now (journaled given.now.ports.now given.now.sources.now) (reverse board.now.events.items) port entry.now.place entry.now.input event) →
         result ≡ Some (record { conn = comes.c; event = event }) }
 {
-    let vc = channel_of(&entry.input)?;
-    let stop = stop_of(given.net, vc, port)?;
+    let stop = stop_of(given.net, &entry.input, port)?;
     if entry.place != place as u64 {
         return None;
     }

@@ -54,7 +54,7 @@ returns-in_default-expect_event c =
     c.from-p.ensures c.requires.port c.index-given-p.is c.as_slice-entries.ensures.value c.index-place.ensures in
     let low : c.index-place.result.now < length c.as_slice-entries.result.now = omega arith in
     let next = read.0 ∙ step_at_place c.as_slice-entries.result.now c.index-place.result.now c.index-entries-place.result low c.index-entries-place.is in
-    (c.requires.board, refl, refl, none_settled net js c.in_default-expect_event.ensures.rules (reverse events) c.args.port c.index-entries-place.result next c.not-Capacity (c.in_default-expect_event.ensures.none refl))
+    (c.requires.board, refl, refl, none_settled net js c.in_default-expect_event.ensures.rules (reverse events) c.args.port c.index-entries-place.result next c.in_default.not-Capacity (c.in_default-expect_event.ensures.none refl))
 
 pub returns-in_ok-push-in-Agrees : goal.returns-in_ok-push-in-Agrees
 returns-in_ok-push-in-Agrees c =
