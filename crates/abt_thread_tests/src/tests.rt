@@ -1,5 +1,6 @@
 //! Runs of nets in threads. What the clauses don't say: that workers run side by side, that messages go on and answers are heard.
 mod answers;
+mod crossing;
 mod crowds;
 mod fixture;
 mod gates;
@@ -8,4 +9,5 @@ mod links;
 mod locks;
 mod operators;
 mod relays;
+mod reserved;
 mod rows;

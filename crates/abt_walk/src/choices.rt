@@ -115,11 +115,11 @@ pub(crate) fn capacity(
     let first = capacities.get(usize::from(port)).copied().unwrap_or(0);
     let capacity = match draws.below(16) {
         0..=2 => total,
-        3 | 4 => total.saturating_sub(1),
-        5 | 6 => total.saturating_add(1),
-        7 => 1_152_921_504_606_846_976,
-        8 => 1_152_921_504_606_846_977,
-        9 => draws.below(1_000_000),
+        3..=5 => total.saturating_sub(1),
+        6 | 7 => total.saturating_add(1),
+        8 | 9 => 1_152_921_504_606_846_976,
+        10 => 1_152_921_504_606_846_977,
+        11 => draws.below(1_000_000),
         _ => first,
     };
     Ok(Event::Capacity { port, capacity })

@@ -136,6 +136,8 @@ impl<'net> Walk<'net> {
         port: u16,
         capacity: u64,
     ) -> Result<Outcome, AllocError> {
+        // Names a type within a net's facts, without which the checker can't follow one here.
+        let _ = Fact::Crashed;
         if usize::from(port) >= self.net.capacities().len() {
             return Ok(Outcome::NotEnabled(Cause::Unknown));
         }

@@ -1,6 +1,7 @@
 //! Lists of events, answered by a slow walk of the definitions and by the code. The walk shares nothing with the code but
 //! the types of what it is given and answers.
 mod answers;
+mod capped;
 mod crowd;
 mod failing;
 mod kept;

@@ -1,5 +1,7 @@
 //! Runs beside an operator. When its steps come among those of the others depends on the order of the threads; what they are doesn't.
-use super::fixture::{START, ask, faithful, listen, net, one_port, port, ran_beside};
+use super::crossing::{crossed, crossing};
+use super::fixture::{START, faithful, one_port, port, ran_beside};
+use super::reserved::stays_within;
 use abt_journal::{Entry, PortInput, PortReply};
 use abt_ports::OpenGate;
 use abt_script::{Command, Operation};
@@ -103,42 +105,43 @@ fn given_are(entries: &[Entry], caller: u16, capacities: &[u64]) -> bool {
     given.next().is_none()
 }
 
-// Two sources whose paths cross, beside an operator, with so many link workers.
+// The crossing sources beside an operator who gives port 0 more and then less, and wants to take all of port 1 away. Each run is gathered,
+// the operator is the caller behind three sources and the link workers, and no port ever holds more than its capacity in force.
 fn crowd<R: Threads + Wait + Sync + Abort>(
     rt: &R,
     alloc: Global,
     workers: u16,
     runs: u32,
 ) -> Result<(), Fail> {
-    let conns: [(&[u16], u64, u64); 2] = [(&[0, 1], 1000, 200), (&[1, 0], 1000, 200)];
-    let net = net(alloc, 2, &conns).ok_or("no net")?;
-    let script: &[Command] = &[START, ask(0x5120), listen(1000), ask(0x5258), listen(1000)];
+    let net = crossing(alloc)?;
     let operations = [(0, 1024000), (1, 0), (0, 512000)];
+    let caller = workers.saturating_add(3);
     for _run in 0..runs {
-        let plan = faithful(workers);
-        let run = ran_beside(rt, alloc, &net, &[script, script], &operations, plan, &OpenGate)?;
-        assert!(rt; given_are(port(&run, 0), workers + 2, &[1024000, 512000]));
-        assert!(rt; given_are(port(&run, 1), workers + 2, &[0]));
+        let run = crossed(rt, alloc, &net, &operations, workers)?;
+        assert!(rt; given_are(port(&run, 0), caller, &[1024000, 512000]));
+        assert!(rt; given_are(port(&run, 1), caller, &[0]));
+        stays_within(rt, alloc, 512000, port(&run, 0))?;
+        stays_within(rt, alloc, 512000, port(&run, 1))?;
     }
     Ok(())
 }
 
 #[test]
 fn an_operator_beside_one_link_worker(rt: HostRuntime) -> Result<(), Fail> {
-    crowd(&rt, rt.alloc(), 1, 20)
+    crowd(&rt, rt.alloc(), 1, 300)
 }
 
 #[test]
 fn an_operator_beside_two_link_workers(rt: HostRuntime) -> Result<(), Fail> {
-    crowd(&rt, rt.alloc(), 2, 20)
+    crowd(&rt, rt.alloc(), 2, 300)
 }
 
 #[test]
 fn an_operator_beside_sixteen_link_workers(rt: HostRuntime) -> Result<(), Fail> {
-    crowd(&rt, rt.alloc(), 16, 20)
+    crowd(&rt, rt.alloc(), 16, 250)
 }
 
 #[test]
 fn an_operator_beside_64_link_workers(rt: HostRuntime) -> Result<(), Fail> {
-    crowd(&rt, rt.alloc(), 64, 10)
+    crowd(&rt, rt.alloc(), 64, 150)
 }
