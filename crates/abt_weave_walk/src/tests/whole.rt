@@ -50,7 +50,7 @@ fn are_all_woven(rt: &impl Abort, alloc: Global, net: &Net, first: u64) -> Resul
     let events = LISTS.saturating_mul(EVENTS);
     assert!(rt; enabled.saturating_mul(2) > events, "{enabled}");
     assert!(rt; entries > 0);
-    assert!(rt; capacities > LISTS, "{capacities}");
+    assert!(rt; capacities.saturating_mul(2) > LISTS, "{capacities}");
     Ok(())
 }
 
