@@ -43,7 +43,10 @@ fn lacks<R: Threads + Wait + Sync>(
 #[test]
 fn an_operator_names_ports_of_the_net(rt: HostRuntime) -> Result<(), Fail> {
     for (port, lack) in [(0, Lack::Nothing), (1, Lack::Operator)] {
-        assert_eq!(rt; lacks(&rt, rt.alloc(), &[&[START]], &[(0, 5), (port, 5)])?, lack);
+        assert_eq!(rt;
+            lacks(&rt, rt.alloc(), &[&[START]], &[(0, 5), (port, 5)])?,
+            lack
+        );
     }
     Ok(())
 }
