@@ -1,4 +1,5 @@
-//! What the texts of docs/FORMATS.md, "Scenario" and "Scripts", say. Expected events and commands are written out by hand.
+//! What the texts of docs/FORMATS.md, "Scenario", "Scripts" and "Operator", say. Expected events, commands and operations are written
+//! out by hand.
 use super::*;
 use abt_keep::StorePlan;
 use abt_model::Event;
@@ -267,5 +268,37 @@ fn each_command_has_its_text(rt: HostRuntime) {
         "arrive 0 5",
     ] {
         assert_eq!(rt; command_of(text), None, "{text}");
+    }
+}
+
+#[test]
+fn an_operation_has_its_text(rt: HostRuntime) {
+    for (text, said) in [
+        ("capacity 0 307200", (0, 307_200)),
+        (
+            "capacity 00065535 9999999999999999999",
+            (65535, 9_999_999_999_999_999_999),
+        ),
+    ] {
+        assert_eq!(rt; operation_of(text), Some(said), "{text}");
+    }
+    for text in [
+        "",
+        "capacity",
+        "capacity 0",
+        "capacity 0 5 6",
+        "capacity 0 5 ",
+        " capacity 0 5",
+        "capacity 0  5",
+        "Capacity 0 5",
+        "capacities 0 5",
+        "start 0 5",
+        "capacity 65536 5",
+        "capacity +0 5",
+        "capacity 0 -5",
+        "capacity 0 10000000000000000000",
+        "capacity 0 00000000000000000005",
+    ] {
+        assert_eq!(rt; operation_of(text), None, "{text}");
     }
 }

@@ -219,7 +219,7 @@ worked_or net scripts operations workers ps qs o operator ss ls (Ok worked) a b 
       let P : Option (Result Seated ServeFault) → Type 0 = λ given. KeepItsOperator o given in
       worked_is net scripts operations workers ps qs o worked.operator ss ls worked a b promised all kept linked (subst P own ran)
       (ap (λ given. fault_told given ss ls) (sym own) ∙ none) seats journals links refl
-    )
+      )
   | inr some ↦ absurd (let clash = told some.0 some.1 in cc)
 ]
 

@@ -81,11 +81,7 @@ fn states_of(cells: Vec<PortCell>, mut states: Vec<PortState>) -> Vec<PortState>
 }
 
 // The seats of all workers.
-fn together(
-    mut seats: Vec<Seat>,
-    links: Vec<Seat>,
-    operator: Seat,
-) -> Result<Vec<Seat>, AllocError>
+fn together(mut seats: Vec<Seat>, links: Vec<Seat>, operator: Seat) -> Result<Vec<Seat>, AllocError>
     ensures { IfOk result (λ all. all.items ≡ (seats.items ++ links.items) ++ operator ∷ []) }
 {
     for seat in links {

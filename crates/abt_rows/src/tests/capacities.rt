@@ -78,6 +78,8 @@ fn a_link_that_grows_passes_more(rt: HostRuntime) -> Result<(), Fail> {
 // An event of a port looks up that port alone, one of a port that isn't there nothing.
 #[test]
 fn a_capacity_looks_one_entry_up(rt: HostRuntime) -> Result<(), Fail> {
+    // Names a type within an outcome, without which the checker can't follow one round the loop.
+    let _ = Onward::Pass;
     let net = lone(rt.alloc())?;
     let mut world = world(rt.alloc(), &net)?;
     for (event, looks) in [(cap(0, 1), 1), (cap(1, 1), 0)] {

@@ -24,7 +24,10 @@ fn agrees(rt: &impl Abort, trace: &Trace, walked: &Walked) {
     }
     assert_eq!(rt; trace.rates.as_slice(), walked.end.rates.as_slice());
     assert_eq!(rt; trace.totals.as_slice(), walked.end.totals.as_slice());
-    assert_eq!(rt; trace.capacities.as_slice(), walked.end.capacities.as_slice());
+    assert_eq!(rt;
+        trace.capacities.as_slice(),
+        walked.end.capacities.as_slice()
+    );
     assert_eq!(rt; trace.safe, walked.end.safe);
     assert_eq!(rt; trace.held.len(), walked.end.held.len());
     for (path, held) in trace.held.as_slice().iter().zip(&walked.end.held) {

@@ -77,7 +77,8 @@ fn has_two_scripts(rt: &impl Abort, found: &[Sequence<Command>]) -> Result<(), F
 
 #[test]
 fn a_scenario_has_its_operator(rt: HostRuntime) -> Result<(), Fail> {
-    let text = "operator = [\"capacity 00 512000\", \"capacity 65535 9999999999999999999\"]\nports = []";
+    let text =
+        "operator = [\"capacity 00 512000\", \"capacity 65535 9999999999999999999\"]\nports = []";
     let read = scenario(rt.alloc(), text)?;
     let operations = [(0, 512_000), (65535, 9_999_999_999_999_999_999)];
     assert_eq!(rt; read.operator.as_slice(), operations.as_slice());

@@ -3,6 +3,7 @@ use super::crossing::{crossed, crossing};
 use super::fixture::{START, faithful, one_port, port, ran_beside};
 use super::reserved::stays_within;
 use abt_journal::{Entry, PortInput, PortReply};
+use abt_node::CapacityFault;
 use abt_ports::OpenGate;
 use abt_script::{Command, Operation};
 use abt_threads::{Gathered, RunFault};
@@ -42,7 +43,10 @@ fn lacks<R: Threads + Wait + Sync>(
 #[test]
 fn an_operator_names_ports_of_the_net(rt: HostRuntime) -> Result<(), Fail> {
     for (port, lack) in [(0, Lack::Nothing), (1, Lack::Operator)] {
-        assert_eq!(rt; lacks(&rt, rt.alloc(), &[&[START]], &[(0, 5), (port, 5)])?, lack);
+        assert_eq!(rt;
+            lacks(&rt, rt.alloc(), &[&[START]], &[(0, 5), (port, 5)])?,
+            lack
+        );
     }
     Ok(())
 }
@@ -65,19 +69,21 @@ fn reply_at(entries: &[Entry], caller: u16, place: usize) -> Option<PortReply> {
     }
 }
 
-// Demands the replies to the two operations of the caller 2, and no third.
+// Demands the replies to the three operations of the caller 2, and no fourth.
 fn sets_and_refuses(rt: &impl Abort, run: &Gathered) {
     let entries = port(run, 0);
+    let refused = PortReply::Capped(Err(CapacityFault::AboveLimit));
     assert!(rt; reply_at(entries, 2, 0) == Some(PortReply::Capped(Ok(()))));
-    assert!(rt; matches!(reply_at(entries, 2, 1), Some(PortReply::Capped(Err(_)))));
-    assert_eq!(rt; reply_at(entries, 2, 2), None);
+    assert!(rt; reply_at(entries, 2, 1) == Some(refused));
+    assert!(rt; reply_at(entries, 2, 2) == Some(PortReply::Capped(Ok(()))));
+    assert!(rt; reply_at(entries, 2, 3).is_none());
 }
 
-// The greatest capacity is 2^60 units.
+// The greatest capacity is 2^60 units. The operator goes on after a refusal.
 #[test]
 fn a_port_sets_a_capacity_or_refuses_it(rt: HostRuntime) -> Result<(), Fail> {
     let net = one_port(rt.alloc())?;
-    let operations = [(0, 1024000), (0, 1152921504606846977)];
+    let operations = [(0, 1024000), (0, 1152921504606846977), (0, 5)];
     let run = ran_beside(
         &rt,
         rt.alloc(),
