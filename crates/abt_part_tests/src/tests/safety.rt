@@ -84,10 +84,16 @@ fn a_sum_up_to_its_capacity_fits(rt: HostRuntime) -> Result<(), Fail> {
         is_well(&rt, port, &ports, &mut looks);
     }
     assert_eq!(rt; looks.count(), 3);
-    assert!(rt; ports[0].set_capacity(307200).is_ok());
-    assert!(rt; !is_above(&ports[0]));
-    assert!(rt; !Marks::of_port(&ports[0]).over);
+    let first = ports.get_mut(0).ok_or("no first port")?;
+    is_well_at(&rt, first, 307200);
     Ok(())
+}
+
+// Gives a port the sum that it holds as its capacity.
+fn is_well_at(rt: &impl Abort, port: &mut Port, capacity: u64) {
+    assert!(rt; port.set_capacity(capacity).is_ok());
+    assert!(rt; !is_above(port));
+    assert!(rt; !Marks::of_port(port).over);
 }
 
 fn is_well(rt: &impl Abort, port: Option<u16>, ports: &[Port], looks: &mut Looks) {
