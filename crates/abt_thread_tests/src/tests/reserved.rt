@@ -1,5 +1,5 @@
 //! What a port holds reserved, worked out from its journal by docs/RULES.md, "Node".
-use abt_cell::Vc;
+use abt_cell::{Answer, Request, Vc};
 use abt_gcra::Verdict;
 use abt_journal::{Entry, PortInput, PortReply};
 use abt_node::{Back, CapacityFault, Onward};
@@ -17,24 +17,37 @@ struct Held {
     units: u64,
 }
 
-// What is held after an entry for its connection, if the entry says so.
-fn held_after(entry: &Entry) -> Option<Held> {
-    let (vc, rate) = match (entry.input, entry.reply) {
-        (PortInput::Request(request), PortReply::Requested(Onward::Pass)) => {
-            (request.vc(), request.ask())
-        }
-        (PortInput::Request(request), PortReply::Requested(Onward::Refuse(_))) => {
-            (request.vc(), request.floor())
-        }
-        (PortInput::Answer(answer), PortReply::Answered(Back::Pass)) if !answer.granted() => {
-            (answer.vc(), answer.floor())
-        }
+// What is held after a request that was served with this reply, if it is another rate than before.
+fn held_by_request(request: &Request, reply: PortReply) -> Option<Held> {
+    let rate = match reply {
+        PortReply::Requested(Onward::Pass) => request.ask(),
+        PortReply::Requested(Onward::Refuse(_)) => request.floor(),
         _ => return None,
     };
     Some(Held {
-        vc,
+        vc: request.vc(),
         units: rate.units(),
     })
+}
+
+// The same after an answer.
+fn held_by_answer(answer: &Answer, reply: PortReply) -> Option<Held> {
+    if answer.granted() || reply != PortReply::Answered(Back::Pass) {
+        return None;
+    }
+    Some(Held {
+        vc: answer.vc(),
+        units: answer.floor().units(),
+    })
+}
+
+// The same after an entry.
+fn held_after(entry: &Entry) -> Option<Held> {
+    match &entry.input {
+        PortInput::Request(request) => held_by_request(request, entry.reply),
+        PortInput::Answer(answer) => held_by_answer(answer, entry.reply),
+        PortInput::Arrive { .. } | PortInput::Capacity(_) => None,
+    }
 }
 
 fn hold(all: &mut Vec<Held>, held: Held) -> Result<(), AllocError> {
