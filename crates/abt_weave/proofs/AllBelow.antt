@@ -148,7 +148,7 @@ alone_has net js ended earlier event v end rates begun below is none =
     elim (cases_less (steps_on net p earlier) (steps_on net p ended) (below.ports p (visit_low net end.rules (past_of net earlier) event v is))) [
       | inl less ↦ below_on net js ended earlier event below (port_has net js ended earlier event v end begun is less) (λ d x whose made low. (let clash = sym none ∙ made in absurd (cc)))
       | inr same ↦ absurd (fits_again net js ended earlier event v end begun
-            (again_at net js ended earlier end rates below event v is same (silent net earlier ended event v is none)) is same (λ d x whose made. (let clash = sym none ∙ made in absurd (cc))))
+          (again_at net js ended earlier end rates below event v is same (silent net earlier ended event v is none)) is same (λ d x whose made. (let clash = sym none ∙ made in absurd (cc))))
     ]
 
 -- what comes to a port of a connection, by the port and by the source beside it
