@@ -35,3 +35,6 @@ pub mod AllBelow
 pub mod OneFault
 pub mod Needed
 pub mod Stopping
+pub mod Alike
+pub mod Unmoved
+pub mod Remains

@@ -107,7 +107,7 @@ would_fit net js rules earlier turns p step event v next none all is here fits =
       sym (ap (λ (s : Step). s.reply) same),
     )
 
-would_mismatch : (net : Topology) (js : Journaled) → IsWithinRules net → (earlier : List Event) (p : ℕ) (step : Step) → next_step net js earlier p ≡ Some step → IsNoCapacity step.input → (m : PortMismatches net js earlier p) →
+pub would_mismatch : (net : Topology) (js : Journaled) → IsWithinRules net → (earlier : List Event) (p : ℕ) (step : Step) → next_step net js earlier p ≡ Some step → IsNoCapacity step.input → (m : PortMismatches net js earlier p) →
     Would net js earlier m.turns p step m.event m.visits.reply
 would_mismatch net js rules earlier p step next none m =
     let after = m.turns ++ earlier in
@@ -154,7 +154,7 @@ port_absent net js rules earlier p step event next none one off no_turn =
     ]))
 
 -- an event that comes and answers something else than the next step says
-mismatch_at : (net : Topology) (js : Journaled) → IsWithinRules net → (earlier turns : List Event) (p : ℕ) (step : Step) (event : Event) → next_step net js earlier p ≡ Some step → AreTurns net earlier turns →
+pub mismatch_at : (net : Topology) (js : Journaled) → IsWithinRules net → (earlier turns : List Event) (p : ℕ) (step : Step) (event : Event) → next_step net js earlier p ≡ Some step → AreTurns net earlier turns →
     Comes net js earlier p step.place step.input event → is_enabled (outcome_of net (past_of net (turns ++ earlier)) event) ≡ true → PortMismatches net js earlier p
 mismatch_at net js rules earlier turns p step event next all before on =
     let after = turns ++ earlier in

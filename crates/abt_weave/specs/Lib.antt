@@ -9,3 +9,4 @@ pub mod Faults
 pub mod Leaving
 pub mod Shown
 pub mod OneFault
+pub mod Waking
