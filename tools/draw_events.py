@@ -2,6 +2,7 @@
 from draw_net import GREATEST_START, SECOND
 
 GREATEST_EMISSION = 2**61
+GREATEST_CAPACITY = 2**60
 ODD_CONNECTIONS = (65535,)
 ODD_HOPS = (0, 1, 2, 16, 17, 65535)
 ODD_NUMBERS = (0, 1, 2, 2**32 - 1)
@@ -39,6 +40,7 @@ class Drawing:
         self.nonsense = chosen.choice([0, 0.02, 0.1, 0.3])
         self.emits = chosen.choice([0, 10, 40, 80])
         self.asks_anew = chosen.choice([1, 5, 20])
+        self.caps = chosen.choice([0, 0, 0.01, 0.1])
         # In some lists a source that has sent a cell goes on asking, so that strides end and keep a short spacing.
         self.asks_on = chosen.choice([0, 0, 2000])
         most = len(net.connections)
@@ -55,6 +57,8 @@ class Drawing:
     def event(self):
         if self.chosen.random() < self.nonsense:
             return self.odd_event()
+        if self.net.ports and self.chosen.random() < self.caps:
+            return self.capacity()
         conn = self.chosen.choice(self.active)
         course = self.world.courses[conn]
         draws = self.draws(course)
@@ -71,6 +75,13 @@ class Drawing:
         if asking == 0:
             return {self.ask: 15 + more, self.message: 5, self.crash: self.crashes, self.again: 1, **cells}
         return {self.ask: self.asks_anew + more, self.message: 100, self.again: 5, self.crash: self.crashes, **cells}
+
+    def capacity(self):
+        """A capacity of a port at, just below or just above what is held there, or the one that the net gives it."""
+        port = self.chosen.randrange(len(self.net.ports))
+        total = self.world.total(port)
+        units = self.chosen.choice([total, max(0, total - 1), total + 1, self.net.ports[port], self.net.ports[port], GREATEST_CAPACITY])
+        return f"capacity {port} {self.spelled(units)}"
 
     def start(self, conn, course):
         later = self.chosen.choice([0, 0, 1, self.chosen.randrange(3 * SECOND)])
@@ -145,6 +156,7 @@ class Drawing:
             f"turn {conn} {seq}",
             f"{pick(['yes', 'no'])} {conn} {hop} {seq}",
             f"{pick(['told-yes', 'told-no'])} {conn} {seq}",
+            f"capacity {pick([*range(min(8, len(self.net.ports))), len(self.net.ports), 65535])} {pick([0, GREATEST_CAPACITY, GREATEST_CAPACITY + 1, 10**19 - 1])}",
         ])
 
     def spelled(self, moment):

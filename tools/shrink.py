@@ -29,7 +29,7 @@ def without_connection(scenario, at):
     events = []
     for event in scenario.events:
         words = event.split(" ")
-        conn = int(words[1]) if len(words) > 1 and words[1].isdecimal() else -1
+        conn = int(words[1]) if words[0] != "capacity" and len(words) > 1 and words[1].isdecimal() else -1
         if conn == at:
             continue
         if at < conn < len(scenario.connections):
@@ -46,13 +46,21 @@ def without_connections(scenario, begin, end):
 
 
 def without_port(scenario, at):
-    """The scenario without a port, whose hops go too."""
-    conns = []
+    """The scenario without a port, whose hops and capacities go too."""
+    conns, events = [], []
     for conn in scenario.connections:
         if not isinstance(conn.path, tuple):
             return None
         conns.append(replace(conn, path=tuple(port - (port > at) for port in conn.path if port != at)))
-    return replace(scenario, ports=scenario.ports[:at] + scenario.ports[at + 1 :], connections=tuple(conns))
+    for event in scenario.events:
+        words = event.split(" ")
+        port = int(words[1]) if words[0] == "capacity" and len(words) > 1 and words[1].isdecimal() else -1
+        if port == at:
+            continue
+        if port > at:
+            words[1] = str(port - 1)
+        events.append(" ".join(words))
+    return replace(scenario, ports=scenario.ports[:at] + scenario.ports[at + 1 :], connections=tuple(conns), events=tuple(events))
 
 
 def pieces(count):

@@ -16,7 +16,7 @@ ODD_EVENTS = (
     "", " ", "start", "start 0", "start 0 0 ", " start 0 0", "start  0 0", "Start 0 0", "start +0 0", "start 0 -1", "start 0 0x1", "start 65536 0",
     "start 0 09999999999999999999", "start 0 99999999999999999999", "ask 0 512", "ask 0 51200", "ask 0 512g", "ask 0 5120 works", "ask 0 5120 before after",
     "again", "again 0 0", "emit 0", "arrive 0 0", "request 0 1", "request 0 65536 1", "request 0 1 4294967296", "turn 0", "yes 0 1", "told 0 1",
-    "told-yes 0", "told-no 0 4294967296", "capacity 0 0", "start\\t0 0", "st\\u00e4rt 0 0", "start 0 \\u0661", "start 0 0\\n", "start 00065535 0", "crash 0000000000000000000",
+    "told-yes 0", "told-no 0 4294967296", "capacity 0", "capacity 65536 0", "start\\t0 0", "st\\u00e4rt 0 0", "start 0 \\u0661", "start 0 0\\n", "start 00065535 0", "crash 0000000000000000000",
     "crash 00000000000000000000",
 )
 ODD_COMMANDS = (

@@ -1,8 +1,8 @@
 #!/usr/bin/env python3
 """A slow model of `abt run`: it prints what a scenario has to print, with the exit status.
 
-It was written from docs/RULES.md and docs/FORMATS.md alone, shares nothing with the program, and keeps nothing but a list of facts
-for each connection, from which it works out everything anew at each event. usage: model.py FILE
+It was written from docs/RULES.md and docs/FORMATS.md alone, shares nothing with the program, and keeps nothing but lists of facts,
+of each connection and of the ports, from which it works out everything anew at each event. usage: model.py FILE
 """
 import sys
 from pathlib import Path
@@ -12,6 +12,7 @@ from reading import Fault, read
 SECOND = 10**12
 LAST_NUMBER = 2**32 - 1
 LAST_EMISSION = 2**61
+GREATEST_CAPACITY = 2**60
 STRIDE = 64
 
 
@@ -165,6 +166,13 @@ class World:
     def __init__(self, ports, conns):
         self.ports = ports
         self.courses = [Course(conn) for conn in conns]
+        # Each capacity that was set, with its port, the oldest first.
+        self.capped = []
+
+    def capacity(self, port):
+        """The capacity in force: the last one that was set, else the net's."""
+        given = [units for capped, units in self.capped if capped == port]
+        return given[-1] if given else self.ports[port]
 
     def total(self, port):
         return sum(
@@ -176,6 +184,8 @@ class World:
 
     def step(self, event):
         """What an event answers."""
+        if event[0] == "capacity":
+            return self.cap(*event[1:])
         kind, conn, *rest = event
         if conn >= len(self.courses):
             return "not-enabled Unknown"
@@ -183,6 +193,16 @@ class World:
         if kind in ("request", "answer") and not 1 <= rest[0] <= len(course.path):
             return "not-enabled Unknown"
         return getattr(self, kind)(course, *rest)
+
+    def cap(self, port, units):
+        if port >= len(self.ports):
+            return "not-enabled Unknown"
+        if units < self.total(port):
+            return "refused BelowSum"
+        if units > GREATEST_CAPACITY:
+            return "refused AboveLimit"
+        self.capped.append((port, units))
+        return "set"
 
     def start(self, course, now):
         if course.asking() is not None:
@@ -269,7 +289,7 @@ class World:
         if seq > newest:
             if floor > course.held(hop):
                 return "dropped FloorAbove"
-            passes = self.total(port) - course.held(hop) + ask <= self.ports[port]
+            passes = self.total(port) - course.held(hop) + ask <= self.capacity(port)
         course.add("passed" if passes else "shut", seq, hop)
         return "passed" if passes else "refuses"
 
@@ -307,7 +327,7 @@ class World:
     def is_safe(self):
         return (
             all(course.rate() <= course.held(hop) for course in self.courses for hop in range(1, len(course.path) + 1))
-            and all(self.total(port) <= capacity for port, capacity in enumerate(self.ports))
+            and all(self.total(port) <= self.capacity(port) for port in range(len(self.ports)))
             and all(fact[4] == "Conforming" for course in self.courses for fact in course.of("arrived"))
         )
 
@@ -317,7 +337,8 @@ class World:
         for conn, course in enumerate(self.courses):
             held = " ".join(code(course.held(hop)) for hop in range(1, len(course.path) + 1))
             lines.append(f"connection {conn} rate {code(course.rate())} held {held}")
-        lines += [f"port {port} total {self.total(port)} capacity {capacity}" for port, capacity in enumerate(self.ports)]
+        for port in range(len(self.ports)):
+            lines.append(f"port {port} total {self.total(port)} capacity {self.capacity(port)}")
         lines.append("safe" if self.is_safe() else "unsafe")
         return "".join(line + "\n" for line in lines)
 
@@ -325,7 +346,7 @@ class World:
 def run(octets):
     """The exit status, the output and the standard error of `abt run` over these octets."""
     try:
-        ports, conns, events = read(octets)
+        ports, conns, events, _ = read(octets)
     except Fault as fault:
         return 1, "", f"fault: {fault}\n"
     return 0, World(ports, conns).report(events), ""

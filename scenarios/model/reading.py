@@ -1,10 +1,11 @@
-"""Scenarios from text, after docs/FORMATS.md, "Scenario" and "Scripts"."""
+"""Scenarios from text, after docs/FORMATS.md, "Scenario", "Scripts" and "Operator"."""
 import re
 import tomllib
 
 LONGEST = 16_777_216
 PAST_WHOLE = 2**63
 CONN_NUMBERS = 2**16
+PORT_NUMBERS = 2**16
 REQUEST_NUMBERS = 2**32
 PLANS = {(): "works", ("before",): "before", ("after",): "after"}
 
@@ -92,6 +93,8 @@ def event(text):
                 return "answer", conn(), hop(), seq(), verb == "yes"
             case "told-yes" | "told-no", 2:
                 return "told", conn(), seq(), verb == "told-yes"
+            case "capacity", 2:
+                return verb, number(words[0], PORT_NUMBERS), number(words[1])
     except ValueError:
         pass
     return None
@@ -118,6 +121,17 @@ def is_command(text):
     except ValueError:
         return False
     return True
+
+
+def operation(text):
+    """The port and the capacity of an operator's text, or None."""
+    verb, *words = text.split(" ")
+    try:
+        if verb == "capacity" and len(words) == 2:
+            return number(words[0], PORT_NUMBERS), number(words[1])
+    except ValueError:
+        pass
+    return None
 
 
 def net_fault(ports, conns):
@@ -163,7 +177,7 @@ def document(octets):
 
 
 def read(octets):
-    """The ports, the connections and the events of a scenario; its first fault is raised."""
+    """The ports, the connections, the events and the operations of a scenario; its first fault is raised."""
     table = document(octets)
     ports = wholes(needed(table, "ports"), "ports", PAST_WHOLE)
     tables = table.get("connection", [])
@@ -171,6 +185,7 @@ def read(octets):
         raise Fault("WrongType connection")
     conns = [connection(one) for one in tables]
     event_texts = texts(table, "events")
+    operation_texts = texts(table, "operator")
     fault = net_fault(ports, conns)
     if fault:
         raise Fault(f"Net {fault}")
@@ -181,4 +196,7 @@ def read(octets):
         for count, text in enumerate(conn["script"], 1):
             if not is_command(text):
                 raise Fault(f"ScriptText {at} {count}")
-    return ports, conns, events
+    operations = [operation(text) for text in operation_texts]
+    if None in operations:
+        raise Fault(f"OperatorText {operations.index(None) + 1}")
+    return ports, conns, events, operations

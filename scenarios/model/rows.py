@@ -195,6 +195,20 @@ arrive 0 1 1000000001999 -> not-enabled ClockBack
 arrive 0 1 1000000002000 -> arrived Conforming
 """)
 
+SHRINKING = story("""
+start 0 0 -> started
+ask 0 5258 -> asked 1 0000 5258
+request 0 1 1 -> passed
+capacity 0 307199 -> refused BelowSum
+capacity 0 307200 -> set
+ask 0 53e8 -> asked 2 0000 53e8
+request 0 1 2 -> refuses
+request 0 1 1 -> dropped Stale
+capacity 0 0 -> set
+capacity 0 1152921504606846977 -> refused AboveLimit
+capacity 1 0 -> not-enabled Unknown
+""")
+
 IDLE = "connection 0 rate 0000 held 0000\nport 0 total 0 capacity 512000\nsafe"
 HELD = "connection 0 rate 0000 held 5120\nport 0 total 204800 capacity 512000\nsafe"
 
@@ -223,6 +237,7 @@ safe""")
         check(ONE, lines, IDLE)
     check(ONE, story(f"start 0 {2**61 - SECOND + 1} -> refused TimeRange"), IDLE)
     check(FAST, GREATEST, "connection 0 rate 7fff held 7fff\nport 0 total 2196875771904 capacity 2196875771904\nsafe")
+    check(ONE, SHRINKING, "connection 0 rate 0000 held 0000\nport 0 total 0 capacity 0\nsafe")
     print("model: the worked stories come out as they were worked")
 
 

@@ -14,16 +14,20 @@ FOLDER = Path(__file__).resolve().parent.parent
 
 
 def run_in_threads(octets):
-    """What `abt threads` has to print: whatever the order of the threads, the three lines, unless a jitter is above its tau."""
+    """What `abt threads` has to print: whatever the order of the threads, the three lines, unless a jitter is above its tau or the
+    operator's list names a port that isn't there.
+    """
     status, output, told = run(octets)
     if status:
         return status, output, told
-    _, conns, _ = read(octets)
+    ports, conns, _, operations = read(octets)
     for conn in conns:
         for command in conn["script"]:
             words = command.split(" ")
             if words[0] == "emit" and words[2] != "lost" and int(words[2]) > conn["tau"]:
                 return 1, "", "fault: Scripts\n"
+    if any(port >= len(ports) for port, _ in operations):
+        return 1, "", "fault: Operator\n"
     return 0, "gathered\nwoven\nsafe\n", ""
 
 

@@ -7,9 +7,9 @@ use Rattle.abt_model.specs.declared.event.Event.{Event}
 use Rattle.abt_model.specs.declared.event.Event.TheVariants as event
 use Rattle.abt_text.specs.Text.{Text}
 use Rattle.abt_text.specs.Words.{words_of}
-use Rattle.abt_grammar.specs.Values.{◌>>=◌, conn_of, hop_of, seq_of, moment_of, cell_of, rate_of, plan_of}
+use Rattle.abt_grammar.specs.Values.{◌>>=◌, conn_of, hop_of, seq_of, moment_of, cell_of, rate_of, plan_of, port_of, units_in}
 use Rattle.abt_grammar.specs.declared.event.Verb.{Verb}
-use Rattle.abt_grammar.specs.declared.event.Verb.TheVariants.{Start, Ask, Again, Crash, Emit, Arrive, Request, Turn, Yes, No, ToldYes, ToldNo}
+use Rattle.abt_grammar.specs.declared.event.Verb.TheVariants.{Start, Ask, Again, Crash, Emit, Arrive, Request, Turn, Yes, No, ToldYes, ToldNo, Capacity}
 
 -- the first word
 abbrev pub verb_of : Text → Option Verb
@@ -26,6 +26,7 @@ verb_of word =
     else if bytes_eq word (codes "no") then Some No
     else if bytes_eq word (codes "told-yes") then Some ToldYes
     else if bytes_eq word (codes "told-no") then Some ToldNo
+    else if bytes_eq word (codes "capacity") then Some Capacity
     else None
 
 -- `start C NOW`
@@ -115,6 +116,14 @@ told_of granted (c ∷ s ∷ []) = do
   Some (event.Told conn seq granted)
 told_of granted _ = None
 
+-- `capacity P U`
+abbrev pub capacity_of : List Text → Option Event
+capacity_of (p ∷ u ∷ []) = do
+  port ← port_of p
+  units ← units_in u
+  Some (event.Capacity port units)
+capacity_of _ = None
+
 -- what the words behind the first say with it
 abbrev pub said_by : Verb → List Text → Option Event
 said_by Start words = start_of words
@@ -129,6 +138,7 @@ said_by Yes words = answer_of true words
 said_by No words = answer_of false words
 said_by ToldYes words = told_of true words
 said_by ToldNo words = told_of false words
+said_by Capacity words = capacity_of words
 
 -- what some words say
 abbrev pub said : List Text → Option Event

@@ -1,3 +1,4 @@
 pub mod Values
 pub mod EventTexts
 pub mod CommandTexts
+pub mod OperationTexts

@@ -16,12 +16,15 @@ abbrev pub ◌>>=◌ : {A B : Type 0} → Option A → (A → Option B) → Opti
 Some x >>= f = f x
 None >>= f = None
 
--- C and HOP: numbers of 16 bits
+-- C, HOP and P: numbers of 16 bits
 abbrev pub conn_of : Text → Option ℕ
 conn_of word = number_below (2 ^ 16) word
 
 abbrev pub hop_of : Text → Option ℕ
 hop_of word = number_below (2 ^ 16) word
+
+abbrev pub port_of : Text → Option ℕ
+port_of word = number_below (2 ^ 16) word
 
 -- SEQ and TURNS: numbers of 32 bits
 abbrev pub seq_of : Text → Option ℕ
@@ -30,12 +33,15 @@ seq_of word = number_below (2 ^ 32) word
 abbrev pub turns_of : Text → Option ℕ
 turns_of word = number_below (2 ^ 32) word
 
--- NOW, AT, CELL and JITTER: any number
+-- NOW, AT, CELL, JITTER and U: any number
 abbrev pub moment_of : Text → Option ℕ
 moment_of word = number_of word
 
 abbrev pub cell_of : Text → Option ℕ
 cell_of word = number_of word
+
+abbrev pub units_in : Text → Option ℕ
+units_in word = number_of word
 
 abbrev pub rate_in : Result (List ℕ) FromHexError → Option ℕ
 rate_in (Ok octets) = Some (units_of (from_be_bytes w16 octets))

@@ -1,7 +1,7 @@
 //! The texts of events.
 ghost use Rattle.std.specs.Prelude.{◌≡◌, map};
 ghost use Rattle.abt_grammar.specs.EventTexts.{event_of, said, verb_of, said_by};
-ghost use Rattle.abt_grammar.specs.EventTexts.{start_of, ask_of, ask_with, again_of, crash_of, emit_of, arrive_of, request_of, turn_of, answer_of, told_of};
+ghost use Rattle.abt_grammar.specs.EventTexts.{start_of, ask_of, ask_with, again_of, crash_of, emit_of, arrive_of, request_of, turn_of, answer_of, told_of, capacity_of};
 
 use crate::value::{plan_of, rate_of};
 use abt_keep::StorePlan;
@@ -42,6 +42,7 @@ pub enum Verb {
     No,
     ToldYes,
     ToldNo,
+    Capacity,
 }
 
 fn verb_of(word: &str) -> Option<Verb>
@@ -60,6 +61,7 @@ fn verb_of(word: &str) -> Option<Verb>
         "no" => Some(Verb::No),
         "told-yes" => Some(Verb::ToldYes),
         "told-no" => Some(Verb::ToldNo),
+        "capacity" => Some(Verb::Capacity),
         _ => None,
     }
 }
@@ -80,6 +82,7 @@ fn said_by(verb: Verb, words: &[&str]) -> Option<Event>
         Verb::No => answer_of(words, false),
         Verb::ToldYes => told_of(words, true),
         Verb::ToldNo => told_of(words, false),
+        Verb::Capacity => capacity_of(words),
     }
 }
 
@@ -211,5 +214,17 @@ fn told_of(words: &[&str], granted: bool) -> Option<Event>
         conn: u16_of(conn)?,
         seq: u32_of(seq)?,
         granted,
+    })
+}
+
+fn capacity_of(words: &[&str]) -> Option<Event>
+    ensures { result ≡ capacity_of (map (λ word. word.now) words.now) }
+{
+    let [port, units] = words else {
+        return None;
+    };
+    Some(Event::Capacity {
+        port: u16_of(port)?,
+        capacity: u64_of(units)?,
     })
 }

@@ -1,4 +1,5 @@
-//! What the texts of docs/FORMATS.md, "Scenario" and "Scripts", say. Expected events and commands are written out by hand.
+//! What the texts of docs/FORMATS.md, "Scenario", "Scripts" and "Operator", say. Expected events, commands and operations are written
+//! out by hand.
 use super::*;
 use abt_keep::StorePlan;
 use abt_model::Event;
@@ -95,6 +96,13 @@ fn each_event_has_its_text(rt: HostRuntime) {
                 granted: false,
             },
         ),
+        (
+            "capacity 65535 307200",
+            Event::Capacity {
+                port: 65535,
+                capacity: 307_200,
+            },
+        ),
     ];
     for (text, said) in rows {
         assert_eq!(rt; event_of(text), Some(said), "{text}");
@@ -116,6 +124,8 @@ fn numbers_are_1_to_19_digits_that_fit(rt: HostRuntime) {
         "request 0 65536 1",
         "request 0 1 4294967296",
         "turn 0 4294967296",
+        "capacity 65536 0",
+        "capacity 0 10000000000000000000",
         "start 0 +5",
         "start +0 5",
         "start 0 -5",
@@ -147,6 +157,8 @@ fn words_stand_between_single_spaces(rt: HostRuntime) {
         "starts 0 9",
         "told 0 9",
         "told-yes 0",
+        "capacity 0",
+        "capacity 0 1 2",
         "listen 5",
         "again",
     ] {
@@ -256,5 +268,37 @@ fn each_command_has_its_text(rt: HostRuntime) {
         "arrive 0 5",
     ] {
         assert_eq!(rt; command_of(text), None, "{text}");
+    }
+}
+
+#[test]
+fn an_operation_has_its_text(rt: HostRuntime) {
+    for (text, said) in [
+        ("capacity 0 307200", (0, 307_200)),
+        (
+            "capacity 00065535 9999999999999999999",
+            (65535, 9_999_999_999_999_999_999),
+        ),
+    ] {
+        assert_eq!(rt; operation_of(text), Some(said), "{text}");
+    }
+    for text in [
+        "",
+        "capacity",
+        "capacity 0",
+        "capacity 0 5 6",
+        "capacity 0 5 ",
+        " capacity 0 5",
+        "capacity 0  5",
+        "Capacity 0 5",
+        "capacities 0 5",
+        "start 0 5",
+        "capacity 65536 5",
+        "capacity +0 5",
+        "capacity 0 -5",
+        "capacity 0 10000000000000000000",
+        "capacity 0 00000000000000000005",
+    ] {
+        assert_eq!(rt; operation_of(text), None, "{text}");
     }
 }

@@ -12,7 +12,7 @@ use Rattle.abt_gcra.specs.Policing.{Policing, policed, checked}
 use Rattle.abt_node.specs.Table.{Connection, Table, opening, connection_at, with_connection, held_at, policing_after, table_by, table_by_answer, table_by_arrival}
 use Rattle.abt_node.proofs.TableLemmas.{connection_at-with_connection, connection_at-other}
 use Rattle.abt_journal.specs.declared.input.PortInput.{PortInput}
-use Rattle.abt_journal.specs.declared.input.PortInput.TheVariants.{Request, Answer, Arrive}
+use Rattle.abt_journal.specs.declared.input.PortInput.TheVariants.{Request, Answer, Arrive, Capacity}
 use Rattle.abt_journal.specs.Opening.{tau_of, as_added, IsOpening, reopened}
 use Rattle.abt_journal.specs.Replay.{table_after}
 use Rattle.abt_journal.proofs.Openings.{tau_of-opening}
@@ -117,6 +117,7 @@ pub reopened-table_after : (capacity : ℕ) (t : Table) (input : PortInput) → 
 reopened-table_after capacity t (Request q) = request_by capacity t q (connection_at t q.vc) refl
 reopened-table_after capacity t (Answer a) = answer_by capacity t a (connection_at t a.terms.vc) refl
 reopened-table_after capacity t (Arrive vc at) = arrival_by capacity t vc at (connection_at t vc) refl
+reopened-table_after capacity t (Capacity u) = refl
 
 -- As many connections as at first
 

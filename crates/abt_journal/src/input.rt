@@ -3,7 +3,7 @@ ghost use Rattle.std.specs.Prelude.{◌≡◌, ◌↔◌, IsTrue};
 
 use abt_cell::{Answer, Request, Vc};
 use abt_gcra::Verdict;
-use abt_node::{ArriveFault, Back, Onward, Port};
+use abt_node::{ArriveFault, Back, CapacityFault, Onward, Port};
 
 /// What comes to a port.
 #[derive(Clone, Copy, Debug, PartialEq, Eq)]
@@ -14,6 +14,8 @@ pub enum PortInput {
     Answer(Answer),
     /// A data cell of a connection, at a moment in picoseconds.
     Arrive { vc: Vc, at: u64 },
+    /// The capacity that the port's link is to have from now on, in units.
+    Capacity(u64),
 }
 
 /// What the port replies to an input of each kind.
@@ -25,6 +27,8 @@ pub enum PortReply {
     Answered(Back),
     /// The verdict on a data cell, or why it has none.
     Arrived(Result<Verdict, ArriveFault>),
+    /// Whether the link has the capacity now, or why it keeps the one that it had.
+    Capped(Result<(), CapacityFault>),
 }
 
 impl PortInput {
@@ -46,6 +50,7 @@ impl PortInput {
             PortInput::Request(request) => PortReply::Requested(port.request(request)),
             PortInput::Answer(answer) => PortReply::Answered(port.answer(answer)),
             PortInput::Arrive { vc, at } => PortReply::Arrived(port.arrive(*vc, *at)),
+            PortInput::Capacity(capacity) => PortReply::Capped(port.set_capacity(*capacity)),
         }
     }
 }

@@ -6,7 +6,7 @@ use Rattle.abt_gcra.specs.declared.verdict.Verdict.{Verdict}
 use Rattle.abt_facts.specs.declared.fact.Fact.{Fact}
 use Rattle.abt_facts.specs.declared.fact.Fact.TheVariants.{Asked, Delivered, Shut, Arrived}
 use Rattle.abt_model.specs.declared.event.Event.{Event}
-use Rattle.abt_model.specs.declared.event.Event.TheVariants.{Start, Ask, Again, Crash, Emit, Arrive, Request, Turn, Answer, Told}
+use Rattle.abt_model.specs.declared.event.Event.TheVariants.{Start, Ask, Again, Crash, Emit, Arrive, Request, Turn, Answer, Told, Capacity}
 use Rattle.abt_model.specs.declared.outcome.Outcome.{Outcome}
 use Rattle.abt_net.specs.declared.conn.Conn.{Conn}
 use Rattle.abt_keep.specs.Record.{KeptRecord}
@@ -227,6 +227,7 @@ step_stays conn reserved capacity fs lawful (Emit c now) i low differ = up_stays
 step_stays conn reserved capacity fs lawful (Arrive c n a) i low differ = arrive_stays conn fs c n a i differ
 step_stays conn reserved capacity fs lawful (Ask c r plan) i low differ = up_stays conn fs (Ask c r plan) _ (state_of fs) i (ask_stays conn fs lawful c r i plan)
 step_stays conn reserved capacity fs lawful (Again c) i low differ = refl
+step_stays conn reserved capacity fs lawful (Capacity p u) i low differ = refl
 step_stays conn reserved capacity fs lawful (Crash c) i low differ = up_stays conn fs (Crash c) HasCrashed (state_of fs) i refl
 step_stays conn reserved capacity fs lawful (Request c j s) i low differ =
     let P = Stays conn fs (Request c j s) i in

@@ -1,10 +1,10 @@
 -- No message is dropped since ports and sources disagree.
 use Rattle.std.proofs.Common.{◌≡◌, ℕ, ◌+◌, ◌-◌, ◌≤◌, ◌<◌, inl, inr, refl, ap, Bool, true, false, List, length, ◌∙◌, sym, arith}
-use Rattle.std.specs.Prelude.{◌&&◌, ◌==◌, not, nat_lt}
+use Rattle.std.specs.Prelude.{◌&&◌, ◌==◌, not, nat_lt, Option, None, Some}
 use Rattle.std.proofs.lemmas.Bool.{false≢true, ne_eqb, false_from_ne_true, and_from, and_parts, cond_both, not-false}
 use Rattle.abt_facts.specs.declared.fact.Fact.{Fact}
 use Rattle.abt_model.specs.declared.event.Event.{Event}
-use Rattle.abt_model.specs.declared.event.Event.TheVariants.{Start, Ask, Again, Crash, Emit, Arrive, Request, Turn, Answer, Told}
+use Rattle.abt_model.specs.declared.event.Event.TheVariants.{Start, Ask, Again, Crash, Emit, Arrive, Request, Turn, Answer, Told, Capacity}
 use Rattle.abt_model.specs.declared.outcome.Outcome.{Outcome}
 use Rattle.abt_net.specs.declared.conn.Conn.{Conn}
 use Rattle.abt_keep.specs.declared.plan.StorePlan.{StorePlan}
@@ -26,11 +26,14 @@ use Rattle.abt_facts.specs.Cells.{emitted_of, last_arrival_of, fence_of, is_in_t
 use Rattle.abt_cell.specs.Message.{Reply, Terms, answer_to}
 use Rattle.abt_net.specs.Topology.{Topology, conn_at}
 use Rattle.abt_cell.specs.Channel.{Channel}
+use Rattle.abt_ledger.specs.Capacity.{capacity_fault, capacity_answer}
+use Rattle.abt_ledger.specs.declared.fault.CapacityFault.{CapacityFault}
 use Rattle.abt_model.specs.Past.{Past, facts_of}
+use Rattle.abt_model.specs.Reserved.{reserved_on}
 use Rattle.abt_source.specs.SourceFacts.{request_of}
 use Rattle.abt_rate.specs.Limits.{emit_max, number_max, start_max}
-use Rattle.abt_model.specs.Answers.{if_up, start_answer, next_request, kept_answer, again_answer, emit_answer, arrive_answer, is_hop, answer_by}
-use Rattle.abt_model.specs.Outcomes.{conn_of, outcome_by}
+use Rattle.abt_model.specs.Answers.{if_up, start_answer, next_request, kept_answer, again_answer, emit_answer, arrive_answer, is_hop, answer_by, capped}
+use Rattle.abt_model.specs.Outcomes.{conn_of, outcome_alone, outcome_by}
 use Rattle.abt_model.specs.Promises.{disputes, NeverDisputes}
 use Rattle.abt_model.proofs.Chain.{passed_all, passed_asked, at_asked, asked_last, shut_next_passed, turned_passed, back_turned, turned_open}
 use Rattle.abt_model.proofs.Worlds.{cases_option, outcome_of-known, outcome_of-unknown, AllLawful, lawful_at}
@@ -148,6 +151,7 @@ step_agrees conn reserved capacity fs lawful (Start c now) = start_agrees (state
 step_agrees conn reserved capacity fs lawful (Ask c r plan) =
     up_agrees (state_of fs) _ (cond_both (last_of fs == number_max) _ _ (λ (o : Outcome). disputes o ≡ false) (λ e. refl) (λ e. kept_agrees (writes fs r) plan (next_request conn.vc fs r)))
 step_agrees conn reserved capacity fs lawful (Again c) = again_agrees conn.vc (state_of fs) fs
+step_agrees conn reserved capacity fs lawful (Capacity p u) = refl
 step_agrees conn reserved capacity fs lawful (Crash c) = up_agrees (state_of fs) _ refl
 step_agrees conn reserved capacity fs lawful (Emit c now) = up_agrees (state_of fs) _ (emit_agrees fs now)
 step_agrees conn reserved capacity fs lawful (Arrive c n a) = arrive_agrees conn fs n a
@@ -158,9 +162,19 @@ step_agrees conn reserved capacity fs lawful (Answer c j s granted) = answer_agr
 step_agrees conn reserved capacity fs lawful (Told c s granted) =
     cond_both (not (answer_is_home fs s granted)) _ _ (λ (o : Outcome). disputes o ≡ false) (λ e. refl) (λ e. refl)
 
+-- a port alone drops nothing
+capped_agrees : (fault : Option CapacityFault) → disputes (capped (capacity_answer fault)) ≡ false
+capped_agrees None = refl
+capped_agrees (Some fault) = refl
+
+alone_agrees : (net : Topology) (past : Past) (e : Event) → disputes (outcome_alone net past e) ≡ false
+alone_agrees net past (Capacity p u) =
+    cond_both (nat_lt p (length net.capacities)) _ _ (λ (o : Outcome). disputes o ≡ false) (λ e. capped_agrees (capacity_fault (reserved_on net past p) u)) (λ e. refl)
+alone_agrees net past e = refl
+
 pub outcome_agrees : (net : Topology) (past : Past) → AllLawful net past → NeverDisputes net past
 outcome_agrees net past lawful e = elim (cases_option (conn_of e)) [
-  | inl alone ↦ ap disputes (ap (outcome_by net past e) alone)
+  | inl alone ↦ ap disputes (ap (outcome_by net past e) alone) ∙ alone_agrees net past e
   | inr own ↦ (let c = own.0 in elim (cases_option (conn_at net c)) [
     | inl unknown ↦ ap disputes (outcome_of-unknown net past e c own.1 unknown)
     | inr known ↦ ap disputes (outcome_of-known net past e c known.0 own.1 known.1) ∙ step_agrees known.0 _ _ (facts_of c past) (lawful_at net past lawful c known.0 known.1) e

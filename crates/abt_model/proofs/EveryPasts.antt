@@ -1,9 +1,7 @@
 -- Every past is safe.
-use Rattle.std.proofs.Common.{◌≡◌, ℕ, zero, suc, inl, inr, List, [], ◌∷◌, sym, subst, arith}
-use Rattle.std.specs.Prelude.{slice_index, slice_get, Some}
+use Rattle.std.proofs.Common.{◌≡◌, ℕ, inl, inr, [], sym, subst, arith}
 use Rattle.abt_net.specs.Topology.{Topology, IsWithinRules, conn_at}
 use Rattle.abt_model.specs.Past.{Past, facts_of}
-use Rattle.abt_model.specs.Reserved.{capacity_of}
 use Rattle.abt_model.specs.Run.{facts_after}
 use Rattle.abt_model.specs.Safe.{AllConform, IsSafe}
 use Rattle.abt_model.specs.Promises.{EveryPast, NeverDisputes, OneAnswerEach, RatesWait, YesStandsEverywhere, ArrivalsConform, NextIsDue, CellsAreApart, ArrivalsInRange, StoreCovers}
@@ -15,15 +13,6 @@ use Rattle.abt_model.proofs.Drops.{outcome_agrees}
 use Rattle.abt_model.proofs.Served.{conn_within, cells_are_apart, arrivals_in_range, arrivals_conform, next_is_due, store_covers}
 use Rattle.abt_model.proofs.Arrivals.{all_conform}
 use Rattle.abt_model.proofs.Backed.{rate_held}
-
-index_of-get : (xs : List ℕ) (i x : ℕ) → slice_get xs i ≡ Some x → slice_index xs i ≡ x
-index_of-get [] i x e = absurd (cc)
-index_of-get (y ∷ xs) zero x e = cc
-index_of-get (y ∷ xs) (suc i) x e = index_of-get xs i x e
-
--- the capacity of a port that the net has is what stands in the net's list
-pub capacity_is : (net : Topology) (past : Past) (port capacity : ℕ) → slice_get net.capacities port ≡ Some capacity → capacity_of net past port ≡ capacity
-capacity_is net past port capacity is = index_of-get net.capacities port capacity is
 
 pub past_safe : (net : Topology) (past : Past) → IsWithinRules net → AllLawful net past → AllWithin net past → IsSafe net past
 past_safe net past rules lawful within = record {

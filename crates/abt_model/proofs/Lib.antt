@@ -14,6 +14,7 @@ pub mod Arrivals
 pub mod Holds
 pub mod Within
 pub mod Worlds
+pub mod Capacities
 pub mod Sums
 pub mod Drops
 pub mod Answered
@@ -25,4 +26,5 @@ pub mod Reservations
 pub mod AnswerRows
 pub mod Tables
 pub mod Serving
+pub mod Setting
 pub mod EveryTable

@@ -21,7 +21,7 @@ use Rattle.abt_facts.specs.Hop.{held_of}
 use Rattle.abt_facts.specs.Cells.{taken_of}
 use Rattle.abt_net.specs.Topology.{Topology, IsWithinRules}
 use Rattle.abt_model.specs.Past.{Past, facts_of}
-use Rattle.abt_model.specs.Reserved.{reserved_on}
+use Rattle.abt_model.specs.Reserved.{reserved_on, capacity_of}
 use Rattle.abt_net.specs.Paths.{hop_of}
 use Rattle.abt_cell.specs.Message.{answer_to}
 use Rattle.abt_source.specs.SourceFacts.{request_of}
@@ -36,6 +36,7 @@ use Rattle.abt_net.proofs.PathLemmas.{hop_of-port}
 use Rattle.abt_model.proofs.Worlds.{other_conn, facts_of-own, facts_of-other, outcome_of-known, AllLawful, lawful_at}
 use Rattle.abt_model.proofs.AnswerRows.{answer_reserved, request_polices, answer_polices}
 use Rattle.abt_model.proofs.Lawful.{route_of, IsAtHop}
+use Rattle.abt_model.proofs.Capacities.{capacity_of-own}
 use Rattle.abt_model.proofs.Tables.{tables_have_rows, table_with, totals_reserved}
 use Rattle.abt_model.proofs.Served.{arrive_tells, conn_within, arrivals_in_range}
 use Rattle.abt_model.proofs.Arrivals.{tat, arrival, timely}
@@ -85,33 +86,33 @@ requests_served net past rules lawful c hop seq p conn onward known at_hop said 
     let law = lawful_at net past lawful c conn known in
     let o_is = outcome_of-known net past (Request c hop seq) c conn refl known in
     let q = slice_index conn.path (hop - 1) in
-    let tells = request_tells conn (facts_of c past) (reserved_on net past q) (slice_index net.capacities q) c hop seq onward (sym o_is ∙ said) in
+    let tells = request_tells conn (facts_of c past) (reserved_on net past q) (capacity_of net past q) c hop seq onward (sym o_is ∙ said) in
     let way = through conn p hop at_hop tells.0 in
     let port : q ≡ p = ap (λ h. slice_index conn.path (h - 1)) (sym at_hop) ∙ hop_of-port conn.path p way in
-    let decided_is : decided conn.vc (facts_of c past) (reserved_on net past p) (slice_index net.capacities p) hop seq ≡ onward =
-    subst (λ r. decided conn.vc (facts_of c past) (reserved_on net past r) (slice_index net.capacities r) hop seq ≡ onward) port tells.3 in
+    let decided_is : decided conn.vc (facts_of c past) (reserved_on net past p) (capacity_of net past p) hop seq ≡ onward =
+    subst (λ r. decided conn.vc (facts_of c past) (reserved_on net past r) (capacity_of net past r) hop seq ≡ onward) port tells.3 in
     let number = (asked_last (route_of conn) (facts_of c past) law).1 seq (at_asked (route_of conn) (facts_of c past) law seq hop tells.2) in
     let row : connection_at (port_table net past p) conn.vc ≡ Some (kept_at conn (facts_of c past) hop) =
     tables_have_rows net past rules c p conn known way ∙ ap (λ h. Some (kept_at conn (facts_of c past) h)) at_hop in
     let total = totals_reserved net past rules lawful p in
     let request = request_of conn.vc (facts_of c past) seq in
-    let table_decision : (ℕ → Onward × Reservation) = λ sum. decision_of (slice_index net.capacities p) (sum - held_by (reservation_at (facts_of c past) hop)) (reservation_at (facts_of c past) hop) (request_of conn.vc (facts_of c past) seq) in
+    let table_decision : (ℕ → Onward × Reservation) = λ sum. decision_of (capacity_of net past p) (sum - held_by (reservation_at (facts_of c past) hop)) (reservation_at (facts_of c past) hop) (request_of conn.vc (facts_of c past) seq) in
     let reply : reply_to (port_table net past p) (request_of conn.vc (facts_of c past) seq) ≡ onward =
     ap (reply_by (port_table net past p) (request_of conn.vc (facts_of c past) seq)) row
-    ∙ ap (λ sum. (decision_of (slice_index net.capacities p) (sum - held_by (reservation_at (facts_of c past) hop)) (reservation_at (facts_of c past) hop) (request_of conn.vc (facts_of c past) seq)).0) total
-    ∙ hop_decision-decided (route_of conn) conn.vc (facts_of c past) law (reserved_on net past p) (slice_index net.capacities p) hop seq
+    ∙ ap (λ sum. (decision_of (capacity_of net past p) (sum - held_by (reservation_at (facts_of c past) hop)) (reservation_at (facts_of c past) hop) (request_of conn.vc (facts_of c past) seq)).0) total
+    ∙ hop_decision-decided (route_of conn) conn.vc (facts_of c past) law (reserved_on net past p) (capacity_of net past p) hop seq
     ∙ decided_is in
     let now_is : facts_of c after ≡ request_adds hop seq onward ++ facts_of c past =
     facts_of-own net past (Request c hop seq) c refl ∙ ap (λ (o : Outcome). facts_added (facts_of c past) (Request c hop seq) o ++ facts_of c past) said in
-    let left : (decision_of (slice_index net.capacities p) (sum_of (port_table net past p) - held_by (reservation_at (facts_of c past) hop)) (reservation_at (facts_of c past) hop) (request_of conn.vc (facts_of c past) seq)).1 ≡ reservation_at (facts_of c after) hop =
-    ap (λ sum. (decision_of (slice_index net.capacities p) (sum - held_by (reservation_at (facts_of c past) hop)) (reservation_at (facts_of c past) hop) (request_of conn.vc (facts_of c past) seq)).1) total
-    ∙ request_reserved (route_of conn) conn.vc (facts_of c past) law (reserved_on net past p) (slice_index net.capacities p) hop seq number.0
+    let left : (decision_of (capacity_of net past p) (sum_of (port_table net past p) - held_by (reservation_at (facts_of c past) hop)) (reservation_at (facts_of c past) hop) (request_of conn.vc (facts_of c past) seq)).1 ≡ reservation_at (facts_of c after) hop =
+    ap (λ sum. (decision_of (capacity_of net past p) (sum - held_by (reservation_at (facts_of c past) hop)) (reservation_at (facts_of c past) hop) (request_of conn.vc (facts_of c past) seq)).1) total
+    ∙ request_reserved (route_of conn) conn.vc (facts_of c past) law (reserved_on net past p) (capacity_of net past p) hop seq number.0
     ∙ ap (λ (o : Onward). reservation_at (request_adds hop seq o ++ facts_of c past) hop) decided_is
     ∙ ap (λ (l : List Fact). reservation_at l hop) (sym now_is) in
     let polices : policing_by conn.tau (facts_of c after) ≡ policing_by conn.tau (facts_of c past) =
     ap (policing_by conn.tau) now_is ∙ request_polices conn seq hop (facts_of c past) onward in
     let new = kept_with conn (facts_of c past) (facts_of c after) hop _ left polices in
-    let placed = table_with net past after c p conn _ rules known way (new ∙ ap (kept_at conn (facts_of c after)) (sym at_hop)) (λ d differ. facts_of-other net past (Request c hop seq) d (other_conn c d differ)) in
+    let placed = table_with net past after c p conn _ rules known way (new ∙ ap (kept_at conn (facts_of c after)) (sym at_hop)) (λ d differ. facts_of-other net past (Request c hop seq) d (other_conn c d differ)) (capacity_of-own net past (Request c hop seq) p c refl) in
     (reply, ap (table_by (port_table net past p) (request_of conn.vc (facts_of c past) seq)) row ∙ placed)
 
 pub answers_served : (net : Topology) (past : Past) → IsWithinRules net → AllLawful net past → AnswersServed net past
@@ -121,7 +122,7 @@ answers_served net past rules lawful c hop seq p granted conn back known at_hop 
     let law = lawful_at net past lawful c conn known in
     let o_is = outcome_of-known net past (Answer c hop seq granted) c conn refl known in
     let q = slice_index conn.path (hop - 1) in
-    let tells = answered_tells conn (facts_of c past) (reserved_on net past q) (slice_index net.capacities q) c hop seq granted back (sym o_is ∙ said) in
+    let tells = answered_tells conn (facts_of c past) (reserved_on net past q) (capacity_of net past q) c hop seq granted back (sym o_is ∙ said) in
     let way = through conn p hop at_hop tells.0 in
     let row : connection_at (port_table net past p) conn.vc ≡ Some (kept_at conn (facts_of c past) hop) =
     tables_have_rows net past rules c p conn known way ∙ ap (λ h. Some (kept_at conn (facts_of c past) h)) at_hop in
@@ -136,7 +137,7 @@ answers_served net past rules lawful c hop seq p granted conn back known at_hop 
     let polices : policing_by conn.tau (facts_of c after) ≡ policing_by conn.tau (facts_of c past) =
     ap (policing_by conn.tau) now_is ∙ answer_polices conn seq hop (facts_of c past) granted back in
     let new = kept_with conn (facts_of c past) (facts_of c after) hop _ left polices in
-    let placed = table_with net past after c p conn _ rules known way (new ∙ ap (kept_at conn (facts_of c after)) (sym at_hop)) (λ d differ. facts_of-other net past (Answer c hop seq granted) d (other_conn c d differ)) in (
+    let placed = table_with net past after c p conn _ rules known way (new ∙ ap (kept_at conn (facts_of c after)) (sym at_hop)) (λ d differ. facts_of-other net past (Answer c hop seq granted) d (other_conn c d differ)) (capacity_of-own net past (Answer c hop seq granted) p c refl) in (
       ap (answer_kept (answer_to (request_of conn.vc (facts_of c past) seq) granted)) row ∙ ap (λ (x : Returned × Reservation). x.0) both,
       ap (table_by_answer (port_table net past p) (answer_to (request_of conn.vc (facts_of c past) seq) granted)) row ∙ placed,
     )
@@ -193,7 +194,7 @@ arrivals_served net past rules lawful c cell at p conn v known at_hop said =
     let new : record (kept_at conn (facts_of c past) 1) { policing = Some (policing_after at (held_by (reservation_at (facts_of c past) 1)) (policing_by conn.tau (facts_of c past))) } ≡ kept_at conn (facts_of c after) 1 =
     ap (λ (x : Policing). record (kept_at conn (facts_of c past) 1) { policing = Some x }) polices
     ∙ ap (λ (x : Reservation). record { reservation = x; policing = Some (policing_by conn.tau (facts_of c after)) }) rows in
-    let placed = table_with net past after c p conn _ rules known way (new ∙ ap (kept_at conn (facts_of c after)) (sym at_hop)) (λ d differ. facts_of-other net past (Arrive c cell at) d (other_conn c d differ)) in (
+    let placed = table_with net past after c p conn _ rules known way (new ∙ ap (kept_at conn (facts_of c after)) (sym at_hop)) (λ d differ. facts_of-other net past (Arrive c cell at) d (other_conn c d differ)) (capacity_of-own net past (Arrive c cell at) p c refl) in (
       ap (arrival_of at) row ∙ served.0 ∙ ap Ok (sym finds.0),
       ap (table_by_arrival (port_table net past p) conn.vc at) row ∙ placed,
     )

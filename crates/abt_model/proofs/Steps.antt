@@ -15,7 +15,7 @@ use Rattle.abt_keep.specs.declared.plan.StorePlan.{StorePlan}
 use Rattle.abt_keep.specs.declared.plan.StorePlan.TheVariants.{Works, FailsBefore, FailsAfter}
 use Rattle.abt_net.specs.declared.conn.Conn.{Conn}
 use Rattle.abt_model.specs.declared.event.Event.{Event}
-use Rattle.abt_model.specs.declared.event.Event.TheVariants.{Start, Ask, Again, Crash, Emit, Arrive, Request, Turn, Answer, Told}
+use Rattle.abt_model.specs.declared.event.Event.TheVariants.{Start, Ask, Again, Crash, Emit, Arrive, Request, Turn, Answer, Told, Capacity}
 use Rattle.abt_model.specs.declared.outcome.Heard.{Heard as Hearing}
 use Rattle.abt_model.specs.declared.outcome.Heard.TheVariants.{Ignored}
 use Rattle.abt_model.specs.declared.outcome.Outcome.{Outcome}
@@ -195,6 +195,7 @@ step_lawful conn reserved capacity fs lawful (Emit c now) rate = up_lawful (rout
 step_lawful conn reserved capacity fs lawful (Arrive c n a) rate = arrive_lawful conn fs lawful c n a
 step_lawful conn reserved capacity fs lawful (Ask c r plan) rate = up_lawful (route_of conn) fs lawful (Ask c r plan) _ (state_of fs) (asked_lawful (route_of conn) fs lawful conn.vc c r plan rate)
 step_lawful conn reserved capacity fs lawful (Again c) rate = lawful
+step_lawful conn reserved capacity fs lawful (Capacity p u) rate = lawful
 step_lawful conn reserved capacity fs lawful (Crash c) rate = up_lawful (route_of conn) fs lawful (Crash c) HasCrashed (state_of fs) (tt, lawful)
 step_lawful conn reserved capacity fs lawful (Request c j s) rate =
     let k = route_of conn in

@@ -6,19 +6,21 @@ use Rattle.abt_keep.specs.declared.plan.StorePlan.TheVariants.{Works, FailsBefor
 use Rattle.abt_shaper.specs.declared.fault.ShapeFault.TheVariants.{Zero, TooSoon}
 use Rattle.abt_source.specs.declared.fault.StartFault.TheVariants.{TimeRange as StartTimeRange}
 use Rattle.abt_source.specs.declared.fault.AskFault.TheVariants.{Keep}
-use Rattle.abt_node.specs.declared.reply.Onward.TheVariants.{Pass, Refuse}
+use Rattle.abt_ledger.specs.declared.fault.CapacityFault.TheVariants.{BelowSum, AboveLimit}
+use Rattle.abt_node.specs.declared.reply.DropCause.TheVariants.{Stale}
+use Rattle.abt_node.specs.declared.reply.Onward.TheVariants.{Pass, Refuse, Drop}
 use Rattle.abt_node.specs.declared.reply.Back.TheVariants.{Pass as PassBack}
 use Rattle.abt_net.specs.Topology.{Topology}
 use Rattle.abt_facts.specs.Source.{rate_of}
 use Rattle.abt_facts.specs.Hop.{held_of}
 use Rattle.abt_model.specs.declared.event.Event.{Event}
-use Rattle.abt_model.specs.declared.event.Event.TheVariants.{Start, Ask, Again, Crash, Emit, Arrive, Request, Turn, Answer, Told}
+use Rattle.abt_model.specs.declared.event.Event.TheVariants.{Start, Ask, Again, Crash, Emit, Arrive, Request, Turn, Answer, Told, Capacity}
 use Rattle.abt_model.specs.declared.outcome.Cause.TheVariants.{Down as IsDown, Running, NotSent, Fenced, Delay as OutOfTime, ClockBack, Unknown, NotAsking}
 use Rattle.abt_model.specs.declared.outcome.Heard.TheVariants.{Raised, Refused, Ignored}
 use Rattle.abt_model.specs.declared.outcome.Outcome.{Outcome}
-use Rattle.abt_model.specs.declared.outcome.Outcome.TheVariants.{Started, StartRefused, Asked, AskRefused, Crashed, Emitted, EmitRefused, Arrived, Requested, Turned, Answered, Told as HasTold, NotEnabled}
+use Rattle.abt_model.specs.declared.outcome.Outcome.TheVariants.{Started, StartRefused, Asked, AskRefused, Crashed, Emitted, EmitRefused, Arrived, Requested, Turned, Answered, Told as HasTold, CapacitySet, CapacityRefused, NotEnabled}
 use Rattle.abt_model.specs.Past.{facts_of}
-use Rattle.abt_model.specs.Reserved.{reserved_on}
+use Rattle.abt_model.specs.Reserved.{reserved_on, capacity_of}
 use Rattle.abt_model.specs.Run.{facts_after, outcomes_of}
 
 abbrev first_channel : Channel
@@ -458,6 +460,43 @@ pub a_greater_need_is_written : outcomes_of one_link a_greater_need_is_written_e
     ∷ asked first_channel 131 0 204800
     ∷ [])
 a_greater_need_is_written = refl
+
+-- A link shrinks to what is reserved on it and no further, until its source gives way. The capacity in force decides.
+abbrev a_link_shrinks_to_what_is_reserved_events : List Event
+a_link_shrinks_to_what_is_reserved_events =
+    Start 0 0
+    ∷ Ask 0 307200 Works
+    ∷ Request 0 1 1
+    ∷ Capacity 0 307199
+    ∷ Capacity 0 307200
+    ∷ Ask 0 512000 Works
+    ∷ Request 0 1 2
+    ∷ Request 0 1 1
+    ∷ Capacity 0 0
+    ∷ Capacity 0 1152921504606846977
+    ∷ Capacity 1 0
+    ∷ []
+
+pub a_link_shrinks_to_what_is_reserved : outcomes_of one_link a_link_shrinks_to_what_is_reserved_events
+    ≡ Started
+    ∷ asked first_channel 1 0 307200
+    ∷ Requested Pass
+    ∷ CapacityRefused BelowSum
+    ∷ CapacitySet
+    ∷ asked first_channel 2 0 512000
+    ∷ refused first_channel 2 0 512000
+    ∷ Requested (Drop Stale)
+    ∷ CapacitySet
+    ∷ CapacityRefused AboveLimit
+    ∷ NotEnabled Unknown
+    ∷ []
+a_link_shrinks_to_what_is_reserved = refl
+
+pub a_link_shrinks_to_what_is_reserved_total : reserved_on one_link (facts_after one_link a_link_shrinks_to_what_is_reserved_events) 0 ≡ 0
+a_link_shrinks_to_what_is_reserved_total = refl
+
+pub a_link_shrinks_to_what_is_reserved_capacity : capacity_of one_link (facts_after one_link a_link_shrinks_to_what_is_reserved_events) 0 ≡ 0
+a_link_shrinks_to_what_is_reserved_capacity = refl
 
 -- What is not enabled says why.
 abbrev causes_are_tried_in_order_events : List Event

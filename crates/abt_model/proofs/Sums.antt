@@ -15,12 +15,13 @@ use Rattle.abt_net.specs.Topology.{Topology, conn_at}
 use Rattle.abt_model.specs.Events.{AsksRate}
 use Rattle.abt_model.specs.Targets.{target_of, hop_in, port_in}
 use Rattle.abt_model.specs.Past.{Past, facts_of}
-use Rattle.abt_model.specs.Reserved.{held_on, reserved_on}
+use Rattle.abt_model.specs.Reserved.{held_on, reserved_on, capacity_of}
 use Rattle.abt_net.specs.Paths.{hop_of}
 use Rattle.abt_net.proofs.PathLemmas.{hop_of-port}
 use Rattle.abt_model.specs.Answers.{answer_by}
 use Rattle.abt_model.specs.Outcomes.{conn_of, port_of, facts_added, after_event}
 use Rattle.abt_model.specs.Run.{facts_from, facts_after}
+use Rattle.abt_model.proofs.Capacities.{capacity_of-own, after_event-alone, alone_within}
 use Rattle.abt_model.proofs.Within.{step_within}
 use Rattle.abt_model.proofs.Worlds.{cases_option, other_conn, none_some, facts_of-own, facts_of-other, outcome_of-known, after_event-unknown, AllLawful, lawful_at, after_event_lawful, nothing_lawful, first_asks, others_ask}
 
@@ -71,9 +72,9 @@ port_in-hop : (path : List ℕ) (t : Target) → hop_in t ≢ 0 → port_in path
 port_in-hop path (Hop c x) some = refl
 port_in-hop path other some = absurd (some refl)
 
--- no port's sum is above its capacity
+-- no port's sum is above the capacity in force
 abbrev pub AllWithin : Topology → Past → Type 0
-AllWithin net past = (p : ℕ) → reserved_on net past p ≤ slice_index net.capacities p
+AllWithin net past = (p : ℕ) → reserved_on net past p ≤ capacity_of net past p
 
 -- what a connection holds on a port, by its number
 abbrev pub holding : Past → ℕ → (ℕ × Conn → ℕ)
@@ -83,13 +84,13 @@ holding past p = λ numbered. held_on (facts_of numbered.0 past) numbered.1.path
 on_port : (net : Topology) (past : Past) → AllLawful net past → (e : Event) (p c : ℕ) (conn : Conn) → conn_at net c ≡ Some conn →
     (let old = facts_of c past in
     let q = port_of conn.path e in
-    let new = facts_added old e (answer_by conn (reserved_on net past q) (slice_index net.capacities q) old e) ++ old in
-    (held_on new conn.path p ≤ held_on old conn.path p) ⊎ (reserved_on net past p - held_on old conn.path p + held_on new conn.path p ≤ slice_index net.capacities p))
+    let new = facts_added old e (answer_by conn (reserved_on net past q) (capacity_of net past q) old e) ++ old in
+    (held_on new conn.path p ≤ held_on old conn.path p) ⊎ (reserved_on net past p - held_on old conn.path p + held_on new conn.path p ≤ capacity_of net past p))
 on_port net past lawful e p c conn known =
     let path = conn.path in
     let old = facts_of c past in
     let q = port_of path e in
-    let new = facts_added old e (answer_by conn (reserved_on net past q) (slice_index net.capacities q) old e) ++ old in
+    let new = facts_added old e (answer_by conn (reserved_on net past q) (capacity_of net past q) old e) ++ old in
     elim (cases_eq (hop_of path p) 0) [
       | inl z ↦ (
           let a : held_on new path p ≡ 0 = cond-true _ _ _ (eq-eqb _ _ z) in
@@ -97,12 +98,12 @@ on_port net past lawful e p c conn known =
       | inr some ↦ (
           let a : held_on new path p ≡ held_of new (hop_of path p) = cond-false _ _ _ (ne_eqb _ _ some) in
           let b : held_on old path p ≡ held_of old (hop_of path p) = cond-false _ _ _ (ne_eqb _ _ some) in
-          elim (step_within conn (reserved_on net past q) (slice_index net.capacities q) old (lawful_at net past lawful c conn known) e (hop_of path p)) [
+          elim (step_within conn (reserved_on net past q) (capacity_of net past q) old (lawful_at net past lawful c conn known) e (hop_of path p)) [
             | inl less ↦ inl (omega (arith, a, b, less))
             | inr fits ↦ (
                 let here : hop_in (target_of e) ≢ 0 = λ z. some (sym fits.0 ∙ z) in
                 let port : q ≡ p = port_in-hop path (target_of e) here ∙ ap (λ h. slice_index path (h - 1)) fits.0 ∙ hop_of-port path p some in
-                inr (rw (a, b) (subst (λ r. reserved_on net past r - held_of old (hop_of path p) + held_of new (hop_of path p) ≤ slice_index net.capacities r) port fits.1)))
+                inr (rw (a, b) (subst (λ r. reserved_on net past r - held_of old (hop_of path p) + held_of new (hop_of path p) ≤ capacity_of net past r) port fits.1)))
           ])
     ]
 
@@ -113,9 +114,9 @@ reserved_alone net past e p alone =
     (λ d other low. ap (λ (l : List Fact). held_on l other.path p) (facts_of-other net past e d (λ own. none_some d (sym alone ∙ own))))
 
 own_within : (net : Topology) (past : Past) → AllLawful net past → AllWithin net past → (e : Event) (p c : ℕ) → conn_of e ≡ Some c →
-    reserved_on net (after_event net past e) p ≤ slice_index net.capacities p
+    reserved_on net (after_event net past e) p ≤ capacity_of net (after_event net past e) p
 own_within net past lawful within e p c own = elim (cases_option (conn_at net c)) [
-  | inl unknown ↦ subst (λ v. reserved_on net v p ≤ slice_index net.capacities p) (sym (after_event-unknown net past e c own unknown)) (within p)
+  | inl unknown ↦ subst (λ v. reserved_on net v p ≤ capacity_of net v p) (sym (after_event-unknown net past e c own unknown)) (within p)
   | inr known ↦ (
       let conn = known.0 in
       let after = after_event net past e in
@@ -128,15 +129,17 @@ own_within net past lawful within e p c own = elim (cases_option (conn_at net c)
       let now_is = facts_of-own net past e c own ∙ ap (λ (o : Outcome). facts_added (facts_of c past) e o ++ facts_of c past) (outcome_of-known net past e c conn own known.1) in
       let mine = ap (λ (l : List Fact). held_on l conn.path p) now_is in
       let old = within p in
+      let stays = capacity_of-own net past e p c own in
       elim (on_port net past lawful e p c conn known.1) [
-        | inl less ↦ omega (arith, moved, least, old, less, mine)
-        | inr fits ↦ omega (arith, moved, least, old, fits, mine)
+        | inl less ↦ omega (arith, moved, least, old, less, mine, stays)
+        | inr fits ↦ omega (arith, moved, least, old, fits, mine, stays)
       ])
 ]
 
 pub after_event_within : (net : Topology) (past : Past) → AllLawful net past → AllWithin net past → (e : Event) → AllWithin net (after_event net past e)
 after_event_within net past lawful within e p = elim (cases_option (conn_of e)) [
-  | inl alone ↦ subst (λ r. r ≤ slice_index net.capacities p) (sym (reserved_alone net past e p alone)) (within p)
+  | inl alone ↦ subst (λ r. r ≤ capacity_of net (after_event net past e) p) (sym (reserved_alone net past e p alone)) (
+      subst (λ v. reserved_on net past p ≤ capacity_of net v p) (sym (after_event-alone net past e alone)) (alone_within net past e p (within p)))
   | inr own ↦ own_within net past lawful within e p own.0 own.1
 ]
 

@@ -1,6 +1,6 @@
 -- The tables that the facts of a net give its ports.
 use Rattle.std.proofs.Common.{◌≡◌, ◌≢◌, ℕ, zero, suc, ◌+◌, ◌<◌, inl, inr, refl, ap, true, false, List, [], ◌∷◌, ◌++◌, length, map, ◌∙◌, sym, subst, arith}
-use Rattle.std.specs.Prelude.{◌==◌, if◌then◌else◌, slice_index, slice_get, sum_by, AllPairs, Option, None, Some}
+use Rattle.std.specs.Prelude.{◌==◌, if◌then◌else◌, slice_get, sum_by, AllPairs, Option, None, Some}
 use Rattle.std.proofs.lemmas.Bool.{false≢true, ne_eqb, cond-false, cond-true, cases_Bool, cases_order, false_from_ne_true, eqb-false}
 use Rattle.std.specs.List.{slice_index_or, enumerate_from}
 use Rattle.std.specs.FinMap as finmap
@@ -10,18 +10,21 @@ use Rattle.std.specs.declared.cmp.Ordering.TheVariants.{Less, Equal, Greater}
 use Rattle.std.specs.FinMap.{FinMap, insert, values, entries, from_entries, find, put, get-from_entries, get-insert, get-entries, entries-insert, len-entries, len-empty, same_map}
 use Rattle.std.specs.FinMap.Entries.{by_order}
 use Rattle.abt_facts.specs.declared.fact.Fact.{Fact}
+use Rattle.abt_model.specs.declared.event.Event.{Event}
 use Rattle.abt_model.specs.declared.outcome.Outcome.{Outcome}
 use Rattle.abt_net.specs.declared.conn.Conn.{Conn}
 use Rattle.abt_facts.specs.Hop.{held_of}
 use Rattle.abt_net.specs.Topology.{Topology, IsWithinRules, conn_at}
 use Rattle.abt_cell.specs.Channel.{Channel, channel_cmp, same_channel}
 use Rattle.abt_model.specs.Past.{Past, facts_of}
+use Rattle.abt_model.specs.Reserved.{capacity_of}
 use Rattle.abt_net.specs.Paths.{hop_of}
-use Rattle.abt_model.specs.Outcomes.{facts_added, after_event}
-use Rattle.abt_model.specs.PortTable.{kept_at, kept_from, port_table, hop_visited, VisitsBy, TotalsAreReserved, TablesHaveRows, TablesStay}
+use Rattle.abt_model.specs.Outcomes.{conn_of, facts_added, after_event}
+use Rattle.abt_model.specs.PortTable.{kept_at, kept_from, port_table, hop_visited, VisitsBy, Visits, TotalsAreReserved, TablesHaveRows, TablesStay}
 use Rattle.abt_node.specs.Table.{Connection, held_at, connection_at, with_connection}
 use Rattle.abt_model.proofs.Sums.{numbered_sum, holding}
-use Rattle.abt_model.proofs.Worlds.{conn_cases, facts_of-own, facts_of-other, outcome_of-known, AllLawful, lawful_at}
+use Rattle.abt_model.proofs.Capacities.{capacity_of-own, after_event-alone, alone_stays}
+use Rattle.abt_model.proofs.Worlds.{cases_option, conn_cases, facts_of-own, facts_of-other, outcome_of-known, AllLawful, lawful_at}
 use Rattle.abt_model.proofs.AnswerRows.{step_stays}
 use Rattle.abt_model.proofs.Lawful.{route_of}
 use Rattle.abt_model.proofs.Decisions.{held_by-held}
@@ -118,11 +121,12 @@ find_same past after p n (first ∷ conns) q same =
       ]) ∙ sym (cond-false _ _ _ f)
     ]
 
--- two tables of a port are one where each channel finds the same
-tables_same : (net : Topology) (past after : Past) (p : ℕ) → ((q : Channel) → find_from q 0 net.conns after p ≡ find_from q 0 net.conns past p) → port_table net after p ≡ port_table net past p
-tables_same net past after p same =
-    ap (λ (m : FinMap channel_cmp Connection). record { id = p; capacity = slice_index net.capacities p; connections = m })
+-- two tables of a port are one where each channel finds the same and the capacity is one
+tables_same : (net : Topology) (past after : Past) (p : ℕ) → ((q : Channel) → find_from q 0 net.conns after p ≡ find_from q 0 net.conns past p) → capacity_of net after p ≡ capacity_of net past p → port_table net after p ≡ port_table net past p
+tables_same net past after p same force =
+    ap (λ (m : FinMap channel_cmp Connection). record { id = p; capacity = capacity_of net after p; connections = m })
     (same_map channel_cmp_total channel_cmp-IsAntisymmetric (from_entries (kept_from 0 net.conns after p)) (from_entries (kept_from 0 net.conns past p)) (λ q. get-table net after p q ∙ same q ∙ sym (get-table net past p q)))
+    ∙ ap (λ (u : ℕ). record { id = p; capacity = u; connections = from_entries (kept_from 0 net.conns past p) }) force
 
 pub tables_have_rows : (net : Topology) (past : Past) → IsWithinRules net → TablesHaveRows net past
 tables_have_rows net past rules c p conn known through =
@@ -141,14 +145,15 @@ same_number conns c d conn other own at_c at_d same =
 
 -- what one connection keeps is put in its place
 pub table_with : (net : Topology) (past after : Past) (c p : ℕ) (conn : Conn) (new : Connection) → IsWithinRules net → conn_at net c ≡ Some conn → hop_of conn.path p ≢ 0 →
-    new ≡ kept_at conn (facts_of c after) (hop_of conn.path p) → ((d : ℕ) → c ≢ d → facts_of d after ≡ facts_of d past) →
+    new ≡ kept_at conn (facts_of c after) (hop_of conn.path p) → ((d : ℕ) → c ≢ d → facts_of d after ≡ facts_of d past) → capacity_of net after p ≡ capacity_of net past p →
     with_connection (port_table net past p) conn.vc new ≡ port_table net after p
-table_with net past after c p conn new rules known through is others =
-    ap (λ (m : FinMap channel_cmp Connection). record { id = p; capacity = slice_index net.capacities p; connections = m })
+table_with net past after c p conn new rules known through is others force =
+    ap (λ (m : FinMap channel_cmp Connection). record { id = p; capacity = capacity_of net past p; connections = m })
     (same_map channel_cmp_total channel_cmp-IsAntisymmetric (insert (from_entries (kept_from 0 net.conns past p)) conn.vc new) (from_entries (kept_from 0 net.conns after p)) (λ q.
     get-insert channel_cmp_total (from_entries (kept_from 0 net.conns past p)) conn.vc new q
     ∙ (λ i. if sym (same_channel_tied q conn.vc) i then Some new else get-table net past p q i)
     ∙ at_channel q ∙ sym (get-table net after p q)))
+    ∙ ap (λ (u : ℕ). record { id = p; capacity = u; connections = from_entries (kept_from 0 net.conns after p) }) (sym force)
   where
     at_channel : (q : Channel) → (if same_channel q conn.vc then Some new else find_from q 0 net.conns past p) ≡ find_from q 0 net.conns after p
     at_channel q = elim (cases_Bool (same_channel q conn.vc)) [
@@ -230,6 +235,12 @@ totals_reserved net past rules lawful p =
 
 -- ---- what does not come to a port
 
+capacity_stays : (net : Topology) (past : Past) (e : Event) (p : ℕ) → ¬ Visits net e p → capacity_of net (after_event net past e) p ≡ capacity_of net past p
+capacity_stays net past e p away = elim (cases_option (conn_of e)) [
+  | inl alone ↦ ap (λ (v : Past). capacity_of net v p) (after_event-alone net past e alone) ∙ alone_stays net past e p (λ comes. away (subst (VisitsBy net e p) (sym alone) comes))
+  | inr own ↦ capacity_of-own net past e p own.0 own.1
+]
+
 pub tables_stay : (net : Topology) (past : Past) → IsWithinRules net → AllLawful net past → TablesStay net past
 tables_stay net past rules lawful e p rate away = tables_same net past (after_event net past e) p (λ q. find_same past (after_event net past e) p 0 net.conns q (λ i conn at is through. (
     let number : i ≡ 0 + i = omega arith in
@@ -242,4 +253,4 @@ tables_stay net past rules lawful e p rate away = tables_same net past (after_ev
           let stays = step_stays conn _ _ (facts_of i past) (lawful_at net past lawful i conn at) e (hop_of conn.path p) (let some : hop_of conn.path p ≢ 0 = through in omega arith) elsewhere in
           ap (λ (l : List Fact). kept_at conn l (hop_of conn.path p)) now_is ∙ stays)
       | inr differ ↦ ap (λ (l : List Fact). kept_at conn l (hop_of conn.path p)) (facts_of-other net past e i differ)
-    ]))))
+    ])))) (capacity_stays net past e p away)

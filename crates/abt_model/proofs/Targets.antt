@@ -1,13 +1,13 @@
 -- Each event has one target, and each target one event.
 use Rattle.std.proofs.Common.{◌≡◌, ℕ, refl, sym, ap, ◌∙◌}
 use Rattle.abt_model.specs.declared.event.Event.{Event}
-use Rattle.abt_model.specs.declared.event.Event.TheVariants.{Start, Ask, Again, Crash, Emit, Arrive, Request, Turn, Answer, Told}
+use Rattle.abt_model.specs.declared.event.Event.TheVariants.{Start, Ask, Again, Crash, Emit, Arrive, Request, Turn, Answer, Told, Capacity}
 use Rattle.abt_model.specs.declared.target.SourceEvent.{SourceEvent}
 use Rattle.abt_model.specs.declared.target.SourceEvent.TheVariants as source
 use Rattle.abt_model.specs.declared.target.HopEvent.{HopEvent}
 use Rattle.abt_model.specs.declared.target.HopEvent.TheVariants as hop
 use Rattle.abt_model.specs.declared.target.Target.{Target}
-use Rattle.abt_model.specs.declared.target.Target.TheVariants.{Source, Hop, End}
+use Rattle.abt_model.specs.declared.target.Target.TheVariants.{Source, Hop, End, Port}
 use Rattle.abt_model.specs.Targets.{target_of, event_at, event_at_source, event_at_hop}
 
 pub event_there : (e : Event) → event_at (target_of e) ≡ e
@@ -21,6 +21,7 @@ event_there (Request c j s) = refl
 event_there (Turn c s) = refl
 event_there (Answer c j s granted) = refl
 event_there (Told c s granted) = refl
+event_there (Capacity p u) = refl
 
 at_source : (c : ℕ) (x : SourceEvent) → target_of (event_at_source c x) ≡ Source c x
 at_source c (source.Start now) = refl
@@ -39,6 +40,7 @@ pub target_there : (t : Target) → target_of (event_at t) ≡ t
 target_there (Source c x) = at_source c x
 target_there (Hop c x) = at_hop c x
 target_there (End c s) = refl
+target_there (Port p u) = refl
 
 -- the event of a target
 pub event_is : (e : Event) (t : Target) → target_of e ≡ t → e ≡ event_at t

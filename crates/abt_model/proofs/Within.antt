@@ -5,7 +5,7 @@ use Rattle.std.proofs.lemmas.Bool.{ne_eqb, cond-false, cases_eq, cond_both}
 use Rattle.abt_facts.specs.declared.fact.Fact.{Fact}
 use Rattle.abt_facts.specs.declared.fact.Fact.TheVariants.{Asked, Delivered, Passed, Shut}
 use Rattle.abt_model.specs.declared.event.Event.{Event}
-use Rattle.abt_model.specs.declared.event.Event.TheVariants.{Start, Ask, Again, Crash, Emit, Arrive, Request, Turn, Answer, Told}
+use Rattle.abt_model.specs.declared.event.Event.TheVariants.{Start, Ask, Again, Crash, Emit, Arrive, Request, Turn, Answer, Told, Capacity}
 use Rattle.abt_model.specs.declared.outcome.Outcome.{Outcome}
 use Rattle.abt_net.specs.declared.conn.Conn.{Conn}
 use Rattle.abt_keep.specs.Record.{KeptRecord}
@@ -160,6 +160,7 @@ step_within conn reserved capacity fs lawful (Emit c now) i = up_within reserved
 step_within conn reserved capacity fs lawful (Arrive c n a) i = arrive_within conn reserved capacity fs c n a i
 step_within conn reserved capacity fs lawful (Ask c r plan) i = up_within reserved capacity fs (Ask c r plan) _ (state_of fs) i (ask_within (route_of conn) reserved capacity fs lawful conn.vc c r i plan)
 step_within conn reserved capacity fs lawful (Again c) i = inl (omega arith)
+step_within conn reserved capacity fs lawful (Capacity p u) i = inl (omega arith)
 step_within conn reserved capacity fs lawful (Crash c) i = up_within reserved capacity fs (Crash c) HasCrashed (state_of fs) i (inl (omega arith))
 step_within conn reserved capacity fs lawful (Request c j s) i =
     let P : Outcome → Type 0 = λ o. IsWithin reserved capacity j fs (facts_added fs (Request c j s) o ++ fs) i in

@@ -1,6 +1,6 @@
 -- What the facts of each connection say after every list of events.
 use Rattle.std.proofs.Common.{◌≡◌, ◌≢◌, ℕ, zero, suc, ◌⊎◌, inl, inr, refl, ap, List, [], ◌∷◌, ◌++◌, ◌∙◌, sym, subst, arith}
-use Rattle.std.specs.Prelude.{slice_index, slice_get, All, Option, None, Some}
+use Rattle.std.specs.Prelude.{slice_get, All, Option, None, Some}
 use Rattle.std.proofs.lemmas.Bool.{ne_eqb, eq-eqb, cond-false, cond-true, cases_eq}
 use Rattle.abt_facts.specs.declared.fact.Fact.{Fact}
 use Rattle.abt_model.specs.declared.event.Event.{Event}
@@ -11,9 +11,10 @@ use Rattle.abt_model.specs.declared.outcome.Outcome.TheVariants.{NotEnabled}
 use Rattle.abt_net.specs.Topology.{Topology, conn_at}
 use Rattle.abt_model.specs.Events.{AsksRate}
 use Rattle.abt_model.specs.Past.{Past, facts_of, with_facts}
-use Rattle.abt_model.specs.Reserved.{reserved_on}
+use Rattle.abt_model.specs.Reserved.{reserved_on, capacity_of}
 use Rattle.abt_model.specs.Answers.{answer_by}
 use Rattle.abt_model.specs.Outcomes.{conn_of, port_of, outcome_at, outcome_by, outcome_of, facts_added, past_by, after_event}
+use Rattle.abt_model.proofs.Capacities.{port_facts_apart}
 use Rattle.abt_model.proofs.Lawful.{route_of, IsLawful}
 use Rattle.abt_model.proofs.Steps.{down_adds, step_lawful}
 
@@ -51,7 +52,7 @@ facts_of-own net past e c own =
     ∙ facts_of-with_facts c (facts_added (facts_of c past) e (outcome_of net past e)) past
 
 other_facts : (past : Past) (e : Event) (outcome : Outcome) (o : Option ℕ) (d : ℕ) → o ≢ Some d → facts_of d (past_by past e outcome o) ≡ facts_of d past
-other_facts past e outcome None d differ = refl
+other_facts past e outcome None d differ = port_facts_apart e outcome d past
 other_facts past e outcome (Some c) d differ = facts_of-with_facts_other c d _ past (λ same. differ (ap Some same))
 
 pub facts_of-other : (net : Topology) (past : Past) (e : Event) (d : ℕ) → conn_of e ≢ Some d → facts_of d (after_event net past e) ≡ facts_of d past
@@ -59,7 +60,7 @@ facts_of-other net past e d differ = other_facts past e (outcome_of net past e) 
 
 -- the outcome of an event of a connection of the net
 pub outcome_of-known : (net : Topology) (past : Past) (e : Event) (c : ℕ) (conn : Conn) → conn_of e ≡ Some c → conn_at net c ≡ Some conn →
-    outcome_of net past e ≡ answer_by conn (reserved_on net past (port_of conn.path e)) (slice_index net.capacities (port_of conn.path e)) (facts_of c past) e
+    outcome_of net past e ≡ answer_by conn (reserved_on net past (port_of conn.path e)) (capacity_of net past (port_of conn.path e)) (facts_of c past) e
 outcome_of-known net past e c conn own known =
     ap (outcome_by net past e) own ∙ ap (λ (o : Option Conn). outcome_at net past c o e) known
 

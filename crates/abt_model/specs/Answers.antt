@@ -1,6 +1,6 @@
 -- What the events of one connection answer, by the connection's facts, the newest first (docs/FORMATS.md, "Events and
 -- outcomes"). The causes that stop an event are tried in the order of that table.
-use Rattle.std.specs.Prelude.{ℕ, ◌+◌, ◌-◌, ◌==◌, ◌&&◌, not, nat_lt, nat_le, Bool, true, false, List, length, if◌then◌else◌, min}
+use Rattle.std.specs.Prelude.{ℕ, ◌+◌, ◌-◌, ◌==◌, ◌&&◌, not, nat_lt, nat_le, Bool, true, false, List, length, if◌then◌else◌, min, Result, Ok, Err}
 use Rattle.abt_rate.specs.Limits.{emit_max, number_max, start_max}
 use Rattle.abt_rate.specs.Rate.{spacing_of}
 use Rattle.abt_cell.specs.Channel.{Channel}
@@ -10,6 +10,7 @@ use Rattle.abt_keep.specs.declared.plan.StorePlan.TheVariants.{Works, FailsBefor
 use Rattle.abt_shaper.specs.declared.fault.ShapeFault.TheVariants.{TimeRange, Zero, TooSoon}
 use Rattle.abt_source.specs.declared.fault.StartFault.TheVariants.{TimeRange as StartTimeRange}
 use Rattle.abt_source.specs.declared.fault.AskFault.TheVariants.{SeqExhausted, Keep}
+use Rattle.abt_ledger.specs.declared.fault.CapacityFault.{CapacityFault}
 use Rattle.abt_net.specs.declared.conn.Conn.{Conn}
 use Rattle.abt_facts.specs.declared.fact.Fact.{Fact}
 use Rattle.abt_facts.specs.Source.{SourceState, Down, Idle, Asking, state_of, rate_of, last_of, clock_of, next_of, writes}
@@ -17,12 +18,12 @@ use Rattle.abt_facts.specs.Sent.{request_is_at, request_is_through, answer_is_at
 use Rattle.abt_facts.specs.Hop.{held_of}
 use Rattle.abt_facts.specs.Cells.{emitted_of, fence_of, last_arrival_of, is_in_time, verdict_at}
 use Rattle.abt_model.specs.declared.event.Event.{Event}
-use Rattle.abt_model.specs.declared.event.Event.TheVariants.{Start, Ask, Again, Crash, Emit, Arrive, Request, Turn, Answer, Told}
+use Rattle.abt_model.specs.declared.event.Event.TheVariants.{Start, Ask, Again, Crash, Emit, Arrive, Request, Turn, Answer, Told, Capacity}
 use Rattle.abt_model.specs.declared.outcome.Cause.TheVariants.{Down as IsDown, Running, NotSent, Fenced, Delay, ClockBack, Unknown, NotAsking}
 use Rattle.abt_model.specs.declared.outcome.Heard.{Heard}
 use Rattle.abt_model.specs.declared.outcome.Heard.TheVariants.{Raised, Refused, Ignored}
 use Rattle.abt_model.specs.declared.outcome.Outcome.{Outcome}
-use Rattle.abt_model.specs.declared.outcome.Outcome.TheVariants.{Started, StartRefused, Asked, AskRefused, Repeated, Crashed, Emitted, EmitRefused, Arrived, Requested, Turned, Answered, Told as HasTold, NotEnabled}
+use Rattle.abt_model.specs.declared.outcome.Outcome.TheVariants.{Started, StartRefused, Asked, AskRefused, Repeated, Crashed, Emitted, EmitRefused, Arrived, Requested, Turned, Answered, Told as HasTold, CapacitySet, CapacityRefused, NotEnabled}
 use Rattle.abt_model.specs.Decision.{request_decision, answer_decision}
 use Rattle.abt_source.specs.SourceFacts.{request_of}
 
@@ -92,7 +93,8 @@ told_answer (Asking newest) seq granted = if newest == seq then hearing granted 
 abbrev pub is_hop : (hops j : ℕ) → Bool
 is_hop hops j = nat_le 1 j && nat_le j hops
 
--- What an event of this connection answers, where so much is reserved on the port that it comes to, of this capacity.
+-- What an event of this connection answers, where so much is reserved on the port that it comes to, of this capacity. One of a port
+-- alone is of no connection.
 abbrev pub answer_by : Conn → (reserved capacity : ℕ) → List Fact → Event → Outcome
 answer_by conn reserved capacity facts (Start c now) = start_answer (state_of facts) facts now
 answer_by conn reserved capacity facts (Ask c rate plan) = if_up (state_of facts) (ask_answer conn.vc facts rate plan)
@@ -113,3 +115,9 @@ answer_by conn reserved capacity facts (Answer c hop seq granted) =
 answer_by conn reserved capacity facts (Told c seq granted) =
     if not (answer_is_home facts seq granted) then NotEnabled NotSent
     else HasTold (told_answer (state_of facts) seq granted)
+answer_by conn reserved capacity facts (Capacity p u) = NotEnabled Unknown
+
+-- what an event answers by which a port is to have another capacity, where the port answers this
+abbrev pub capped : Result (Unit {0}) CapacityFault → Outcome
+capped (Ok done) = CapacitySet
+capped (Err fault) = CapacityRefused fault

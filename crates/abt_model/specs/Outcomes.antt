@@ -1,5 +1,5 @@
 -- What an event answers after the past of a net, and which facts it adds.
-use Rattle.std.specs.Prelude.{ℕ, ◌+◌, ◌==◌, Bool, true, false, List, [], ◌∷◌, if◌then◌else◌, Option, None, Some}
+use Rattle.std.specs.Prelude.{ℕ, ◌+◌, ◌==◌, Bool, true, false, List, [], ◌∷◌, if◌then◌else◌, Option, None, Some, nat_lt, ◌++◌, length}
 use Rattle.abt_keep.specs.Record.{KeptRecord}
 use Rattle.abt_keep.specs.declared.plan.StorePlan.TheVariants.{FailsAfter}
 use Rattle.abt_node.specs.declared.reply.Onward.{Onward}
@@ -15,15 +15,17 @@ use Rattle.abt_facts.specs.Source.{rate_of, stored_of, writes, written_for}
 use Rattle.abt_facts.specs.Hop.{held_of}
 use Rattle.abt_facts.specs.Cells.{emitted_of}
 use Rattle.abt_model.specs.declared.event.Event.{Event}
-use Rattle.abt_model.specs.declared.event.Event.TheVariants.{Start, Ask, Crash, Emit, Arrive, Request, Turn, Answer, Told}
+use Rattle.abt_model.specs.declared.event.Event.TheVariants.{Start, Ask, Crash, Emit, Arrive, Request, Turn, Answer, Told, Capacity}
+use Rattle.abt_ledger.specs.Capacity.{capacity_fault, capacity_answer}
+use Rattle.abt_model.specs.declared.net_fact.NetFact.TheVariants.{Capped}
 use Rattle.abt_model.specs.declared.outcome.Cause.TheVariants.{Unknown}
 use Rattle.abt_model.specs.declared.outcome.Heard.TheVariants.{Raised, Refused}
 use Rattle.abt_model.specs.declared.outcome.Outcome.{Outcome}
-use Rattle.abt_model.specs.declared.outcome.Outcome.TheVariants.{Started, Asked, AskRefused, Crashed, Emitted, Arrived, Requested, Turned, Answered, Told as HasTold, NotEnabled}
+use Rattle.abt_model.specs.declared.outcome.Outcome.TheVariants.{Started, Asked, AskRefused, Crashed, Emitted, Arrived, Requested, Turned, Answered, Told as HasTold, CapacitySet, NotEnabled}
 use Rattle.abt_model.specs.Targets.{target_of, conn_in, port_in}
 use Rattle.abt_model.specs.Past.{Past, facts_of, with_facts}
 use Rattle.abt_model.specs.Reserved.{reserved_on, capacity_of}
-use Rattle.abt_model.specs.Answers.{answer_by}
+use Rattle.abt_model.specs.Answers.{answer_by, capped}
 
 -- the connection of an event, if it is of one, and the port that it comes to, by the path of its connection
 abbrev pub conn_of : Event → Option ℕ
@@ -39,9 +41,15 @@ outcome_at net past c (Some conn) event =
     let port = port_of conn.path event in
     answer_by conn (reserved_on net past port) (capacity_of net past port) (facts_of c past) event
 
--- what an event answers: one of a connection by its facts, and of a port alone none is known
+-- what an event of a port alone answers: a capacity is set if no less than what is reserved on the port, and within the limit
+abbrev pub outcome_alone : Topology → Past → Event → Outcome
+outcome_alone net past (Capacity p u) =
+    if nat_lt p (length net.capacities) then capped (capacity_answer (capacity_fault (reserved_on net past p) u)) else NotEnabled Unknown
+outcome_alone net past event = NotEnabled Unknown
+
+-- what an event answers: one of a connection by its facts
 abbrev pub outcome_by : Topology → Past → Event → Option ℕ → Outcome
-outcome_by net past event None = NotEnabled Unknown
+outcome_by net past event None = outcome_alone net past event
 outcome_by net past event (Some c) = outcome_at net past c (conn_at net c) event
 
 -- what an event answers after this past
@@ -82,9 +90,14 @@ facts_added facts (Told c seq granted) (HasTold Raised) = FactHeard seq true ∷
 facts_added facts (Told c seq granted) (HasTold Refused) = FactHeard seq false ∷ []
 facts_added facts event outcome = []
 
--- the past with the facts that an event adds by what it answers: those of its connection, if it is of one
+-- the facts that an event of a port alone adds, by what it answers
+abbrev pub port_facts_added : Event → Outcome → Past
+port_facts_added (Capacity p u) CapacitySet = Capped p u ∷ []
+port_facts_added event outcome = []
+
+-- the past with the facts that an event adds by what it answers: those of its connection, if it is of one, else those of its port
 abbrev pub past_by : Past → Event → Outcome → Option ℕ → Past
-past_by past event outcome None = past
+past_by past event outcome None = port_facts_added event outcome ++ past
 past_by past event outcome (Some c) = with_facts c (facts_added (facts_of c past) event outcome) past
 
 -- the past after an event

@@ -1,6 +1,6 @@
 -- The table that the facts of a net give a port: what each connection through it reserves and, at its first hop, what its policer
 -- keeps.
-use Rattle.std.specs.Prelude.{◌≡◌, ◌≢◌, ℕ, ◌+◌, ◌≤◌, ◌==◌, Bool, List, [], ◌∷◌, if◌then◌else◌, max, unwrap_or, Option, None, Some, Ok}
+use Rattle.std.specs.Prelude.{◌≡◌, ◌≢◌, ℕ, ◌+◌, ◌<◌, ◌≤◌, ◌==◌, Bool, List, [], ◌∷◌, length, if◌then◌else◌, max, unwrap_or, Option, None, Some, Result, Ok}
 use Rattle.std.specs.FinMap.{from_entries}
 use Rattle.abt_cell.specs.Channel.{Channel}
 use Rattle.abt_gcra.specs.declared.verdict.Verdict.{Verdict}
@@ -9,13 +9,16 @@ use Rattle.abt_gcra.specs.Policing.{Policing}
 use Rattle.abt_node.specs.declared.reply.Onward.{Onward}
 use Rattle.abt_node.specs.declared.reply.Back.{Back}
 use Rattle.abt_node.specs.Table as table
-use Rattle.abt_node.specs.Table.{Connection, Table, connection_at, sum_of, reply_to, table_after, table_after_answer, arrival_at, table_after_arrival}
+use Rattle.abt_node.specs.Table.{Connection, Table, connection_at, sum_of, reply_to, table_after, table_after_answer, arrival_at, table_after_arrival, capacity_set, table_after_capacity}
+use Rattle.abt_ledger.specs.declared.fault.CapacityFault.{CapacityFault}
 use Rattle.abt_net.specs.declared.conn.Conn.{Conn}
 use Rattle.abt_net.specs.Topology.{Topology, conn_at}
 use Rattle.abt_facts.specs.declared.fact.Fact.{Fact}
 use Rattle.abt_facts.specs.Cells.{taken_of, last_arrival_of}
 use Rattle.abt_model.specs.declared.event.Event.{Event}
-use Rattle.abt_model.specs.declared.event.Event.TheVariants.{Request, Answer, Arrive}
+use Rattle.abt_model.specs.declared.event.Event.TheVariants.{Request, Answer, Arrive, Capacity}
+use Rattle.abt_model.specs.declared.target.Target.{Target}
+use Rattle.abt_model.specs.declared.target.Target.TheVariants.{Port}
 use Rattle.abt_model.specs.declared.outcome.Outcome.TheVariants.{Arrived, Requested, Answered}
 use Rattle.abt_model.specs.Targets.{target_of, hop_in}
 use Rattle.abt_model.specs.Events.{AsksRate}
@@ -25,6 +28,7 @@ use Rattle.abt_net.specs.Paths.{hop_of}
 use Rattle.abt_cell.specs.Message.{answer_to}
 use Rattle.abt_source.specs.SourceFacts.{request_of}
 use Rattle.abt_model.specs.Decision.{reservation_at}
+use Rattle.abt_model.specs.Answers.{capped}
 use Rattle.abt_model.specs.Outcomes.{conn_of, outcome_of, after_event}
 
 -- the theoretical arrival time after cells that were taken, the last first
@@ -63,9 +67,14 @@ port_table net past p = record {
 abbrev pub hop_visited : Event → ℕ
 hop_visited event = hop_in (target_of event)
 
+-- what happens at a port alone comes to that port, if the net has it
+abbrev pub VisitsAlone : Topology → Target → ℕ → Type 0
+VisitsAlone net (Port q capacity) p = (q ≡ p) × (q < length net.capacities)
+VisitsAlone net other p = ⊥
+
 -- an event comes to a port: one of a connection to that at a hop of its path
 abbrev pub VisitsBy : Topology → Event → ℕ → Option ℕ → Type 0
-VisitsBy net event p None = ⊥
+VisitsBy net event p None = VisitsAlone net (target_of event) p
 VisitsBy net event p (Some c) = (conn : Conn) × (conn_at net c ≡ Some conn) × (1 ≤ hop_visited event) × (hop_of conn.path p ≡ hop_visited event)
 
 abbrev pub Visits : Topology → Event → ℕ → Type 0
@@ -104,6 +113,13 @@ ArrivalsServed net past =
     outcome_of net past (Arrive c cell at) ≡ Arrived verdict →
     (arrival_at (port_table net past p) conn.vc at ≡ Ok verdict) ×
     (table_after_arrival (port_table net past p) conn.vc at ≡ port_table net (after_event net past (Arrive c cell at)) p)
+
+-- The same of a capacity that a port is to have, whether it is set or refused.
+abbrev pub CapacitiesServed : Topology → Past → Type 0
+CapacitiesServed net past =
+    (p capacity : ℕ) (answer : Result (Unit {0}) CapacityFault) → outcome_of net past (Capacity p capacity) ≡ capped answer →
+    (capacity_set (port_table net past p) capacity ≡ answer) ×
+    (table_after_capacity (port_table net past p) capacity ≡ port_table net (after_event net past (Capacity p capacity)) p)
 
 -- A port to which an event doesn't come keeps its table.
 abbrev pub TablesStay : Topology → Past → Type 0

@@ -1,13 +1,13 @@
--- Where an event happens: at the source of a connection, at a hop of its path, or at the end of that path.
-use Rattle.std.specs.Prelude.{ℕ, ◌-◌, List, slice_index, Option, Some}
+-- Where an event happens: at the source of a connection, at a hop of its path, at the end of that path, or at a port alone.
+use Rattle.std.specs.Prelude.{ℕ, ◌-◌, List, slice_index, Option, None, Some}
 use Rattle.abt_model.specs.declared.event.Event.{Event}
-use Rattle.abt_model.specs.declared.event.Event.TheVariants.{Start, Ask, Again, Crash, Emit, Arrive, Request, Turn, Answer, Told}
+use Rattle.abt_model.specs.declared.event.Event.TheVariants.{Start, Ask, Again, Crash, Emit, Arrive, Request, Turn, Answer, Told, Capacity}
 use Rattle.abt_model.specs.declared.target.SourceEvent.{SourceEvent}
 use Rattle.abt_model.specs.declared.target.SourceEvent.TheVariants as source
 use Rattle.abt_model.specs.declared.target.HopEvent.{HopEvent}
 use Rattle.abt_model.specs.declared.target.HopEvent.TheVariants as hop
 use Rattle.abt_model.specs.declared.target.Target.{Target}
-use Rattle.abt_model.specs.declared.target.Target.TheVariants.{Source, Hop, End}
+use Rattle.abt_model.specs.declared.target.Target.TheVariants.{Source, Hop, End, Port}
 
 abbrev pub target_of : Event → Target
 target_of (Start c now) = Source c (source.Start now)
@@ -20,6 +20,7 @@ target_of (Arrive c cell at) = Hop c (hop.Arrive cell at)
 target_of (Request c j seq) = Hop c (hop.Request j seq)
 target_of (Answer c j seq granted) = Hop c (hop.Answer j seq granted)
 target_of (Turn c seq) = End c seq
+target_of (Capacity p capacity) = Port p capacity
 
 -- the event at the source of a connection, and that at a hop of its path
 abbrev pub event_at_source : ℕ → SourceEvent → Event
@@ -40,12 +41,14 @@ abbrev pub event_at : Target → Event
 event_at (Source c event) = event_at_source c event
 event_at (Hop c event) = event_at_hop c event
 event_at (End c seq) = Turn c seq
+event_at (Port p capacity) = Capacity p capacity
 
 -- the connection, if it is of one
 abbrev pub conn_in : Target → Option ℕ
 conn_in (Source c event) = Some c
 conn_in (Hop c event) = Some c
 conn_in (End c seq) = Some c
+conn_in (Port p capacity) = None
 
 -- the hop that something comes to: a cell comes to the first
 abbrev pub hop_met_by : HopEvent → ℕ
@@ -58,9 +61,11 @@ abbrev pub hop_in : Target → ℕ
 hop_in (Source c event) = 0
 hop_in (Hop c event) = hop_met_by event
 hop_in (End c seq) = 0
+hop_in (Port p capacity) = 0
 
--- the port at that hop
+-- the port at that hop, or that which it happens at alone
 abbrev pub port_in : List ℕ → Target → ℕ
 port_in path (Source c event) = 0
 port_in path (Hop c event) = slice_index path (hop_met_by event - 1)
 port_in path (End c seq) = 0
+port_in path (Port p capacity) = p

@@ -3,7 +3,7 @@ use abt_keep::StorePlan;
 use abt_rate::Rate;
 
 /// One thing that happens (docs/FORMATS.md, "Events and outcomes"). A connection is its place in the net, from 0; a hop
-/// counts from 1, a cell from 0; moments are picoseconds. Requests and answers are named by the number of the request.
+/// counts from 1, a cell from 0; moments are picoseconds. A port is its place in the net too, from 0. Requests and answers are named by the number of the request.
 #[derive(Clone, Copy, Debug, PartialEq, Eq)]
 pub enum Event {
     /// A source starts.
@@ -59,5 +59,10 @@ pub enum Event {
         conn: u16,
         seq: u32,
         granted: bool,
+    },
+    /// The link behind a port is to have another capacity, in units of 1/512 cell per second.
+    Capacity {
+        port: u16,
+        capacity: u64,
     },
 }

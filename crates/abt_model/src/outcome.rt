@@ -1,7 +1,7 @@
 //! What an event answers.
 use abt_cell::Request;
 use abt_gcra::Verdict;
-use abt_node::{Back, Onward};
+use abt_node::{Back, CapacityFault, Onward};
 use abt_shaper::ShapeFault;
 use abt_source::{AskFault, StartFault};
 
@@ -21,7 +21,7 @@ pub enum Cause {
     Delay,
     /// The moment is before the last one.
     ClockBack,
-    /// There is no such connection, or its path has no such hop.
+    /// There is no such connection, or its path has no such hop, or there is no such port.
     Unknown,
     /// The source waits for no answer.
     NotAsking,
@@ -67,6 +67,10 @@ pub enum Outcome {
     Answered(Back),
     /// What the source made of the answer.
     Told(Heard),
+    /// The link has the capacity.
+    CapacitySet,
+    /// The link keeps the capacity that it had.
+    CapacityRefused(CapacityFault),
     /// The event could not happen.
     NotEnabled(Cause),
 }

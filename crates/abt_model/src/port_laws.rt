@@ -1,7 +1,7 @@
 //! The tables of ports follow the facts.
 ghost use Rattle.abt_model.specs.Promises.{EveryPast};
 ghost use Rattle.abt_model.specs.PortTable.{TotalsAreReserved, TablesHaveRows, TablesStay};
-ghost use Rattle.abt_model.specs.PortTable.{RequestsServed, AnswersServed, ArrivalsServed};
+ghost use Rattle.abt_model.specs.PortTable.{RequestsServed, AnswersServed, ArrivalsServed, CapacitiesServed};
 
 /// The table that the facts give a port has each connection through it, and its total is what is reserved on the port.
 ///
@@ -19,5 +19,6 @@ pub fn tables_follow_facts()
     ensures requests { EveryPast RequestsServed }
     ensures answers { EveryPast AnswersServed }
     ensures arrivals { EveryPast ArrivalsServed }
+    ensures capacities { EveryPast CapacitiesServed }
     ensures same { EveryPast TablesStay }
 {}

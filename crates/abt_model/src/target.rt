@@ -45,6 +45,8 @@ pub enum Target {
     Hop { conn: u16, event: HopEvent },
     /// At the end of a connection's path, where the request of this number is turned into a yes.
     End { conn: u16, seq: u32 },
+    /// At a port alone, whose link is to have this capacity, in units. A port is its place in the net, from 0.
+    Port { port: u16, capacity: u64 },
 }
 
 impl Event {
@@ -70,6 +72,7 @@ impl Event {
                 granted,
             } => { at_hop(conn, HopEvent::Answer { hop, seq, granted }) }
             Event::Turn { conn, seq } => Target::End { conn, seq },
+            Event::Capacity { port, capacity } => Target::Port { port, capacity },
         }
     }
 
@@ -148,6 +151,7 @@ impl Target {
             Target::Source { conn, event } => event.at(conn),
             Target::Hop { conn, event } => event.at(conn),
             Target::End { conn, seq } => Event::Turn { conn, seq },
+            Target::Port { port, capacity } => Event::Capacity { port, capacity },
         }
     }
 
@@ -159,6 +163,7 @@ impl Target {
             Target::Source { conn, .. } | Target::Hop { conn, .. } | Target::End { conn, .. } => {
                 Some(conn)
             }
+            Target::Port { .. } => None,
         }
     }
 }

@@ -11,7 +11,7 @@ use Rattle.abt_scenario.specs.declared.engine.EngineFault.TheVariants as engine
 use Rattle.abt_scenario.specs.declared.fault.ScenarioFault.{ScenarioFault}
 use Rattle.abt_scenario.specs.declared.fault.ScenarioFault.TheVariants as scenario
 use Rattle.abt_perform.specs.declared.fault.Fault.{Fault}
-use Rattle.abt_perform.specs.declared.fault.Fault.TheVariants.{Code, Hex, Length, Rm, Full, Read, TooLong, NotUtf8, Scenario, Workers, Scripts, Thread, Wound, Gather, NoOrder, Mismatch, Write, Memory}
+use Rattle.abt_perform.specs.declared.fault.Fault.TheVariants.{Code, Hex, Length, Rm, Full, Read, TooLong, NotUtf8, Scenario, Workers, Scripts, Operator, Thread, Wound, Gather, NoOrder, Mismatch, Write, Memory}
 
 abbrev pub rm_fault_name : RmFault → Text
 rm_fault_name NotRm = codes "NotRm"
@@ -40,6 +40,7 @@ scenario_fault_name (scenario.WrongType key) = codes "WrongType " ⋅ key_name k
 scenario_fault_name (scenario.Net fault) = codes "Net " ⋅ net_fault_name fault
 scenario_fault_name (scenario.EventText number) = codes "EventText " ⋅ decimal number
 scenario_fault_name (scenario.ScriptText connection number) = codes "ScriptText " ⋅ decimal connection ⋅ codes " " ⋅ decimal number
+scenario_fault_name (scenario.OperatorText number) = codes "OperatorText " ⋅ decimal number
 scenario_fault_name scenario.Memory = codes "memory"
 
 -- what a fault of the engine is to the program
@@ -63,6 +64,7 @@ fault_name NotUtf8 = codes "NotUtf8"
 fault_name (Scenario fault) = scenario_fault_name fault
 fault_name Workers = codes "Workers"
 fault_name Scripts = codes "Scripts"
+fault_name Operator = codes "Operator"
 fault_name Thread = codes "Thread"
 fault_name Wound = codes "Wound"
 fault_name Gather = codes "Gather"

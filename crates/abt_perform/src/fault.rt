@@ -33,6 +33,8 @@ pub enum Fault {
     Workers,
     /// A jitter is above its connection's tau.
     Scripts,
+    /// The operator's list names a port that the net doesn't have.
+    Operator,
     /// A thread couldn't be started.
     Thread,
     /// A port's journal was shorter than what a worker had seen of it.

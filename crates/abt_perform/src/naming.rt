@@ -45,6 +45,7 @@ pub(crate) fn name_of(fault: Fault) -> FaultName
         Fault::Scenario(fault) => scenario_name_of(fault),
         Fault::Workers => words_alone("Workers"),
         Fault::Scripts => words_alone("Scripts"),
+        Fault::Operator => words_alone("Operator"),
         Fault::Thread => words_alone("Thread"),
         Fault::Wound => words_alone("Wound"),
         Fault::Gather => words_alone("Gather"),
@@ -94,6 +95,7 @@ fn scenario_name_of(fault: ScenarioFault) -> FaultName
             words: "ScriptText",
             fields: Fields::Two(connection, number),
         },
+        ScenarioFault::OperatorText { number } => numbered("OperatorText", number),
         ScenarioFault::Memory => words_alone("memory"),
     }
 }

@@ -1,6 +1,6 @@
 -- What the faults of a run, and of showing it, are to the program.
 use Rattle.abt_perform.specs.declared.fault.Fault.{Fault}
-use Rattle.abt_perform.specs.declared.fault.Fault.TheVariants.{Workers, Scripts, Thread, Wound, Gather, NoOrder, Mismatch, Write, Memory}
+use Rattle.abt_perform.specs.declared.fault.Fault.TheVariants.{Workers, Scripts, Operator, Thread, Wound, Gather, NoOrder, Mismatch, Write, Memory}
 use Rattle.abt_threads.specs.declared.fault.RunFault.{RunFault}
 use Rattle.abt_threads.specs.declared.fault.RunFault.TheVariants as run
 use Rattle.abt_weave.specs.declared.fault.WeaveFault.{WeaveFault}
@@ -11,6 +11,7 @@ use Rattle.abt_perform_threads.specs.declared.showing.ShowFault.TheVariants as s
 abbrev pub fault_of_run : RunFault → Fault
 fault_of_run run.Workers = Workers
 fault_of_run run.Scripts = Scripts
+fault_of_run run.Operator = Operator
 fault_of_run run.Thread = Thread
 fault_of_run (run.Wound seen found) = Wound
 fault_of_run (run.Gather fault) = Gather

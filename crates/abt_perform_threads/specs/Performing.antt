@@ -7,12 +7,13 @@ use Rattle.abt_scenario.specs.Scenarios.{Reads}
 use Rattle.abt_scenario.specs.declared.engine.EngineFault.{EngineFault}
 use Rattle.abt_scenario.specs.declared.scenario.Scenario as declared
 use Rattle.abt_threads.specs.Runs.{ScriptsFit}
+use Rattle.abt_operator.specs.Operations.{AreForPorts}
 use Rattle.abt_perform.specs.Names.{fault_line, fault_of_engine}
 use Rattle.abt_perform.specs.Plans.{Tells}
 use Rattle.abt_perform.specs.declared.plan.Plan.{Plan}
 use Rattle.abt_perform.specs.declared.plan.Plan.TheVariants.{Threads}
 use Rattle.abt_perform.specs.declared.fault.Fault.{Fault}
-use Rattle.abt_perform.specs.declared.fault.Fault.TheVariants.{Workers, Scripts, Thread, Wound, Gather, Memory}
+use Rattle.abt_perform.specs.declared.fault.Fault.TheVariants.{Workers, Scripts, Operator, Thread, Wound, Gather, Memory}
 use Rattle.abt_perform_threads.specs.Faults.{fault_of_show}
 use Rattle.abt_perform_threads.specs.Shown.{IsRanFrom, ShowsAll, ShowsUntil}
 use Rattle.abt_rate.specs.Limits.{AreWorkers}
@@ -25,10 +26,11 @@ abbrev pub workers_of : Plan → ℕ
 workers_of (Threads file workers) = workers
 workers_of other = 0
 
--- what keeps scripts from running: the first fault that applies, of these two
+-- what keeps a scenario from running: the first fault that applies, of these three
 abbrev pub IsUnfit : (workers : ℕ) → declared.Scenario → Fault → Type 0
 IsUnfit workers scenario Workers = ¬ AreWorkers workers
 IsUnfit workers scenario Scripts = AreWorkers workers × ¬ ScriptsFit scenario.net.conns scenario.scripts
+IsUnfit workers scenario Operator = AreWorkers workers × ScriptsFit scenario.net.conns scenario.scripts × ¬ AreForPorts scenario.net scenario.operator
 IsUnfit workers scenario other = ⊥
 
 -- Nothing does.
@@ -49,6 +51,7 @@ pub record IsShown (workers : ℕ) (left old new : Option Text) : Type 0 where
 abbrev pub EndsRunBy : (workers : ℕ) → declared.Scenario → Fault → Type 0
 EndsRunBy workers scenario Workers = IsUnfit workers scenario Workers
 EndsRunBy workers scenario Scripts = IsUnfit workers scenario Scripts
+EndsRunBy workers scenario Operator = IsUnfit workers scenario Operator
 EndsRunBy workers scenario Thread = MayRun workers scenario
 EndsRunBy workers scenario Wound = MayRun workers scenario
 EndsRunBy workers scenario Gather = MayRun workers scenario

@@ -15,10 +15,10 @@ use Rattle.abt_perform_threads.specs.declared.ran.Ran.{Ran}
 use Rattle.abt_perform_threads.specs.declared.showing.ShowFault.{ShowFault}
 use Rattle.abt_perform_threads.specs.declared.showing.ShowFault.TheVariants.{Weave, Trace, Write}
 
--- The scenario's scripts ran in its net, with so many link workers, and left this.
+-- The scenario's scripts and its operator's list ran in its net, with so many link workers, and left this.
 pub record IsRanFrom (scenario : Scenario) (workers : ℕ) (ran : Ran) : Type 0 where
   pub net_is : ran.net ≡ scenario.net
-  pub is_run : IsRun scenario.net scenario.scripts workers ran.gathered
+  pub is_run : IsRun scenario.net scenario.scripts scenario.operator workers ran.gathered
 
 -- a line for each step that is done; the last one is the trace's own word
 abbrev pub gathered_line : Text

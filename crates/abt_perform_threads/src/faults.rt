@@ -13,6 +13,7 @@ pub(crate) fn fault_of_run(fault: RunFault) -> Fault
     match fault {
         RunFault::Workers => Fault::Workers,
         RunFault::Scripts => Fault::Scripts,
+        RunFault::Operator => Fault::Operator,
         RunFault::Thread => Fault::Thread,
         RunFault::Wound { .. } => Fault::Wound,
         RunFault::Gather(_) => Fault::Gather,

@@ -5,6 +5,7 @@ ghost use Rattle.abt_scenario.specs.Engine.{Explains};
 ghost use Rattle.abt_scenario.specs.Scenarios.{Reads};
 ghost use Rattle.abt_threads.specs.declared.fault.RunFault.{RunFault};
 ghost use Rattle.abt_threads.specs.Runs.{ScriptsFit};
+ghost use Rattle.abt_operator.specs.Operations.{AreForPorts};
 ghost use Rattle.abt_perform_threads.specs.Shown.{IsRanFrom};
 ghost use Rattle.abt_rate.specs.Limits.{AreWorkers};
 
@@ -55,7 +56,7 @@ impl Unrun {
         Ok(Unrun { scenario })
     }
 
-    /// Runs the scripts in threads, with so many link workers, none of which loses or repeats anything.
+    /// Runs the scripts and the operator's list in threads, with so many link workers, none of which loses or repeats anything.
     pub fn run<T: Threads + Wait + Sync, G: Gate + Sync>(
         self,
         rt: &T,
@@ -67,6 +68,8 @@ impl Unrun {
         ensures workers { IsErrOf result RunFault.Workers ↔ ¬ AreWorkers workers }
         ensures scripts { IsErrOf result RunFault.Scripts
             ↔ (AreWorkers workers × ¬ ScriptsFit self.net.conns self.scripts) }
+        ensures operator { IsErrOf result RunFault.Operator
+            ↔ (AreWorkers workers × ScriptsFit self.net.conns self.scripts × ¬ AreForPorts self.net self.operator) }
         ensures wound { (seen found : ℕ) → IsErrOf result (RunFault.Wound seen found) → found < seen }
     {
         let Unrun { scenario } = self;
@@ -74,8 +77,17 @@ impl Unrun {
             net,
             events: _,
             scripts,
+            operator,
         } = scenario;
-        let gathered = run_threads(rt, alloc, &net, scripts.as_slice(), faithful(workers), gate)?;
+        let gathered = run_threads(
+            rt,
+            alloc,
+            &net,
+            scripts.as_slice(),
+            operator.as_slice(),
+            faithful(workers),
+            gate,
+        )?;
         Ok(Ran { net, gathered })
     }
 }

@@ -4,6 +4,7 @@ ghost use Rattle.std.specs.Io.KnownBytes.{Appends, Keeps};
 ghost use Rattle.abt_rate.specs.Limits.{AreWorkers};
 ghost use Rattle.abt_text.specs.Streams.{AppendsPrefix};
 ghost use Rattle.abt_threads.specs.Runs.{ScriptsFit};
+ghost use Rattle.abt_operator.specs.Operations.{AreForPorts};
 ghost use Rattle.abt_perform_threads.specs.Shown.{IsRanFrom, ShowsAll, ShowsUntil};
 
 use crate::judging::{Judged, judge_events};
@@ -93,6 +94,8 @@ pub fn show_run<T: Threads + Wait + Sync, G: Gate + Sync, W: Write>(
     ensures workers { IsErrOf result RunFault.Workers ↔ ¬ AreWorkers workers }
     ensures scripts { IsErrOf result RunFault.Scripts
         ↔ (AreWorkers workers × ¬ ScriptsFit unrun.net.conns unrun.scripts) }
+    ensures operator { IsErrOf result RunFault.Operator
+        ↔ (AreWorkers workers × ScriptsFit unrun.net.conns unrun.scripts × ¬ AreForPorts unrun.net unrun.operator) }
     ensures wound { (seen found : ℕ) → IsErrOf result (RunFault.Wound seen found) → found < seen }
 {
     let ran = unrun.run(rt, alloc, workers, gate)?;

@@ -6,6 +6,8 @@ use Rattle.abt_model.specs.declared.outcome.Cause.{Cause}
 use Rattle.abt_model.specs.declared.outcome.Cause.TheVariants.{Down, Running, NotSent, Fenced, Delay, ClockBack, Unknown, NotAsking}
 use Rattle.abt_model.specs.declared.outcome.Heard.{Heard}
 use Rattle.abt_model.specs.declared.outcome.Heard.TheVariants.{Raised, Refused, Ignored}
+use Rattle.abt_ledger.specs.declared.fault.CapacityFault.{CapacityFault}
+use Rattle.abt_ledger.specs.declared.fault.CapacityFault.TheVariants.{BelowSum, AboveLimit}
 use Rattle.abt_source.specs.declared.fault.AskFault.{AskFault}
 use Rattle.abt_source.specs.declared.fault.AskFault.TheVariants as ask_fault
 use Rattle.abt_source.specs.declared.fault.StartFault.{StartFault}
@@ -39,3 +41,7 @@ start_fault_name start_fault.TimeRange = codes "TimeRange"
 abbrev pub ask_fault_name : AskFault → Text
 ask_fault_name ask_fault.SeqExhausted = codes "SeqExhausted"
 ask_fault_name ask_fault.Keep = codes "Keep"
+
+abbrev pub capacity_fault_name : CapacityFault → Text
+capacity_fault_name BelowSum = codes "BelowSum"
+capacity_fault_name AboveLimit = codes "AboveLimit"

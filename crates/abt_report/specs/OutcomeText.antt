@@ -3,7 +3,7 @@ use Rattle.std.specs.Prelude.{codes}
 use Rattle.abt_rate.specs.Code.{code_of}
 use Rattle.abt_cell.specs.Message.{Terms}
 use Rattle.abt_model.specs.declared.outcome.Outcome.{Outcome}
-use Rattle.abt_model.specs.declared.outcome.Outcome.TheVariants.{Started, StartRefused, Asked, AskRefused, Repeated, Crashed, Emitted, EmitRefused, Arrived, Requested, Turned, Answered, Told, NotEnabled}
+use Rattle.abt_model.specs.declared.outcome.Outcome.TheVariants.{Started, StartRefused, Asked, AskRefused, Repeated, Crashed, Emitted, EmitRefused, Arrived, Requested, Turned, Answered, Told, CapacitySet, CapacityRefused, NotEnabled}
 use Rattle.abt_node.specs.Names.{drop_name}
 use Rattle.abt_node.specs.declared.reply.Back.{Back}
 use Rattle.abt_node.specs.declared.reply.Back.TheVariants as back
@@ -12,7 +12,7 @@ use Rattle.abt_node.specs.declared.reply.Onward.TheVariants as onward
 use Rattle.abt_shaper.specs.declared.fault.ShapeFault.{ShapeFault}
 use Rattle.abt_shaper.specs.declared.fault.ShapeFault.TheVariants.{ClockBack, TimeRange, Zero, TooSoon}
 use Rattle.abt_text.specs.Text.{Text, ◌⋅◌, decimal, code_text}
-use Rattle.abt_report.specs.Names.{cause_name, verdict_name, heard_name, start_fault_name, ask_fault_name}
+use Rattle.abt_report.specs.Names.{cause_name, verdict_name, heard_name, start_fault_name, ask_fault_name, capacity_fault_name}
 
 abbrev pub refused_text : Text → Text
 refused_text name = codes "refused " ⋅ name
@@ -51,4 +51,6 @@ outcome_text (Requested reply) = onward_text reply
 outcome_text Turned = codes "turned"
 outcome_text (Answered reply) = back_text reply
 outcome_text (Told heard) = codes "told " ⋅ heard_name heard
+outcome_text CapacitySet = codes "set"
+outcome_text (CapacityRefused fault) = refused_text (capacity_fault_name fault)
 outcome_text (NotEnabled cause) = codes "not-enabled " ⋅ cause_name cause

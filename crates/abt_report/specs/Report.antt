@@ -44,11 +44,11 @@ abbrev pub safe_line : Bool → Text
 safe_line true = codes "safe\n"
 safe_line false = codes "unsafe\n"
 
--- the report of a trace over ports of these capacities
-abbrev pub report_of : List ℕ → Trace → Text
-report_of capacities trace =
+-- the report of a trace
+abbrev pub report_of : Trace → Text
+report_of trace =
     count_line (length trace.outcomes)
     ⋅ outcome_lines 1 trace.outcomes
     ⋅ conn_lines 0 trace.rates trace.held
-    ⋅ port_lines 0 trace.totals capacities
+    ⋅ port_lines 0 trace.totals trace.capacities
     ⋅ safe_line trace.safe

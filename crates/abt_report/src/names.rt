@@ -1,9 +1,11 @@
 //! The names that reports print.
 ghost use Rattle.std.specs.Prelude.{◌≡◌};
 ghost use Rattle.abt_report.specs.Names.{cause_name, verdict_name, heard_name, start_fault_name, ask_fault_name};
+ghost use Rattle.abt_report.specs.Names.{capacity_fault_name};
 
 use abt_gcra::Verdict;
 use abt_model::{Cause, Heard};
+use abt_node::CapacityFault;
 use abt_source::{AskFault, StartFault};
 
 // Why an event could not happen.
@@ -61,5 +63,15 @@ pub(crate) fn ask_fault_name(fault: AskFault) -> &'static str
     match fault {
         AskFault::SeqExhausted => "SeqExhausted",
         AskFault::Keep => "Keep",
+    }
+}
+
+// Why a capacity wasn't set.
+pub(crate) fn capacity_fault_name(fault: CapacityFault) -> &'static str
+    ensures { result.now ≡ capacity_fault_name fault }
+{
+    match fault {
+        CapacityFault::BelowSum => "BelowSum",
+        CapacityFault::AboveLimit => "AboveLimit",
     }
 }

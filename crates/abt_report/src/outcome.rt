@@ -2,7 +2,9 @@
 ghost use Rattle.std.specs.Prelude.{◌≡◌, ◌++◌, OnOk, string_bytes};
 ghost use Rattle.abt_report.specs.OutcomeText.{outcome_text, refused_text, request_text, shape_fault_text, onward_text, back_text};
 
-use crate::names::{ask_fault_name, cause_name, heard_name, start_fault_name, verdict_name};
+use crate::names::{
+    ask_fault_name, capacity_fault_name, cause_name, heard_name, start_fault_name, verdict_name,
+};
 use abt_cell::Request;
 use abt_model::Outcome;
 use abt_node::{Back, Onward};
@@ -28,6 +30,8 @@ pub(crate) fn push_outcome(text: &mut String, outcome: &Outcome) -> Result<(), A
         Outcome::Turned => text.push_str("turned"),
         Outcome::Answered(reply) => push_back(text, *reply),
         Outcome::Told(heard) => push_both(text, "told ", heard_name(*heard)),
+        Outcome::CapacitySet => text.push_str("set"),
+        Outcome::CapacityRefused(fault) => push_refused(text, capacity_fault_name(*fault)),
         Outcome::NotEnabled(cause) => push_both(text, "not-enabled ", cause_name(*cause)),
     }
 }

@@ -5,18 +5,15 @@ ghost use Rattle.abt_report.specs.Report.{report_of, outcome_lines, conn_lines, 
 use crate::lines::{conn_line, count_line, port_line, push_outcome_line, safe_line};
 use abt_list::Sequence;
 use abt_model::Outcome;
-use abt_net::Net;
 use abt_rate::Rate;
 use abt_trace::Trace;
 use std::alloc::{AllocError, Global};
 
-/// The report of a run over a net (docs/FORMATS.md, "Report"): how many events there were, what each answered, then each
-/// connection with its rate and what its hops hold, each port with its total and its capacity, and whether all that is
-/// safe.
-///
-/// Of a trace that isn't one of this net, connections and ports are reported as far as it has them.
-pub fn report_text(alloc: Global, net: &Net, trace: &Trace) -> Result<String, AllocError>
-    ensures { IfOk result (λ text. string_bytes text ≡ report_of net.now.capacities trace.now) }
+/// The report of a run (docs/FORMATS.md, "Report"): how many events there were, what each answered, then each connection
+/// with its rate and what its hops hold, each port with its total and the capacity that it has in the end, and whether all
+/// that is safe.
+pub fn report_text(alloc: Global, trace: &Trace) -> Result<String, AllocError>
+    ensures { IfOk result (λ text. string_bytes text ≡ report_of trace.now) }
 {
     let mut text = count_line(alloc, trace.outcomes.len())?;
     push_outcomes(&mut text, trace.outcomes.as_slice())?;
@@ -26,7 +23,12 @@ pub fn report_text(alloc: Global, net: &Net, trace: &Trace) -> Result<String, Al
         trace.rates.as_slice(),
         trace.held.as_slice(),
     )?;
-    push_ports(alloc, &mut text, trace.totals.as_slice(), net.capacities())?;
+    push_ports(
+        alloc,
+        &mut text,
+        trace.totals.as_slice(),
+        trace.capacities.as_slice(),
+    )?;
     text.push_str(safe_line(trace.safe))?;
     Ok(text)
 }

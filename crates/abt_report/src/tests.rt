@@ -4,8 +4,7 @@ use abt_cell::{Answer, Request, Vc};
 use abt_gcra::Verdict;
 use abt_list::Sequence;
 use abt_model::{Cause, Heard, Outcome};
-use abt_net::{Conn, Net, Path};
-use abt_node::{Back, DropCause, Onward};
+use abt_node::{Back, CapacityFault, DropCause, Onward};
 use abt_rate::Rate;
 use abt_shaper::ShapeFault;
 use abt_source::{AskFault, StartFault};
@@ -14,20 +13,7 @@ use std::alloc::{AllocError, Global};
 use std::process::Abort;
 use std::test::Fail;
 
-// A net of two ports, and one connection over both.
-fn net(alloc: Global) -> Result<Net, Fail> {
-    let capacities = Vec::from_slice(alloc, &[512_000, 614_400])?;
-    let mut conns = Vec::new(alloc);
-    conns.push(Conn {
-        vc: Vc::new(1, 100).ok_or_else(|| Fail::from("no channel"))?,
-        path: Path::from(Vec::from_slice(alloc, &[1, 0])?),
-        delay: 1000,
-        tau: 200,
-    })?;
-    Net::build(alloc, capacities, conns).map_err(|_| Fail::from("no net"))
-}
-
-// A trace of these outcomes over that net, in whose end the source shapes at 400 cells per second, the first hop holds 600
+// A trace of these outcomes over two ports and one connection, in whose end the source shapes at 400 cells per second, the first hop holds 600
 // for it and the second 400.
 fn trace(alloc: Global, outcomes: &[Outcome], safe: bool) -> Result<Trace, AllocError> {
     let low = Rate::at_most(204_800);
@@ -39,6 +25,7 @@ fn trace(alloc: Global, outcomes: &[Outcome], safe: bool) -> Result<Trace, Alloc
         rates: Sequence::from(Vec::from_slice(alloc, &[low])?),
         held,
         totals: Sequence::from(Vec::from_slice(alloc, &[204_800, 307_200])?),
+        capacities: Sequence::from(Vec::from_slice(alloc, &[512_000, 614_400])?),
         safe,
     })
 }
@@ -51,11 +38,10 @@ fn expect(
     safe: bool,
     text: &str,
 ) -> Result<(), Fail> {
-    let net = net(alloc)?;
     let trace = trace(alloc, outcomes, safe)?;
-    let made = match report_text(alloc, &net, &trace) {
+    let made = match report_text(alloc, &trace) {
         Ok(made) => made,
-        Err(_) => report_text(alloc, &net, &trace)?,
+        Err(_) => report_text(alloc, &trace)?,
     };
     assert_eq!(rt; made.as_str(), text);
     Ok(())
@@ -176,6 +162,28 @@ fn each_outcome_of_a_hop_has_its_text(rt: HostRuntime) -> Result<(), Fail> {
          port 0 total 204800 capacity 512000\n\
          port 1 total 307200 capacity 614400\n\
          unsafe\n",
+    )
+}
+
+#[test]
+fn each_outcome_of_a_port_has_its_text(rt: HostRuntime) -> Result<(), Fail> {
+    expect(
+        &rt,
+        rt.alloc(),
+        &[
+            Outcome::CapacitySet,
+            Outcome::CapacityRefused(CapacityFault::BelowSum),
+            Outcome::CapacityRefused(CapacityFault::AboveLimit),
+        ],
+        true,
+        "events 3\n\
+         1 set\n\
+         2 refused BelowSum\n\
+         3 refused AboveLimit\n\
+         connection 0 rate 5120 held 5258 5120\n\
+         port 0 total 204800 capacity 512000\n\
+         port 1 total 307200 capacity 614400\n\
+         safe\n",
     )
 }
 

@@ -1,6 +1,7 @@
 //! Stories: lists of events, each with what it answers. The rates are those of docs/RULES.md, "Rates": codes 5120, 5258
 //! and 53e8 are 400, 600 and 1,000 cells per second, 7fff is the greatest.
 mod actors;
+mod capacities;
 mod cells;
 mod logs;
 mod memory;
@@ -12,7 +13,7 @@ mod whole;
 use abt_cell::{Answer, Request, Vc};
 use abt_gcra::Verdict;
 use abt_keep::StorePlan;
-use abt_node::{Back, Onward};
+use abt_node::{Back, CapacityFault, DropCause, Onward};
 use abt_rate::Rate;
 use abt_shaper::ShapeFault;
 use abt_world::{Cause, Conn, Event, Heard, Net, NetFault, Outcome, Path, Trace, World, run};
@@ -94,8 +95,8 @@ fn world<'net>(alloc: Global, net: &'net Net) -> Result<World<'net>, AllocError>
     }
 }
 
-/// What the sources, the first two hops of the second connection, and the ports of a story hold.
-fn holdings(world: &World<'_>) -> ([Option<Rate>; 4], [Option<u64>; 2]) {
+/// What the sources, the first two hops of the second connection, and the ports of a story hold, and the capacities.
+fn holdings(world: &World<'_>) -> ([Option<Rate>; 4], [Option<u64>; 4]) {
     (
         [
             world.rate(0),
@@ -103,7 +104,12 @@ fn holdings(world: &World<'_>) -> ([Option<Rate>; 4], [Option<u64>; 2]) {
             world.held(1, 1),
             world.held(1, 2),
         ],
-        [world.total(0), world.total(1)],
+        [
+            world.total(0),
+            world.total(1),
+            world.capacity(0),
+            world.capacity(1),
+        ],
     )
 }
 
@@ -195,6 +201,23 @@ fn refuses(conn: u16, hop: u16, request: &Request) -> Row {
     let no = Answer::of(request, false);
     let event = deliver(conn, hop, request.seq());
     (event, Outcome::Requested(Onward::Refuse(no)))
+}
+
+fn drops(conn: u16, hop: u16, seq: u32, cause: DropCause) -> Row {
+    let event = deliver(conn, hop, seq);
+    (event, Outcome::Requested(Onward::Drop(cause)))
+}
+
+fn cap(port: u16, capacity: u64) -> Event {
+    Event::Capacity { port, capacity }
+}
+
+fn caps(port: u16, capacity: u64) -> Row {
+    (cap(port, capacity), Outcome::CapacitySet)
+}
+
+fn caps_not(port: u16, capacity: u64, fault: CapacityFault) -> Row {
+    (cap(port, capacity), Outcome::CapacityRefused(fault))
 }
 
 fn turn(conn: u16, seq: u32) -> Event {

@@ -16,11 +16,11 @@ count_of test (x ∷ xs) = one_if (test x) + count_of test xs
 abbrev pub IsRecounted : ℕ → (before after : Bool) → ℕ → Type 0
 IsRecounted count before after recounted = one_if before ≤ count → count + 1 < 2 ^ 64 → recounted + one_if before ≡ count + one_if after
 
--- whether the sum of a port's table is above a capacity
-abbrev pub is_above : ℕ → Table → Bool
-is_above capacity table = not (nat_le (sum_of table) capacity)
+-- whether the sum of a port's table is above its capacity
+abbrev pub is_above : Table → Bool
+is_above table = not (nat_le (sum_of table) table.capacity)
 
 -- the same of the port of a number, if there is one
-abbrev pub over_at : Option ℕ → List ℕ → List Table → Bool
-over_at None capacities ports = false
-over_at (Some p) capacities ports = option_map_or (λ capacity. option_map_or (is_above capacity) (slice_get ports p) false) (slice_get capacities p) false
+abbrev pub over_at : Option ℕ → List Table → Bool
+over_at None ports = false
+over_at (Some p) ports = option_map_or is_above (slice_get ports p) false

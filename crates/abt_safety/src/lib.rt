@@ -6,5 +6,5 @@ mod sums;
 mod tally;
 
 pub use holding::{held_along, is_held};
-pub use sums::{fits, is_over};
+pub use sums::{fits, is_above, is_over};
 pub use tally::{Marks, Tally, recount};

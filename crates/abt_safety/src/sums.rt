@@ -1,6 +1,6 @@
 //! What ports hold in all.
 ghost use Rattle.std.specs.Prelude.{◌≡◌, ◌+◌, ◌≤◌, if◌then◌else◌, is_some, min, nat_le};
-ghost use Rattle.abt_safety.specs.Tallies.{over_at};
+ghost use Rattle.abt_safety.specs.Tallies.{is_above, over_at};
 
 use abt_log::Looks;
 use abt_node::Port;
@@ -12,9 +12,16 @@ pub fn fits(total: u64, capacity: u64) -> bool
     total <= capacity
 }
 
-/// Whether the sum of a port is above the capacity of its number. No port is none that is.
-pub fn is_over(port: Option<u16>, capacities: &[u64], ports: &[Port], looks: &mut Looks) -> bool
-    ensures value { result ≡ over_at port capacities.now ports.now }
+/// Whether the sum of a port is above the capacity that it has then.
+pub fn is_above(port: &Port) -> bool
+    ensures { result ≡ is_above port.now }
+{
+    !fits(port.total(), port.capacity())
+}
+
+/// The same of the port of a number. No port is none that is.
+pub fn is_over(port: Option<u16>, ports: &[Port], looks: &mut Looks) -> bool
+    ensures value { result ≡ over_at port ports.now }
     ensures looks { looks.new ≤ looks.old + 1 }
     ensures counted { looks.new ≡ (if is_some port then min (looks.old + 1) u64.MAX else looks.old) }
 {
@@ -22,11 +29,8 @@ pub fn is_over(port: Option<u16>, capacities: &[u64], ports: &[Port], looks: &mu
         return false;
     };
     let place = usize::from(looks.counting(port));
-    let Some(capacity) = capacities.get(place) else {
-        return false;
-    };
     let Some(port) = ports.get(place) else {
         return false;
     };
-    !fits(port.total(), *capacity)
+    is_above(port)
 }

@@ -1,6 +1,9 @@
 //! Counts of what isn't safe.
 ghost use Rattle.std.specs.Prelude.{◌≡◌, ◌+◌, ◌<◌, ◌≤◌, ◌==◌, ◌&&◌, false};
-ghost use Rattle.abt_safety.specs.Tallies.{one_if, IsRecounted};
+ghost use Rattle.abt_safety.specs.Tallies.{one_if, is_above as is_table_above, IsRecounted};
+
+use crate::sums::is_above;
+use abt_node::Port;
 
 /// What isn't safe of one connection and of one port.
 #[derive(Clone, Copy, Debug, PartialEq, Eq)]
@@ -23,6 +26,19 @@ impl Marks {
         Marks {
             above: false,
             over: false,
+            broken: false,
+        }
+    }
+
+    /// Of a port, and of a connection of which nothing isn't safe.
+    pub fn of_port(port: &Port) -> Marks
+        ensures above { result.above ≡ false }
+        ensures over { result.over ≡ is_table_above port.now }
+        ensures broken { result.broken ≡ false }
+    {
+        Marks {
+            above: false,
+            over: is_above(port),
             broken: false,
         }
     }

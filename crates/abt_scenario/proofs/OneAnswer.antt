@@ -45,14 +45,14 @@ of_flag P true false x y = sym (y.1 (x.0 refl))
 of_flag P false true x y = x.1 (y.0 refl)
 of_flag P false false x y = refl
 
-of_traces : (net : Topology) (events : List Event) (capacities : List ℕ) (one other : Trace) → IsTrace net events one → IsTrace net events other
-    → report_of capacities one ≡ report_of capacities other
-of_traces net events capacities one other x y =
-    rw (x.outcomes, x.rates, x.held, x.totals, y.outcomes, y.rates, y.held, y.totals, of_flag _ one.safe other.safe x.safe y.safe) refl
+of_traces : (net : Topology) (events : List Event) (one other : Trace) → IsTrace net events one → IsTrace net events other
+    → report_of one ≡ report_of other
+of_traces net events one other x y =
+    rw (x.outcomes, x.rates, x.held, x.totals, x.capacities, y.outcomes, y.rates, y.held, y.totals, y.capacities, of_flag _ one.safe other.safe x.safe y.safe) refl
 
 of_scenario : (scenario : Scenario) (one other : Text) → IsReportText scenario one → IsReportText scenario other → one ≡ other
 of_scenario scenario one other x y =
-    x.is_report ∙ of_traces scenario.net scenario.events scenario.net.capacities x.trace y.trace x.is_trace y.is_trace ∙ sym y.is_report
+    x.is_report ∙ of_traces scenario.net scenario.events x.trace y.trace x.is_trace y.is_trace ∙ sym y.is_report
 
 same_scenario : (a b : Scenario) (read : Read Scenario) → read ≡ Ok a → read ≡ Ok b → a ≡ b
 same_scenario a b read x y = cc

@@ -37,7 +37,7 @@ pub record IsReportText (scenario : declared.Scenario) (text : Text) : Type 0 wh
   pub trace : Trace
   pub is_trace : IsTrace scenario.net scenario.events trace
   pub is_safe : trace.safe ≡ true
-  pub is_report : text ≡ report_of scenario.net.capacities trace
+  pub is_report : text ≡ report_of trace
 
 -- The text is the report of the scenario that was read.
 pub record IsReportOf (left : Option Text) (text : Text) : Type 0 where

@@ -8,9 +8,10 @@ use Rattle.abt_model.specs.declared.event.Event.{Event}
 use Rattle.abt_script.specs.declared.command.Command.{Command}
 use Rattle.abt_grammar.specs.CommandTexts.{command_of}
 use Rattle.abt_grammar.specs.EventTexts.{event_of}
+use Rattle.abt_grammar.specs.OperationTexts.{operation_of}
 use Rattle.abt_text.specs.Text.{Text}
 use Rattle.abt_scenario.specs.declared.fault.ScenarioFault.{ScenarioFault}
-use Rattle.abt_scenario.specs.declared.fault.ScenarioFault.TheVariants.{Net, EventText, ScriptText}
+use Rattle.abt_scenario.specs.declared.fault.ScenarioFault.TheVariants.{Net, EventText, ScriptText, OperatorText}
 use Rattle.abt_scenario.specs.declared.scenario.Scenario.{Scenario}
 use Rattle.abt_scenario.specs.Reading.{Read, ◌>>=◌}
 use Rattle.abt_scenario.specs.Walk.{DraftRead, draft_in, draft_of}
@@ -47,6 +48,18 @@ scripts_from connection (texts ∷ scripts) = do
   others ← scripts_from (connection + 1) scripts
   Ok (commands ∷ others)
 
+abbrev pub operation_or_fault : ℕ → Option (ℕ × ℕ) → Read (ℕ × ℕ)
+operation_or_fault number (Some operation) = Ok operation
+operation_or_fault number None = Err (OperatorText number)
+
+-- the operations of some texts, of which the first has this number
+abbrev pub operations_from : ℕ → List Text → Read (List (ℕ × ℕ))
+operations_from number [] = Ok []
+operations_from number (text ∷ texts) = do
+  operation ← operation_or_fault number (operation_of text)
+  operations ← operations_from (number + 1) texts
+  Ok (operation ∷ operations)
+
 -- the ports and connections of a draft
 abbrev pub net_in : DraftRead → Topology
 net_in draft = record { capacities = draft.capacities; conns = draft.connections.conns }
@@ -56,13 +69,14 @@ abbrev pub scenario_over : DraftRead → Read Scenario
 scenario_over draft = do
   events ← events_from 1 draft.events
   scripts ← scripts_from 0 draft.connections.scripts
-  Ok (record { net = net_in draft; events = events; scripts = scripts })
+  operations ← operations_from 1 draft.operations
+  Ok (record { net = net_in draft; events = events; scripts = scripts; operator = operations })
 
 -- The fault is the first of ports and connections that are no net.
 abbrev pub IsNetFault : Topology → ScenarioFault → Type 0
 IsNetFault net fault = (net_fault : NetFault) × IsFirstFault net net_fault × (fault ≡ Net net_fault)
 
--- A draft is read so: the net comes first, then the events, then the scripts.
+-- A draft is read so: the net comes first, then the events, then the scripts, and last the operator.
 abbrev pub ReadsDraft : DraftRead → Read Scenario → Type 0
 ReadsDraft draft (Ok scenario) = IsWithinRules (net_in draft) × (scenario_over draft ≡ Ok scenario)
 ReadsDraft draft (Err fault) = IsNetFault (net_in draft) fault ⊎ (IsWithinRules (net_in draft) × (scenario_over draft ≡ Err fault))

@@ -9,7 +9,7 @@ use Rattle.toml.specs.declared.value.Value.{Value}
 use Rattle.toml.specs.Parse.{parse_document}
 use Rattle.abt_net.specs.declared.conn.Conn.{Conn}
 use Rattle.abt_text.specs.Text.{Text}
-use Rattle.abt_scenario.specs.declared.key.Key.TheVariants.{Ports, Connection, Vpi, Vci, Path, Delay, Tau, Script, Events}
+use Rattle.abt_scenario.specs.declared.key.Key.TheVariants.{Ports, Connection, Vpi, Vci, Path, Delay, Tau, Script, Events, Operator}
 use Rattle.abt_scenario.specs.declared.fault.ScenarioFault.TheVariants.{Toml, WrongType}
 use Rattle.abt_scenario.specs.declared.draft.Draft.{Draft}
 use Rattle.abt_scenario.specs.declared.draft.Connections.{Connections}
@@ -27,6 +27,7 @@ pub record DraftRead : Type 0 where
   pub capacities : List ℕ
   pub connections : ConnectionsRead
   pub events : List Text
+  pub operations : List Text
 
 -- the connection of a table, but for its script
 abbrev pub conn_in : Members → Read Conn
@@ -84,7 +85,8 @@ draft_in members = do
   tables ← tables_at members
   connections ← connections_in tables
   events ← texts_at Events members
-  Ok (record { capacities = capacities; connections = connections; events = events })
+  operations ← texts_at Operator members
+  Ok (record { capacities = capacities; connections = connections; events = events; operations = operations })
 
 -- the table of a text that is TOML
 abbrev pub read_document : Option Members → Read Members
@@ -113,4 +115,5 @@ draft_seen draft = record {
   capacities = draft.capacities.items;
   connections = connections_seen draft.connections;
   events = texts_among (items_view draft.events.now);
+  operations = texts_among (items_view draft.operations.now);
 }

@@ -15,13 +15,14 @@ use abt_net::{Conn, Path};
 use std::alloc::Global;
 use toml::{Table, Value};
 
-/// What stands at the keys of a scenario, before anybody asks whether it is a net, and what its texts say. All values of its events are
-/// texts; there may be very many, so they are read where they lie.
+/// What stands at the keys of a scenario, before anybody asks whether it is a net, and what its texts say. All values of its events, and
+/// of its operator, are texts; there may be very many, so they are read where they lie.
 #[derive(Drop)]
 pub struct Draft<'a> {
     pub capacities: Vec<u64>,
     pub connections: Connections<'a>,
     pub events: &'a [Value],
+    pub operations: &'a [Value],
 }
 
 /// The connections of a draft, and beside each the texts of its script.
@@ -39,10 +40,12 @@ pub(crate) fn draft_in<'a>(alloc: Global, table: &'a Table) -> Result<Draft<'a>,
     let tables = tables_at(alloc, table)?;
     let connections = connections_in(alloc, tables.as_slice())?;
     let events = text_values_at(table, Key::Events)?;
+    let operations = text_values_at(table, Key::Operator)?;
     Ok(Draft {
         capacities,
         connections,
         events,
+        operations,
     })
 }
 

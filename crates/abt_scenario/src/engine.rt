@@ -108,9 +108,10 @@ fn report_of_run(alloc: Global, scenario: Scenario) -> Result<String, AllocError
         net,
         events,
         scripts: _,
+        operator: _,
     } = scenario;
     let trace = run(alloc, &net, events.as_slice())?;
     // The trace says it all: a long list of events isn't kept beside the report.
     drop(events);
-    report_text(alloc, &net, &trace)
+    report_text(alloc, &trace)
 }

@@ -29,6 +29,9 @@ pub enum ScenarioFault {
     /// The text of this number, from 1, in the script of this connection, from 0, says no command.
     #[error("command {number} of connection {connection} is no command")]
     ScriptText { connection: u64, number: u64 },
+    /// The text of the operation of this number, from 1, says no operation.
+    #[error("operation {number} is no operation")]
+    OperatorText { number: u64 },
     /// No memory was found.
     #[error("out of memory")]
     Memory,

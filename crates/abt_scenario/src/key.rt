@@ -26,6 +26,8 @@ pub enum Key {
     Script,
     /// What happens in the net.
     Events,
+    /// What its operator does.
+    Operator,
 }
 
 impl Key {
@@ -43,6 +45,7 @@ impl Key {
             Key::Tau => "tau",
             Key::Script => "script",
             Key::Events => "events",
+            Key::Operator => "operator",
         }
     }
 }

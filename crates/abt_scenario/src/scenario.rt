@@ -2,9 +2,9 @@
 use abt_list::Sequence;
 use abt_model::Event;
 use abt_net::Net;
-use abt_script::Script;
+use abt_script::{Operation, Script};
 
-/// A net, what happens in it, and what its sources do.
+/// A net, what happens in it, and what its sources and its operator do.
 #[derive(Debug, Drop)]
 pub struct Scenario {
     /// The ports and the connections.
@@ -13,4 +13,6 @@ pub struct Scenario {
     pub events: Sequence<Event>,
     /// What the source of each connection does, in the order of the connections.
     pub scripts: Sequence<Script>,
+    /// What the operator does, in order.
+    pub operator: Sequence<Operation>,
 }

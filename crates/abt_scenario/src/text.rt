@@ -6,16 +6,16 @@ ghost use Rattle.abt_scenario.specs.Values.{texts_among};
 ghost use Rattle.abt_scenario.specs.Reading.{Gives};
 ghost use Rattle.abt_scenario.specs.Walk.{draft_seen, scripts_seen, read_document};
 ghost use Rattle.abt_net.specs.Topology.{Topology, IsWithinRules};
-ghost use Rattle.abt_scenario.specs.Scenarios.{Reads, ReadsTable, ReadsDraft, IsNetFault, events_from, scripts_from, commands_from};
+ghost use Rattle.abt_scenario.specs.Scenarios.{Reads, ReadsTable, ReadsDraft, IsNetFault, events_from, scripts_from, commands_from, operations_from};
 
 use crate::draft::{Connections, Draft, draft_in};
 use crate::fault::ScenarioFault;
 use crate::scenario::Scenario;
-use abt_grammar::{command_of, event_of};
+use abt_grammar::{command_of, event_of, operation_of};
 use abt_list::Sequence;
 use abt_model::Event;
 use abt_net::{Conn, Net, NetFault};
-use abt_script::Script;
+use abt_script::{Operation, Script};
 use std::alloc::Global;
 use toml::{Table, Value};
 
@@ -60,15 +60,18 @@ fn scenario_of(alloc: Global, draft: Draft<'_>) -> Result<Scenario, ScenarioFaul
         capacities,
         connections,
         events,
+        operations,
     } = draft;
     let Connections { conns, scripts } = connections;
     let net = net_of(alloc, capacities, conns)?;
     let events = events_in(alloc, events)?;
     let scripts = scripts_in(alloc, scripts.as_slice())?;
+    let operator = operations_in(alloc, operations)?;
     Ok(Scenario {
         net,
         events,
         scripts,
+        operator,
     })
 }
 
@@ -135,4 +138,23 @@ fn commands_in(alloc: Global, connection: u64, texts: &[&str]) -> Result<Script,
         }
     }
     Ok(commands)
+}
+
+// The operations of the texts among some values, or the first text that says none.
+fn operations_in(alloc: Global, values: &[Value]) -> Result<Sequence<Operation>, ScenarioFault>
+    ensures { Gives (λ operations. operations) (operations_from 1 (texts_among (items_view values.now))) result }
+{
+    let mut operations = Sequence::with_room(alloc, values.len())?;
+    let mut number: u64 = 1;
+    for value in values {
+        let Some(text) = value.as_str() else {
+            continue;
+        };
+        match operation_of(text) {
+            Some(operation) => operations.push(operation)?,
+            None => return Err(ScenarioFault::OperatorText { number }),
+        }
+        number += 1;
+    }
+    Ok(operations)
 }

@@ -1,5 +1,5 @@
 -- From receipts to entries.
-use Rattle.std.proofs.Common.{◌≡◌, ◌≢◌, ℕ, ◌+◌, ◌<◌, ◌≤◌, ◌==◌, true, false, zero, suc, List, [], ◌∷◌, ◌++◌, length, map, All, Any, Some, slice_get, slice_index, refl, sym, ap, subst, ◌∙◌, arith}
+use Rattle.std.proofs.Common.{◌≡◌, ◌≢◌, ℕ, ◌+◌, ◌<◌, ◌≤◌, ◌==◌, Bool, true, false, cond, append_assoc, zero, suc, List, [], ◌∷◌, ◌++◌, length, map, All, Any, Some, slice_get, slice_index, refl, sym, ap, subst, ◌∙◌, arith}
 use Rattle.std.specs.List.{filter}
 use Rattle.std.proofs.lemmas.Bool.Decides.{nat_tests}
 use Rattle.std.proofs.lemmas.List.Elements.{All-nil, All-cons, All-append, All-map, All-filter}
@@ -14,9 +14,11 @@ use Rattle.abt_source_journal.specs.declared.journal.SourceJournal.{SourceJourna
 use Rattle.abt_access.specs.Deeds.{Step}
 use Rattle.abt_access.specs.Scripts.{RunsScript, step_of}
 use Rattle.abt_relay.specs.Messages.{IsMessage}
+use Rattle.abt_journal.specs.declared.input.PortInput.{PortInput}
+use Rattle.abt_operator.specs.Operations.{AreReceiptsFor, handed_in, handed_by, handed_to}
 use Rattle.abt_ports.specs.Foreign.{AreHistories}
 use Rattle.abt_threads.specs.Runs.{ScriptsFit, IsRunOf, AreRunsFrom, IsMessageEntry, IsRun}
-use Rattle.abt_threads.specs.Promises.{IsAccess, AreSourcesFrom, AreLinkSeatsFrom, AreWorked}
+use Rattle.abt_threads.specs.Promises.{IsAccess, IsOperator, AreSourcesFrom, AreLinkSeatsFrom, AreWorked}
 use Rattle.abt_threads.specs.declared.worked.Worked.{Worked}
 use Rattle.abt_threads.proofs.Fitting.{fits_length}
 
@@ -96,10 +98,49 @@ links_only n (s ∷ links) js (suc k) p are same low =
     let place : n + 1 + k ≡ n + suc k = omega arith in
     subst P place (links_only (n + 1) links js k p are.1 (later_seats js s links same) (omega arith))
 
-links_after : (n : ℕ) (seats links : List Seated) (js : List (List Entry)) (k p : ℕ) → AreLinkSeatsFrom n links → SameEntries js (seats ++ links) → k < length links
-    → All IsMessageEntry (entries_of (n + k) (journal_at js p))
-links_after n [] links js k p are same low = links_only n links js k p are same low
-links_after n (s ∷ seats) links js k p are same low = links_after n seats links js k p are (later_seats js s (seats ++ links) same) low
+same_behind : (js : List (List Entry)) (seats rest : List Seated) → SameEntries js (seats ++ rest) → SameEntries js rest
+same_behind js [] rest same = same
+same_behind js (s ∷ seats) rest same = same_behind js seats rest (later_seats js s (seats ++ rest) same)
+
+first_seat : (js : List (List Entry)) (s : Seated) (rest : List Seated) → SameEntries js (s ∷ rest) → (p : ℕ) → entries_at p s.receipts ≡ entries_of s.caller (journal_at js p)
+first_seat js s rest same p = same p 0 s (omega arith)
+
+same_before : (js : List (List Entry)) (seats rest : List Seated) → SameEntries js (seats ++ rest) → SameEntries js seats
+same_before js [] rest same p = All-nil (λ (s : Seated). entries_at p s.receipts ≡ entries_of s.caller (journal_at js p))
+same_before js (s ∷ seats) rest same p =
+    All-cons (λ (t : Seated). entries_at p t.receipts ≡ entries_of t.caller (journal_at js p)) s seats (first_seat js s (seats ++ rest) same p)
+    (same_before js seats rest (later_seats js s (seats ++ rest) same) p)
+
+-- what the operator leaves
+
+handed_head : (r : Receipt) (rs : List Receipt) (o : ℕ × ℕ) (os : List (ℕ × ℕ)) → AreReceiptsFor (o ∷ os) (r ∷ rs) → (r.port ≡ o.0) × (r.entry.input ≡ (handed_by o).1) × AreReceiptsFor os rs
+handed_head r rs o os are =
+    let first : handed_in r ≡ handed_by o = cc in
+    let rest : map handed_in rs ≡ map handed_by os = cc in
+    (ap (λ (h : ℕ × PortInput). h.0) first, ap (λ (h : ℕ × PortInput). h.1) first, rest)
+
+handed_step : (b d : Bool) (r : Receipt) (rs : List Receipt) (o : ℕ × ℕ) (os : List (ℕ × ℕ)) → b ≡ d → r.entry.input ≡ (handed_by o).1
+    → map (λ (e : Entry). e.input) (map (λ (x : Receipt). x.entry) rs) ≡ map (λ (x : ℕ × ℕ). (handed_by x).1) os
+    → map (λ (e : Entry). e.input) (map (λ (x : Receipt). x.entry) (cond b (r ∷ rs) rs)) ≡ map (λ (x : ℕ × ℕ). (handed_by x).1) (cond d (o ∷ os) os)
+handed_step true true r rs o os same here rest = λ i. here i ∷ rest i
+handed_step true false r rs o os same here rest = absurd (cc)
+handed_step false true r rs o os same here rest = absurd (cc)
+handed_step false false r rs o os same here rest = rest
+
+operator_at : (p : ℕ) (os : List (ℕ × ℕ)) (rs : List Receipt) → AreReceiptsFor os rs → map (λ (e : Entry). e.input) (entries_at p rs) ≡ handed_to p os
+operator_at p [] [] are = refl
+operator_at p [] (r ∷ rs) are = absurd (cc)
+operator_at p (o ∷ os) [] are = absurd (cc)
+operator_at p (o ∷ os) (r ∷ rs) are =
+    let h = handed_head r rs o os are in
+    let rest = operator_at p os rs h.2 in
+    handed_step (r.port == p) (o.0 == p) r (filter (λ (x : Receipt). x.port == p) rs) o (filter (λ (x : ℕ × ℕ). x.0 == p) os) (ap (λ n. n == p) h.0) h.1 rest
+
+operator_left : (caller : ℕ) (operations : List (ℕ × ℕ)) (seat : Seated) (js : List (List Entry)) (p : ℕ) → IsOperator caller operations seat
+    → entries_at p seat.receipts ≡ entries_of seat.caller (journal_at js p) → map (λ (e : Entry). e.input) (entries_of caller (journal_at js p)) ≡ handed_to p operations
+operator_left caller operations seat js p is same =
+    let own : entries_of caller (journal_at js p) ≡ entries_at p seat.receipts = ap (λ (c : ℕ). entries_of c (journal_at js p)) (sym is.own) ∙ sym same in
+    ap (map (λ (e : Entry). e.input)) own ∙ operator_at p operations seat.receipts is.receipts
 
 -- callers
 
@@ -129,22 +170,33 @@ callers_low most seats js low known k d below =
     let own = a.4 in
     omega (arith, h, same, own)
 
-pub ended : (net : Topology) (scripts : List (List Command)) (workers : ℕ) (worked : Worked) (all : List Seated) (js : List (List Entry)) → ScriptsFit net.conns scripts
-    → AreWorked net scripts workers worked → all ≡ worked.accesses.items ++ worked.links.items → AreHistories net js → AreReceipts js all
-    → IsRun net scripts workers (record { journals = js; sources = worked.sources })
-ended net scripts workers worked all js fit done joined histories receipts =
+callers_most : (most : ℕ) (js : List Entry) → All (λ (e : Entry). e.caller < most + 1) js → All (λ (e : Entry). e.caller ≤ most) js
+callers_most most js low k d below = let h = low k d below in omega (arith, h)
+
+pub ended : (net : Topology) (scripts : List (List Command)) (operations : List (ℕ × ℕ)) (workers : ℕ) (worked : Worked) (all : List Seated) (js : List (List Entry)) → ScriptsFit net.conns scripts
+    → AreWorked net scripts operations workers worked → all ≡ (worked.accesses.items ++ worked.links.items) ++ worked.operator ∷ [] → AreHistories net js → AreReceipts js all
+    → IsRun net scripts operations workers (record { journals = js; sources = worked.sources })
+ended net scripts operations workers worked all js fit done joined histories receipts =
     let seats : List Seated = worked.accesses.items in
     let links : List Seated = worked.links.items in
+    let last : List Seated = worked.operator ∷ [] in
+    let whole : all ≡ seats ++ (links ++ last) = joined ∙ append_assoc seats links last in
     let P : List Seated → Type 0 = SameEntries js in
-    let same : SameEntries js (seats ++ links) = subst P joined receipts.same in
+    let same : SameEntries js (seats ++ (links ++ last)) = subst P whole receipts.same in
+    let behind : SameEntries js (links ++ last) = same_behind js seats (links ++ last) same in
     let count : length links ≡ workers = done.count in
     let fits : length scripts ≡ length net.conns = fits_length net.conns scripts fit in
-    let low : All (λ (s : Seated). s.caller < length net.conns + workers) (seats ++ links) =
-    All-append (λ (s : Seated). s.caller < length net.conns + workers) seats links (sources_low net 0 (length net.conns + workers) scripts seats worked.sources.items done.sources (omega arith)) (links_low (length net.conns) (length net.conns + workers) links done.links (omega arith)) in
-    let Q : List Seated → Type 0 = All (λ (s : Seated). s.caller < length net.conns + workers) in
+    let most : ℕ = length net.conns + workers + 1 in
+    let own : worked.operator.caller ≡ length net.conns + workers = done.operator.own in
+    let low : All (λ (s : Seated). s.caller < most) (seats ++ (links ++ last)) =
+    All-append (λ (s : Seated). s.caller < most) seats (links ++ last) (sources_low net 0 most scripts seats worked.sources.items done.sources (omega arith))
+    (All-append (λ (s : Seated). s.caller < most) links last (links_low (length net.conns) most links done.links (omega arith))
+    (All-cons (λ (s : Seated). s.caller < most) worked.operator [] (omega arith) (All-nil (λ (s : Seated). s.caller < most)))) in
+    let Q : List Seated → Type 0 = All (λ (s : Seated). s.caller < most) in
     record {
       histories = histories;
-      sources = sources_run net scripts seats links all worked.sources.items js fit done.sources joined receipts;
-      links = λ k p below. links_after (length net.conns) seats links js k p done.links same (omega arith);
-      callers = λ p. callers_low (length net.conns + workers) all (journal_at js p) (subst Q (sym joined) low) (receipts.known p);
+      sources = sources_run net scripts seats (links ++ last) all worked.sources.items js fit done.sources whole receipts;
+      links = λ k p below. links_only (length net.conns) links js k p done.links (same_before js links last behind) (omega arith);
+      operator = λ p. operator_left (length net.conns + workers) operations worked.operator js p done.operator (first_seat js worked.operator [] (same_behind js links last behind) p);
+      callers = λ p. callers_most (length net.conns + workers) (journal_at js p) (callers_low most all (journal_at js p) (subst Q (sym whole) low) (receipts.known p));
     }

@@ -1,5 +1,5 @@
 -- Promises that are added one by one, and what they come to when they are kept.
-use Rattle.std.proofs.Common.{◌≡◌, ℕ, ◌+◌, Bool, true, false, List, [], ◌∷◌, ◌++◌, length, map, Option, None, Some, option_map, slice_get, Result, Ok, Err, IfOk, IfErr, inl, inr, refl, sym, ap, subst, ◌∙◌, arith}
+use Rattle.std.proofs.Common.{◌≡◌, ℕ, ◌+◌, List, [], ◌∷◌, ◌++◌, length, map, Option, None, Some, option_map, slice_get, Result, Ok, Err, IfOk, IfErr, IfSome, IsSome, inl, inr, refl, sym, ap, subst, ◌∙◌, arith}
 use Rattle.std.specs.Prelude.{◌⊎◌}
 use Rattle.std.specs.Option.{ForSome}
 use Rattle.std.proofs.lemmas.List.{map-append, length-map}
@@ -10,12 +10,13 @@ use Rattle.abt_journal.specs.declared.fault.ServeFault.TheVariants.{Wound, Memor
 use Rattle.abt_script.specs.declared.command.Command.{Command}
 use Rattle.abt_source_journal.specs.declared.journal.SourceJournal.{SourceJournal}
 use Rattle.abt_threads.specs.Faults.{IsRight, run_fault, graver, fault_in, fault_among, given_back, fault_told}
-use Rattle.abt_threads.specs.Promises.{IsAccess, AreLinksFrom, AreAccessesFrom, KeepEachLink, KeepEachAccess, KeepLinks, KeepAccesses, AreSourcesFrom, AreLinkSeatsFrom, AreWorked, IsOwn, IsOwnFault, WoundsRight}
+use Rattle.abt_threads.specs.Promises.{IsAccess, AreLinksFrom, AreAccessesFrom, KeepEachLink, KeepEachAccess, KeepItsOperator, IsOperator, KeepLinks, KeepAccesses, AreSourcesFrom, AreLinkSeatsFrom, AreWorked, IsOwn, IsOwnFault, WoundsRight}
 use Rattle.abt_threads.specs.declared.fault.RunFault.{RunFault}
 use Rattle.abt_threads.specs.declared.fault.RunFault.TheVariants.{Thread, Wound as RunWound, Memory as RunMemory}
 use Rattle.abt_threads.specs.declared.worked.Worked.{Worked}
 use Rattle.abt_threads.specs.declared.promises.AccessOf.{AccessOf}
 use Rattle.abt_threads.specs.declared.promises.LinkOf.{LinkOf}
+use Rattle.abt_threads.specs.declared.promises.OperatorOf.{OperatorOf}
 
 pub links-snoc : (n : ℕ) (ps : List LinkOf) (p : LinkOf) → AreLinksFrom n ps → p.caller ≡ n + length ps → AreLinksFrom n (ps ++ p ∷ [])
 links-snoc n [] p h here = (omega arith, tt)
@@ -133,38 +134,70 @@ mapped_own (Some Memory) fault right is =
     let P : RunFault → Type 0 = IsOwn in subst P same tt
 
 -- no fault is told
-none_told : (complete : Bool) (ss : List (Result (Seated × SourceJournal) ServeFault)) (ls : List (Result Seated ServeFault)) → fault_told complete ss ls ≡ None
-    → (complete ≡ true) × (fault_among ss ≡ None) × (fault_among ls ≡ None)
-none_told false ss ls none = absurd (cc)
-none_told true ss ls none =
-    let clean = graver_none (fault_among ss) (fault_among ls) (unmapped (graver (fault_among ss) (fault_among ls)) none) in (refl, clean.0, clean.1)
+pub none_told : (operator : Result Seated ServeFault) (ss : List (Result (Seated × SourceJournal) ServeFault)) (ls : List (Result Seated ServeFault)) → fault_told (Some operator) ss ls ≡ None
+    → (fault_among ss ≡ None) × (fault_among ls ≡ None) × (fault_in operator ≡ None)
+none_told operator ss ls none =
+    let all = graver_none (graver (fault_among ss) (fault_among ls)) (fault_in operator) (unmapped (graver (graver (fault_among ss) (fault_among ls)) (fault_in operator)) none) in
+    let crew = graver_none (fault_among ss) (fault_among ls) all.0 in
+    (crew.0, crew.1, all.1)
+
+-- where no fault is told, the operator gave its seat back
+seat_given : (operator : Result Seated ServeFault) → fault_in operator ≡ None → (seat : Seated) × (operator ≡ Ok seat)
+seat_given (Ok seat) none = (seat, refl)
+seat_given (Err fault) none = absurd (cc)
+
+pub operator_given : (operator : Option (Result Seated ServeFault)) (ss : List (Result (Seated × SourceJournal) ServeFault)) (ls : List (Result Seated ServeFault)) → fault_told operator ss ls ≡ None
+    → (seat : Seated) × (operator ≡ Some (Ok seat))
+operator_given None ss ls none = absurd (cc)
+operator_given (Some operator) ss ls none =
+    let given = seat_given operator (none_told operator ss ls none).2 in (given.0, ap Some given.1)
 
 -- the fault that is told is one of the workers themselves
-told_own : (complete : Bool) (ps : List AccessOf) (qs : List LinkOf) (ss : List (Result (Seated × SourceJournal) ServeFault)) (ls : List (Result Seated ServeFault)) (fault : RunFault)
-    → KeepEachAccess ps ss → KeepEachLink qs ls → fault_told complete ss ls ≡ Some fault → IsOwn fault
-told_own false ps qs ss ls fault kept linked told =
+told_own : (ps : List AccessOf) (qs : List LinkOf) (o : Option OperatorOf) (operator : Option (Result Seated ServeFault))
+    (ss : List (Result (Seated × SourceJournal) ServeFault)) (ls : List (Result Seated ServeFault)) (fault : RunFault)
+    → KeepEachAccess ps ss → KeepEachLink qs ls → KeepItsOperator o operator → fault_told operator ss ls ≡ Some fault → IsOwn fault
+told_own ps qs o None ss ls fault kept linked ran told =
     let same : Thread ≡ fault = cc in
     let P : RunFault → Type 0 = IsOwn in subst P same tt
-told_own true ps qs ss ls fault kept linked told =
-    mapped_own (graver (fault_among ss) (fault_among ls)) fault (graver_right (fault_among ss) (fault_among ls) (accesses_right ps ss kept) (links_right qs ls linked)) told
+told_own ps qs None (Some operator) ss ls fault kept linked ran told = absurd ran
+told_own ps qs (Some p) (Some operator) ss ls fault kept linked ran told =
+    let crew = graver_right (fault_among ss) (fault_among ls) (accesses_right ps ss kept) (links_right qs ls linked) in
+    mapped_own (graver (graver (fault_among ss) (fault_among ls)) (fault_in operator)) fault
+    (graver_right (graver (fault_among ss) (fault_among ls)) (fault_in operator) crew (fault_right operator ran.1)) told
+
+-- the operator's seat keeps its promise
+operator_kept : (caller : ℕ) (operations : List (ℕ × ℕ)) (o : Option OperatorOf) (seat : Seated) → IfSome o (λ p. (p.caller ≡ caller) × (p.operations.now ≡ operations))
+    → KeepItsOperator o (Some (Ok seat)) → IsOperator caller operations seat
+operator_kept caller operations None seat promised ran = absurd ran
+operator_kept caller operations (Some p) seat promised ran =
+    let P : ℕ → Type 0 = λ c. IsOperator c p.operations.now seat in
+    let Q : List (ℕ × ℕ) → Type 0 = λ list. IsOperator caller list seat in
+    subst Q promised.1 (subst P promised.0 ran.0)
+
+-- only an operator that was promised gave something back
+promised_there : (o : Option OperatorOf) (operator : Result Seated ServeFault) → KeepItsOperator o (Some operator) → IsSome o
+promised_there None operator ran = absurd ran
+promised_there (Some p) operator ran = refl
 
 -- what all workers gave back, who kept their promises
-worked_is : (net : Topology) (scripts : List (List Command)) (workers : ℕ) (ps : List AccessOf) (qs : List LinkOf) (complete : Bool)
+worked_is : (net : Topology) (scripts : List (List Command)) (operations : List (ℕ × ℕ)) (workers : ℕ) (ps : List AccessOf) (qs : List LinkOf) (o : Option OperatorOf) (seat : Seated)
     (ss : List (Result (Seated × SourceJournal) ServeFault)) (ls : List (Result Seated ServeFault)) (worked : Worked)
-    → AreAccessesFrom net 0 scripts ps → AreLinksFrom (length net.conns) qs
-    → (complete ≡ true → (length ps ≡ length scripts) × (length qs ≡ workers))
-    → KeepEachAccess ps ss → KeepEachLink qs ls → fault_told complete ss ls ≡ None
+    → AreAccessesFrom net 0 scripts ps → AreLinksFrom (length net.conns) qs → IfSome o (λ p. (p.caller ≡ length net.conns + workers) × (p.operations.now ≡ operations))
+    → (IsSome o → (length ps ≡ length scripts) × (length qs ≡ workers))
+    → KeepEachAccess ps ss → KeepEachLink qs ls → KeepItsOperator o (Some (Ok seat)) → fault_told (Some (Ok seat)) ss ls ≡ None
     → worked.accesses.items ≡ map (λ (r : Seated × SourceJournal). r.0) (given_back ss) → worked.sources.items ≡ map (λ (r : Seated × SourceJournal). r.1) (given_back ss)
-    → worked.links.items ≡ given_back ls → AreWorked net scripts workers worked
-worked_is net scripts workers ps qs complete ss ls worked a b all kept linked none seats journals links =
-    let clean = none_told complete ss ls none in
-    let counts = all clean.0 in
-    let accesses = keep_accesses ps ss kept clean.1 in
-    let h = links_kept (length net.conns) qs (given_back ls) b (keep_links qs ls linked clean.2) in
+    → worked.links.items ≡ given_back ls → worked.operator ≡ seat → AreWorked net scripts operations workers worked
+worked_is net scripts operations workers ps qs o seat ss ls worked a b promised all kept linked ran none seats journals links own =
+    let clean = none_told (Ok seat) ss ls none in
+    let counts = all (promised_there o (Ok seat) ran) in
+    let accesses = keep_accesses ps ss kept clean.0 in
+    let h = links_kept (length net.conns) qs (given_back ls) b (keep_links qs ls linked clean.1) in
+    let P : Seated → Type 0 = IsOperator (length net.conns + workers) operations in
     record {
       sources = rw (seats, journals) (sources_kept net 0 scripts ps (map (λ (r : Seated × SourceJournal). r.0) (given_back ss)) (map (λ (r : Seated × SourceJournal). r.1) (given_back ss)) a counts.0 accesses);
       links = rw links h.0;
       count = ap length links ∙ h.1 ∙ counts.1;
+      operator = subst P (sym own) (operator_kept (length net.conns + workers) operations o seat promised ran);
     }
 
 -- what a run tells of joined workers
@@ -172,26 +205,38 @@ cases_told : (told : Option RunFault) → (told ≡ None) ⊎ ((fault : RunFault
 cases_told None = inl refl
 cases_told (Some fault) = inr (fault, refl)
 
-pub worked_or : (net : Topology) (scripts : List (List Command)) (workers : ℕ) (ps : List AccessOf) (qs : List LinkOf) (complete : Bool)
+pub worked_or : (net : Topology) (scripts : List (List Command)) (operations : List (ℕ × ℕ)) (workers : ℕ) (ps : List AccessOf) (qs : List LinkOf) (o : Option OperatorOf) (operator : Option (Result Seated ServeFault))
     (ss : List (Result (Seated × SourceJournal) ServeFault)) (ls : List (Result Seated ServeFault)) (result : Result Worked RunFault)
-    → AreAccessesFrom net 0 scripts ps → AreLinksFrom (length net.conns) qs → (complete ≡ true → (length ps ≡ length scripts) × (length qs ≡ workers))
-    → KeepEachAccess ps ss → KeepEachLink qs ls → ((fault : RunFault) → fault_told complete ss ls ≡ Some fault → result ≡ Err fault)
+    → AreAccessesFrom net 0 scripts ps → AreLinksFrom (length net.conns) qs → IfSome o (λ p. (p.caller ≡ length net.conns + workers) × (p.operations.now ≡ operations))
+    → (IsSome o → (length ps ≡ length scripts) × (length qs ≡ workers))
+    → KeepEachAccess ps ss → KeepEachLink qs ls → KeepItsOperator o operator → ((fault : RunFault) → fault_told operator ss ls ≡ Some fault → result ≡ Err fault)
     → IfOk result (λ w. w.accesses.items ≡ map (λ (r : Seated × SourceJournal). r.0) (given_back ss))
     → IfOk result (λ w. w.sources.items ≡ map (λ (r : Seated × SourceJournal). r.1) (given_back ss))
-    → IfOk result (λ w. w.links.items ≡ given_back ls) → IfOk result (AreWorked net scripts workers)
-worked_or net scripts workers ps qs complete ss ls (Err fault) a b all kept linked told seats journals links = tt
-worked_or net scripts workers ps qs complete ss ls (Ok worked) a b all kept linked told seats journals links = elim (cases_told (fault_told complete ss ls)) [
-  | inl none ↦ worked_is net scripts workers ps qs complete ss ls worked a b all kept linked none seats journals links
+    → IfOk result (λ w. w.links.items ≡ given_back ls) → IfOk result (λ w. operator ≡ Some (Ok w.operator)) → IfOk result (AreWorked net scripts operations workers)
+worked_or net scripts operations workers ps qs o operator ss ls (Err fault) a b promised all kept linked ran told seats journals links own = tt
+worked_or net scripts operations workers ps qs o operator ss ls (Ok worked) a b promised all kept linked ran told seats journals links own = elim (cases_told (fault_told operator ss ls)) [
+  | inl none ↦ (
+      let P : Option (Result Seated ServeFault) → Type 0 = λ given. KeepItsOperator o given in
+      worked_is net scripts operations workers ps qs o worked.operator ss ls worked a b promised all kept linked (subst P own ran)
+      (ap (λ given. fault_told given ss ls) (sym own) ∙ none) seats journals links refl
+      )
   | inr some ↦ absurd (let clash = told some.0 some.1 in cc)
 ]
 
-pub own_or : (ps : List AccessOf) (qs : List LinkOf) (complete : Bool) (ss : List (Result (Seated × SourceJournal) ServeFault)) (ls : List (Result Seated ServeFault)) (result : Result Worked RunFault)
-    → KeepEachAccess ps ss → KeepEachLink qs ls → ((fault : RunFault) → fault_told complete ss ls ≡ Some fault → result ≡ Err fault)
-    → (fault_told complete ss ls ≡ None → IfErr result (λ fault. fault ≡ RunMemory)) → IsOwnFault result
-own_or ps qs complete ss ls (Ok worked) kept linked told none = tt
-own_or ps qs complete ss ls (Err fault) kept linked told none = elim (cases_told (fault_told complete ss ls)) [
+pub own_or : (ps : List AccessOf) (qs : List LinkOf) (o : Option OperatorOf) (operator : Option (Result Seated ServeFault))
+    (ss : List (Result (Seated × SourceJournal) ServeFault)) (ls : List (Result Seated ServeFault)) (result : Result Worked RunFault)
+    → KeepEachAccess ps ss → KeepEachLink qs ls → KeepItsOperator o operator → ((fault : RunFault) → fault_told operator ss ls ≡ Some fault → result ≡ Err fault)
+    → (fault_told operator ss ls ≡ None → IfErr result (λ fault. fault ≡ RunMemory)) → IsOwnFault result
+own_or ps qs o operator ss ls (Ok worked) kept linked ran told none = tt
+own_or ps qs o operator ss ls (Err fault) kept linked ran told none = elim (cases_told (fault_told operator ss ls)) [
   | inl clean ↦ (let P : RunFault → Type 0 = IsOwn in subst P (sym (none clean)) tt)
   | inr some ↦ (
       let same : fault ≡ some.0 = (let e = told some.0 some.1 in cc) in
-      let P : RunFault → Type 0 = IsOwn in subst P (sym same) (told_own complete ps qs ss ls some.0 kept linked some.1))
+      let P : RunFault → Type 0 = IsOwn in subst P (sym same) (told_own ps qs o operator ss ls some.0 kept linked ran some.1))
 ]
+
+-- what is promised of a handle is promised
+pub promised_of : {H : Type 0} (f : H → OperatorOf) (o : Option H) (caller most : ℕ) (operations : List (ℕ × ℕ)) → caller ≡ most → IfSome o (λ h. ((f h).caller ≡ caller) × ((f h).operations.now ≡ operations))
+    → IfSome (option_map f o) (λ p. (p.caller ≡ most) × (p.operations.now ≡ operations))
+promised_of f None caller most operations same promised = tt
+promised_of f (Some h) caller most operations same promised = (promised.0 ∙ same, promised.1)

@@ -1,5 +1,5 @@
 -- Faults that a run hands on.
-use Rattle.std.specs.Prelude.{◌<◌, Bool, true, false, List, [], ◌∷◌, Option, None, Some, option_map, Result, Ok, Err}
+use Rattle.std.specs.Prelude.{◌<◌, List, [], ◌∷◌, Option, None, Some, option_map, Result, Ok, Err}
 use Rattle.abt_journal.specs.Receipts.{Seated}
 use Rattle.abt_journal.specs.declared.fault.ServeFault.{ServeFault}
 use Rattle.abt_journal.specs.declared.fault.ServeFault.TheVariants as serve
@@ -44,11 +44,12 @@ given_back [] = []
 given_back (Ok given ∷ rs) = given ∷ given_back rs
 given_back (Err fault ∷ rs) = given_back rs
 
--- The fault that a run tells of its workers, if there is one: that not all could be started, or else the first Wound, of the sources
--- before the link workers, or else want of memory.
-abbrev pub fault_told : (complete : Bool) → List (Result (Seated × SourceJournal) ServeFault) → List (Result Seated ServeFault) → Option RunFault
-fault_told false sources links = Some Thread
-fault_told true sources links = option_map run_fault (graver (fault_among sources) (fault_among links))
+-- The fault that a run tells of its workers, if there is one: that not all could be started, of which the operator's is the last, or
+-- else the first Wound, of the sources before the link workers and these before the operator, or else want of memory.
+abbrev pub fault_told : (operator : Option (Result Seated ServeFault)) → List (Result (Seated × SourceJournal) ServeFault) → List (Result Seated ServeFault) → Option RunFault
+fault_told None sources links = Some Thread
+fault_told (Some operator) sources links =
+    option_map run_fault (graver (graver (fault_among sources) (fault_among links)) (fault_in operator))
 
 -- A Wound is told only where fewer entries were found than seen.
 abbrev pub IsRight : ServeFault → Type 0

@@ -1,5 +1,5 @@
 -- What workers promise of their results, and what their promises say together.
-use Rattle.std.specs.Prelude.{◌≡◌, ◌<◌, ℕ, ◌+◌, List, [], ◌∷◌, All, map, Result, IfOk, IfErr, IsErrOf, length, Some, slice_index}
+use Rattle.std.specs.Prelude.{◌≡◌, ◌<◌, ℕ, ◌+◌, List, [], ◌∷◌, All, map, Option, None, Some, Result, IfOk, IfErr, IsErrOf, length, slice_index}
 use Rattle.abt_net.specs.Topology.{Topology, conn_at}
 use Rattle.abt_net.specs.declared.conn.Conn.{Conn}
 use Rattle.abt_journal.specs.Receipts.{Seated}
@@ -8,9 +8,11 @@ use Rattle.abt_journal.specs.declared.fault.ServeFault.TheVariants.{Wound}
 use Rattle.abt_script.specs.declared.command.Command.{Command}
 use Rattle.abt_source_journal.specs.declared.journal.SourceJournal.{SourceJournal}
 use Rattle.abt_relay.specs.Messages.{IsMessage}
+use Rattle.abt_operator.specs.Operations.{AreReceiptsFor}
 use Rattle.abt_access.specs.Scripts.{RunsScript, step_of}
 use Rattle.abt_threads.specs.declared.promises.AccessOf.{AccessOf}
 use Rattle.abt_threads.specs.declared.promises.LinkOf.{LinkOf}
+use Rattle.abt_threads.specs.declared.promises.OperatorOf.{OperatorOf}
 use Rattle.abt_threads.specs.declared.fault.RunFault.{RunFault}
 use Rattle.abt_threads.specs.declared.fault.RunFault.TheVariants as run
 use Rattle.abt_threads.specs.declared.worked.Worked.{Worked}
@@ -36,6 +38,14 @@ pub record IsLink (caller : ℕ) (seat : Seated) : Type 0 where
 abbrev pub KeepsLink : ℕ → Result Seated ServeFault → Type 0
 KeepsLink caller r = IfOk r (IsLink caller) × WoundsRight r
 
+-- The seat is that of the operator, who carried out its list.
+pub record IsOperator (caller : ℕ) (operations : List (ℕ × ℕ)) (seat : Seated) : Type 0 where
+  pub own : seat.caller ≡ caller
+  pub receipts : AreReceiptsFor operations seat.receipts
+
+abbrev pub KeepsOperator : ℕ → List (ℕ × ℕ) → Result Seated ServeFault → Type 0
+KeepsOperator caller operations r = IfOk r (IsOperator caller operations) × WoundsRight r
+
 -- the promises of link workers, with the callers from n on
 abbrev pub AreLinksFrom : ℕ → List LinkOf → Type 0
 AreLinksFrom n [] = Unit {0}
@@ -60,6 +70,13 @@ KeepEachAccess [] [] = Unit {0}
 KeepEachAccess [] (r ∷ rs) = ⊥
 KeepEachAccess (p ∷ ps) [] = ⊥
 KeepEachAccess (p ∷ ps) (r ∷ rs) = KeepsAccess p.net.value p.conn p.script.value r × KeepEachAccess ps rs
+
+-- what the operator gave back, if it was started, keeps its promise
+abbrev pub KeepItsOperator : Option OperatorOf → Option (Result Seated ServeFault) → Type 0
+KeepItsOperator None None = Unit {0}
+KeepItsOperator None (Some r) = ⊥
+KeepItsOperator (Some p) None = ⊥
+KeepItsOperator (Some p) (Some r) = KeepsOperator p.caller p.operations.now r
 
 -- each seat keeps the promise at its place
 abbrev pub KeepLinks : List LinkOf → List Seated → Type 0
@@ -90,16 +107,18 @@ abbrev pub AreLinkSeatsFrom : ℕ → List Seated → Type 0
 AreLinkSeatsFrom n [] = Unit {0}
 AreLinkSeatsFrom n (s ∷ ss) = IsLink n s × AreLinkSeatsFrom (n + 1) ss
 
--- The workers gave back the seats and the journals of all sources, and the seats of all link workers.
-pub record AreWorked (net : Topology) (scripts : List (List Command)) (workers : ℕ) (worked : Worked) : Type 0 where
+-- The workers gave back the seats and the journals of all sources, the seats of all link workers, and the operator's seat.
+pub record AreWorked (net : Topology) (scripts : List (List Command)) (operations : List (ℕ × ℕ)) (workers : ℕ) (worked : Worked) : Type 0 where
   pub sources : AreSourcesFrom net 0 scripts worked.accesses.items worked.sources.items
   pub links : AreLinkSeatsFrom (length net.conns) worked.links.items
   pub count : length worked.links.items ≡ workers
+  pub operator : IsOperator (length net.conns + workers) operations worked.operator
 
 -- The fault is one of the workers themselves.
 abbrev pub IsOwn : RunFault → Type 0
 IsOwn run.Workers = ⊥
 IsOwn run.Scripts = ⊥
+IsOwn run.Operator = ⊥
 IsOwn run.Thread = Unit {0}
 IsOwn (run.Wound seen found) = found < seen
 IsOwn (run.Gather fault) = ⊥

@@ -1,5 +1,5 @@
 -- Runs of a net in threads (docs/RULES.md, "Workers").
-use Rattle.std.specs.Prelude.{◌≡◌, ◌≢◌, ℕ, ◌+◌, ◌<◌, List, [], ◌∷◌, length, map, All, slice_index}
+use Rattle.std.specs.Prelude.{◌≡◌, ◌≢◌, ℕ, ◌+◌, ◌<◌, ◌≤◌, List, [], ◌∷◌, length, map, All, slice_index}
 use Rattle.abt_rate.specs.Limits.{AreWorkers}
 use Rattle.abt_cell.specs.declared.message.Rm.{Rm}
 use Rattle.abt_net.specs.Topology.{Topology}
@@ -7,6 +7,7 @@ use Rattle.abt_net.specs.declared.conn.Conn.{Conn}
 use Rattle.abt_journal.specs.declared.entry.Entry.{Entry}
 use Rattle.abt_ports.specs.Foreign.{AreHistories}
 use Rattle.abt_ports.specs.Gathered.{journal_at, entries_of}
+use Rattle.abt_operator.specs.Operations.{handed_to}
 use Rattle.abt_script.specs.declared.command.Command.{Command}
 use Rattle.abt_source_journal.specs.declared.journal.SourceJournal.{SourceJournal}
 use Rattle.abt_relay.specs.declared.plan.ThreadPlan.{ThreadPlan}
@@ -43,9 +44,11 @@ abbrev pub IsMessageEntry : Entry → Type 0
 IsMessageEntry entry = (message : Rm) × (entry.input ≡ input_of message)
 
 -- What a run of threads with so many link workers leaves: the journal of each port is one of one thread, each source ran its script,
--- the link workers' entries are requests and answers, and there is no other caller.
-pub record IsRun (net : Topology) (scripts : List (List Command)) (workers : ℕ) (run : Gathered) : Type 0 where
+-- the link workers' entries are requests and answers, the operator's entries are what its list hands to each port, in its order, each
+-- once, and there is no other caller.
+pub record IsRun (net : Topology) (scripts : List (List Command)) (operations : List (ℕ × ℕ)) (workers : ℕ) (run : Gathered) : Type 0 where
   pub histories : AreHistories net run.journals
   pub sources : AreRunsFrom 0 net.conns scripts run.journals run.sources.items
   pub links : (k p : ℕ) → k < workers → All IsMessageEntry (entries_of (length net.conns + k) (journal_at run.journals p))
-  pub callers : (p : ℕ) → All (λ e. e.caller < length net.conns + workers) (journal_at run.journals p)
+  pub operator : (p : ℕ) → map (λ e. e.input) (entries_of (length net.conns + workers) (journal_at run.journals p)) ≡ handed_to p operations
+  pub callers : (p : ℕ) → All (λ e. e.caller ≤ length net.conns + workers) (journal_at run.journals p)

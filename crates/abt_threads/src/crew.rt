@@ -1,9 +1,10 @@
 //! The workers of a run, from the first start to the last join.
-ghost use Rattle.std.specs.Prelude.{◌≡◌, ◌≤◌, ◌<◌, ◌+◌, [], ◌∷◌, ◌++◌, true, false, IfOk, map, vec_len, vec_capacity};
-ghost use Rattle.abt_threads.specs.Promises.{KeepEachAccess, KeepEachLink};
+ghost use Rattle.std.specs.Prelude.{◌≡◌, ◌≤◌, ◌<◌, ◌+◌, [], ◌∷◌, ◌++◌, true, false, IfOk, map, option_map, vec_len, vec_capacity};
+ghost use Rattle.abt_threads.specs.Promises.{KeepEachAccess, KeepEachLink, KeepItsOperator};
 
 use crate::join::{
-    AccessHandle, AccessResult, Joined, LinkHandle, LinkResult, join_links, join_sources,
+    AccessHandle, AccessResult, Joined, LinkHandle, LinkResult, OperatorHandle, join_links,
+    join_operator, join_sources,
 };
 use crate::stop::stop_all;
 use abt_relay::Parcel;
@@ -12,8 +13,8 @@ use std::alloc::{AllocError, Global};
 use std::sync::Wait;
 use std::thread::Threads;
 
-/// The workers that were started. It has no `Drop`, and only [`Crew::stop_and_join`] takes it apart: a way out that leaves a worker
-/// running doesn't compile.
+/// The workers that were started, but for the operator's. It has no `Drop`, and only [`Staff::stop_and_join`] takes it apart: a way out
+/// that leaves a worker running doesn't compile.
 pub(crate) struct Crew {
     to: Sender<Parcel>,
     workers: usize,
@@ -82,8 +83,25 @@ impl Crew {
         self.complete = false;
         self
     }
+}
 
-    /// Joins the access workers, then stops the link workers and joins them too.
+/// A crew, and the operator's worker, which is started last: where there is none, not all workers could be started. It has no `Drop`
+/// either.
+pub(crate) struct Staff<'run> {
+    crew: Crew,
+    operator: Option<OperatorHandle<'run>>,
+}
+
+impl<'run> Staff<'run> {
+    /// A crew with its operator, if that was started.
+    pub(crate) fn new(crew: Crew, operator: Option<OperatorHandle<'run>>) -> Staff<'run>
+        ensures crew { result.crew ≡ crew }
+        ensures operator { result.operator ≡ operator.entry }
+    {
+        Staff { crew, operator }
+    }
+
+    /// Joins the access workers and the operator's, then stops the link workers and joins them too.
     pub(crate) fn stop_and_join<R: Threads + Wait>(
         self,
         rt: &R,
@@ -91,23 +109,25 @@ impl Crew {
         links: Vec<LinkResult>,
     ) -> Joined
         requires empty { (sources.items ≡ []) × (links.items ≡ []) }
-        requires room { (vec_len self.sources ≤ vec_capacity sources) × (vec_len self.links ≤ vec_capacity links) }
-        ensures complete { result.complete ≡ self.complete }
-        ensures sources { KeepEachAccess (map (λ h. h.promise) self.sources.items) result.sources.items }
-        ensures links { KeepEachLink (map (λ h. h.promise) self.links.items) result.links.items }
+        requires room { (vec_len self.crew.sources ≤ vec_capacity sources) × (vec_len self.crew.links ≤ vec_capacity links) }
+        ensures operator { KeepItsOperator (option_map (λ h. h.promise) self.entry.operator) result.operator }
+        ensures sources { KeepEachAccess (map (λ h. h.promise) self.entry.crew.sources.items) result.sources.items }
+        ensures links { KeepEachLink (map (λ h. h.promise) self.entry.crew.links.items) result.links.items }
     {
+        let Staff { crew, operator } = self;
         let Crew {
             to,
             workers,
             links: link_handles,
             sources: source_handles,
-            complete,
-        } = self;
+            complete: _,
+        } = crew;
         let sources = join_sources(rt, source_handles, sources);
+        let operator = join_operator(rt, operator);
         stop_all(rt, &to, workers);
         let links = join_links(rt, link_handles, links);
         Joined {
-            complete,
+            operator,
             sources,
             links,
         }

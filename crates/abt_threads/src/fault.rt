@@ -14,6 +14,9 @@ pub enum RunFault {
     /// There isn't one script for each connection, or a jitter is above its connection's tau.
     #[error("there is not one script for each connection, or a jitter is above the tolerance")]
     Scripts,
+    /// The operator's list names a port that the net doesn't have.
+    #[error("the operator's list names a port that is not in the net")]
+    Operator,
     /// A thread couldn't be started.
     #[error("a thread could not be started")]
     Thread,

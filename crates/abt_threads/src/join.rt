@@ -1,8 +1,8 @@
 //! Workers that are joined.
-ghost use Rattle.std.specs.Prelude.{◌≡◌, ◌≤◌, [], map, vec_len, vec_capacity};
-ghost use Rattle.abt_threads.specs.Promises.{KeepEachAccess, KeepEachLink};
+ghost use Rattle.std.specs.Prelude.{◌≡◌, ◌≤◌, [], map, option_map, vec_len, vec_capacity};
+ghost use Rattle.abt_threads.specs.Promises.{KeepEachAccess, KeepEachLink, KeepItsOperator};
 
-use crate::promises::{AccessOf, LinkOf};
+use crate::promises::{AccessOf, LinkOf, OperatorOf};
 use abt_journal::{Seat, ServeFault};
 use abt_source_journal::SourceJournal;
 use std::thread::{PromisedHandle, Threads};
@@ -13,14 +13,19 @@ pub(crate) type AccessResult = Result<(Seat, SourceJournal), ServeFault>;
 /// What a link worker gives back.
 pub(crate) type LinkResult = Result<Seat, ServeFault>;
 
+/// What the operator's worker gives back.
+pub(crate) type OperatorResult = Result<Seat, ServeFault>;
+
 pub(crate) type AccessHandle = PromisedHandle<AccessResult, AccessOf>;
 
 pub(crate) type LinkHandle = PromisedHandle<LinkResult, LinkOf>;
 
-/// What all workers that were started gave back, and whether all that were to start were.
+pub(crate) type OperatorHandle<'run> = PromisedHandle<OperatorResult, OperatorOf<'run>>;
+
+/// What all workers that were started gave back. There is something of the operator's only if all that were to start were.
 #[derive(Drop)]
 pub(crate) struct Joined {
-    pub(crate) complete: bool,
+    pub(crate) operator: Option<OperatorResult>,
     pub(crate) sources: Vec<AccessResult>,
     pub(crate) links: Vec<LinkResult>,
 }
@@ -55,4 +60,17 @@ pub(crate) fn join_sources<R: Threads>(
         results.push_reserved(handle.join(rt));
     }
     results
+}
+
+// Joins the operator's worker, if it was started.
+pub(crate) fn join_operator<R: Threads>(
+    rt: &R,
+    handle: Option<OperatorHandle<'_>>,
+) -> Option<OperatorResult>
+    ensures { KeepItsOperator (option_map (λ h. h.promise) handle.entry) result }
+{
+    match handle {
+        Some(handle) => Some(handle.join(rt)),
+        None => None,
+    }
 }

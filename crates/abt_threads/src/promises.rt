@@ -1,7 +1,7 @@
 //! What workers promise of their results.
 use abt_journal::{Seat, ServeFault};
 use abt_net::Net;
-use abt_script::Script;
+use abt_script::{Operation, Script};
 use abt_source_journal::SourceJournal;
 use std::snapshot::Snapshot;
 use std::thread::Promise;
@@ -30,4 +30,17 @@ impl Promise<Result<Seat, ServeFault>> for LinkOf {
     ghost use Rattle.abt_threads.specs.Promises.{KeepsLink};
 
     ghost kept_by = { λ p r. KeepsLink p.caller r };
+}
+
+/// That the operator's receipts are those for its list, in order.
+#[derive(Clone, Copy)]
+pub struct OperatorOf<'run> {
+    pub(crate) caller: u16,
+    pub(crate) operations: &'run [Operation],
+}
+
+impl<'run> Promise<Result<Seat, ServeFault>> for OperatorOf<'run> {
+    ghost use Rattle.abt_threads.specs.Promises.{KeepsOperator};
+
+    ghost kept_by = { λ p r. KeepsOperator p.caller p.operations.now r };
 }

@@ -1,17 +1,19 @@
 //! Workers that are started.
-ghost use Rattle.std.specs.Prelude.{◌≡◌, ◌≤◌, ◌+◌, [], false, IsTrue, length, map, vec_len, vec_capacity};
+ghost use Rattle.std.specs.Prelude.{◌≡◌, ◌≤◌, ◌+◌, [], false, IsTrue, length, map, vec_len, vec_capacity, IfSome, IsSome};
 ghost use Rattle.abt_relay.specs.Cells.{AreCellsOf};
+ghost use Rattle.abt_operator.specs.Operations.{AreForPorts};
 ghost use Rattle.abt_threads.specs.Runs.{ScriptsFit};
 ghost use Rattle.abt_threads.specs.Promises.{AreAccessesFrom, AreLinksFrom};
 
-use crate::crew::Crew;
-use crate::promises::{AccessOf, LinkOf};
+use crate::crew::{Crew, Staff};
+use crate::promises::{AccessOf, LinkOf, OperatorOf};
 use crate::scripts::script_of;
 use abt_access::access_worker;
 use abt_net::Net;
+use abt_operator::operator_worker;
 use abt_ports::{Gate, PortCell};
 use abt_relay::{AnswerBox, Parcel, ThreadPlan, link_worker};
-use abt_script::Script;
+use abt_script::{Operation, Script};
 use crossbeam_channel::{Receiver, Sender};
 use std::alloc::Global;
 use std::snapshot::Snapshot;
@@ -117,4 +119,39 @@ pub(crate) fn start_sources<'run, E, R: Threads + Wait + Sync, G: Gate + Sync>(
         conn += 1;
     }
     crew
+}
+
+// Starts the operator's worker, with the caller after those of the link workers, if the crew is complete so far.
+pub(crate) fn start_operator<'run, E, R: Threads + Wait + Sync, G: Gate + Sync>(
+    crew: Crew,
+    scope: &Scope<'run, E>,
+    rt: &'run R,
+    alloc: Global,
+    bench: &Bench<'run, G>,
+    caller: u16,
+    operations: &'run [Operation],
+) -> Staff<'run>
+    requires cells { AreCellsOf bench.now.net.now bench.now.cells.now }
+    requires ports { AreForPorts bench.now.net.now operations.now }
+    ensures crew { (result.crew.links ≡ crew.links) × (result.crew.sources ≡ crew.sources) }
+    ensures operator { IfSome result.operator (λ h. (h.promise.caller ≡ caller)
+        × (h.promise.operations.now ≡ operations.now)) }
+    ensures all { IsSome result.operator → IsTrue crew.complete }
+{
+    if !crew.is_complete() {
+        return Staff::new(crew, None);
+    }
+    let Bench {
+        net,
+        cells,
+        boxes: _,
+        gate,
+    } = *bench;
+    let promise = OperatorOf { caller, operations };
+    let Ok(handle) = scope.spawn_with(promise, move || {
+        operator_worker(rt, alloc, net, caller, operations, cells, gate)
+    }) else {
+        return Staff::new(crew, None);
+    };
+    Staff::new(crew, Some(handle))
 }

@@ -1,5 +1,5 @@
 //! What the joined workers of a run come to.
-ghost use Rattle.std.specs.Prelude.{◌≡◌, None, Some, IfOk, IfErr, map};
+ghost use Rattle.std.specs.Prelude.{◌≡◌, None, Some, Ok, IfOk, IfErr, map};
 ghost use Rattle.abt_threads.specs.declared.fault.RunFault.{RunFault};
 ghost use Rattle.abt_threads.specs.Faults as faults;
 
@@ -15,41 +15,48 @@ pub(crate) struct Worked {
     pub(crate) accesses: Vec<Seat>,
     pub(crate) sources: Vec<SourceJournal>,
     pub(crate) links: Vec<Seat>,
+    pub(crate) operator: Seat,
 }
 
 // What all workers gave back, or the fault that the run tells. Memory is asked for only where there is none of theirs.
 pub(crate) fn worked_of(alloc: Global, joined: Joined) -> Result<Worked, RunFault>
-    ensures fault { (fault : RunFault) → faults.fault_told joined.complete joined.sources.items joined.links.items ≡ Some fault → result ≡ Err fault }
-    ensures none { faults.fault_told joined.complete joined.sources.items joined.links.items ≡ None → IfErr result (λ fault. fault ≡ RunFault.Memory) }
+    ensures fault { (fault : RunFault) → faults.fault_told joined.operator joined.sources.items joined.links.items ≡ Some fault → result ≡ Err fault }
+    ensures none { faults.fault_told joined.operator joined.sources.items joined.links.items ≡ None → IfErr result (λ fault. fault ≡ RunFault.Memory) }
     ensures accesses { IfOk result (λ w. w.accesses.items ≡ map (λ r. r.0) (faults.given_back joined.sources.items)) }
     ensures sources { IfOk result (λ w. w.sources.items ≡ map (λ r. r.1) (faults.given_back joined.sources.items)) }
     ensures links { IfOk result (λ w. w.links.items ≡ faults.given_back joined.links.items) }
+    ensures operator { IfOk result (λ w. joined.operator ≡ Some (Ok w.operator)) }
 {
     if let Some(fault) = fault_told(&joined) {
         return Err(fault);
     }
     let Joined {
-        complete: _,
+        operator,
         sources,
         links,
     } = joined;
+    let Some(Ok(operator)) = operator else {
+        unreachable!()
+    };
     let (accesses, sources) = apart(alloc, given_back(alloc, sources)?)?;
     let links = given_back(alloc, links)?;
     Ok(Worked {
         accesses,
         sources,
         links,
+        operator,
     })
 }
 
 // The fault that a run tells of its workers, if there is one.
 fn fault_told(joined: &Joined) -> Option<RunFault>
-    ensures { result ≡ faults.fault_told joined.now.complete joined.now.sources.items joined.now.links.items }
+    ensures { result ≡ faults.fault_told joined.now.operator joined.now.sources.items joined.now.links.items }
 {
-    if !joined.complete {
+    let Some(operator) = &joined.operator else {
         return Some(RunFault::Thread);
-    }
-    let fault = graver(fault_among(&joined.sources), fault_among(&joined.links))?;
+    };
+    let crew = graver(fault_among(&joined.sources), fault_among(&joined.links));
+    let fault = graver(crew, fault_in(operator))?;
     Some(RunFault::from(fault))
 }
 

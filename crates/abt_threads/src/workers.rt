@@ -3,18 +3,19 @@ ghost use Rattle.std.specs.Prelude.{◌≡◌, ◌≤◌, ◌+◌, ◌<◌, ℕ,
 ghost use Rattle.abt_rate.specs.Limits.{net_connections_max, workers_max};
 ghost use Rattle.abt_relay.specs.Cells.{AreCellsOf};
 ghost use Rattle.abt_threads.specs.declared.fault.RunFault.{RunFault};
+ghost use Rattle.abt_operator.specs.Operations.{AreForPorts};
 ghost use Rattle.abt_threads.specs.Runs.{ScriptsFit};
 ghost use Rattle.abt_threads.specs.Promises.{AreWorked, IsOwnFault};
 
 use crate::crew::Crew;
 use crate::fault::RunFault;
-use crate::start::{Bench, start_links, start_sources};
+use crate::start::{Bench, start_links, start_operator, start_sources};
 use crate::stop::room_for_stops;
 use crate::worked::{Worked, worked_of};
 use abt_net::Net;
 use abt_ports::{Gate, PortCell};
 use abt_relay::{AnswerBox, Parcel, ThreadPlan};
-use abt_script::Script;
+use abt_script::{Operation, Script};
 use crossbeam_channel::{Receiver, Sender, unbounded};
 use std::alloc::{AllocError, Global};
 use std::sync::Wait;
@@ -27,6 +28,7 @@ pub(crate) fn run_workers<R: Threads + Wait + Sync, G: Gate + Sync>(
     alloc: Global,
     net: &Net,
     scripts: &[Script],
+    operations: &[Operation],
     plan: ThreadPlan,
     cells: &[PortCell],
     boxes: &[AnswerBox],
@@ -36,8 +38,9 @@ pub(crate) fn run_workers<R: Threads + Wait + Sync, G: Gate + Sync>(
     requires cells { AreCellsOf net.now cells.now }
     requires boxes { length boxes.now ≡ length net.now.conns }
     requires scripts { ScriptsFit net.now.conns scripts.now }
+    requires ports { AreForPorts net.now operations.now }
     requires callers { length scripts.now ≤ net_connections_max }
-    ensures worked { IfOk result (AreWorked net.now scripts.now plan.workers) }
+    ensures worked { IfOk result (AreWorked net.now scripts.now operations.now plan.workers) }
     ensures own { IsOwnFault result }
 {
     thread::scope(
@@ -48,10 +51,15 @@ pub(crate) fn run_workers<R: Threads + Wait + Sync, G: Gate + Sync>(
             requires cells { AreCellsOf net.now cells.now }
             requires boxes { length boxes.now ≡ length net.now.conns }
             requires scripts { ScriptsFit net.now.conns scripts.now }
+            requires ports { AreForPorts net.now operations.now }
             requires callers { length scripts.now ≤ net_connections_max }
-            ensures worked { IfOk result (AreWorked net.entry.now scripts.entry.now plan.workers) }
+            ensures worked { IfOk result (AreWorked net.entry.now scripts.entry.now operations.entry.now plan.workers) }
             ensures own { IsOwnFault result }
-        { run_in(scope, rt, alloc, net, scripts, plan, cells, boxes, gate) },
+        {
+            run_in(
+                scope, rt, alloc, net, scripts, operations, plan, cells, boxes, gate,
+            )
+        },
     )
 }
 
@@ -62,6 +70,7 @@ fn run_in<'run, E, R: Threads + Wait + Sync, G: Gate + Sync>(
     alloc: Global,
     net: &'run Net,
     scripts: &'run [Script],
+    operations: &'run [Operation],
     plan: ThreadPlan,
     cells: &'run [PortCell],
     boxes: &'run [AnswerBox],
@@ -71,8 +80,9 @@ fn run_in<'run, E, R: Threads + Wait + Sync, G: Gate + Sync>(
     requires cells { AreCellsOf net.now cells.now }
     requires boxes { length boxes.now ≡ length net.now.conns }
     requires scripts { ScriptsFit net.now.conns scripts.now }
+    requires ports { AreForPorts net.now operations.now }
     requires callers { length scripts.now ≤ net_connections_max }
-    ensures worked { IfOk result (AreWorked net.now scripts.now plan.workers) }
+    ensures worked { IfOk result (AreWorked net.now scripts.now operations.now plan.workers) }
     ensures own { IsOwnFault result }
 {
     let workers = usize::from(plan.workers);
@@ -92,7 +102,9 @@ fn run_in<'run, E, R: Threads + Wait + Sync, G: Gate + Sync>(
     };
     let crew = start_links(crew, scope, rt, alloc, &bench, plan, link_ends);
     let crew = start_sources(crew, scope, rt, alloc, &bench, scripts, source_ends);
-    worked_of(alloc, crew.stop_and_join(rt, sources, links))
+    let caller = net.conns().len() as u16 + plan.workers;
+    let staff = start_operator(crew, scope, rt, alloc, &bench, caller, operations);
+    worked_of(alloc, staff.stop_and_join(rt, sources, links))
 }
 
 // So many senders of one channel.

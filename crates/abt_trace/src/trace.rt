@@ -16,6 +16,8 @@ pub struct Trace {
     pub held: Sequence<Sequence<Rate>>,
     /// The sum of what each port holds in the end, in units of 1/512 cell/s.
     pub totals: Sequence<u64>,
+    /// The capacity of each port in the end, in units of 1/512 cell/s.
+    pub capacities: Sequence<u64>,
     /// Whether the state in the end and all verdicts are safe (docs/GUARANTEES.md).
     pub safe: bool,
 }

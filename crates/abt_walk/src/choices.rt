@@ -1,10 +1,12 @@
 //! What a source and its access line may do next, mostly at the edges of what they can.
 use crate::draws::Draws;
+use crate::walk::{Walk, number};
 use crate::{cells, words};
 use abt_facts::Fact;
 use abt_keep::StorePlan;
 use abt_rate::Rate;
 use abt_world::Event;
+use std::alloc::{AllocError, Global};
 
 /// A connection, its access line, and what happened to it.
 #[derive(Clone, Copy, Debug)]
@@ -98,4 +100,27 @@ pub fn arrival(draws: &mut Draws, sight: Sight<'_>, cell: u64) -> u64 {
         6..=9 => latest,
         _ => earliest.max(last),
     }
+}
+
+/// A capacity of a port at, just below or just above what is held there, now and then the one that the net gives it or one
+/// about the limit. The port may be one that no path goes through, or one behind the last.
+pub(crate) fn capacity(
+    alloc: Global,
+    draws: &mut Draws,
+    walk: &Walk<'_>,
+) -> Result<Event, AllocError> {
+    let capacities = walk.net().capacities();
+    let port = draws.small(number(capacities.len()).saturating_add(1));
+    let total = walk.total(alloc, port)?;
+    let first = capacities.get(usize::from(port)).copied().unwrap_or(0);
+    let capacity = match draws.below(16) {
+        0..=2 => total,
+        3..=5 => total.saturating_sub(1),
+        6 | 7 => total.saturating_add(1),
+        8 | 9 => 1_152_921_504_606_846_976,
+        10 => 1_152_921_504_606_846_977,
+        11 => draws.below(1_000_000),
+        _ => first,
+    };
+    Ok(Event::Capacity { port, capacity })
 }

@@ -1,6 +1,6 @@
 //! Events that are drawn by looking at what has happened, so that most of them are enabled.
 use crate::cells;
-use crate::choices::{Sight, arrival, arrive, ask, emit, start};
+use crate::choices::{Sight, arrival, arrive, ask, capacity, emit, start};
 use crate::draws::Draws;
 use crate::walk::{Walk, number};
 use crate::words::{self, State};
@@ -9,8 +9,8 @@ use abt_rate::Rate;
 use abt_world::Event;
 use std::alloc::{AllocError, Global};
 
-/// Draws the events of a list. Most events in a row are of the same connection, and now and then so many are asks that a
-/// stride of numbers ends.
+/// Draws the events of a list. Most events in a row are of the same connection, now and then so many are asks that a
+/// stride of numbers ends, and now and then a port is given another capacity.
 #[derive(Debug, Drop)]
 pub struct Generator {
     draws: Draws,
@@ -31,6 +31,9 @@ impl Generator {
     /// The next event after those that a walk has seen.
     pub fn event(&mut self, alloc: Global, walk: &Walk<'_>) -> Result<Event, AllocError> {
         let conns = walk.net().conns();
+        if self.asks == 0 && self.draws.one_in(40) {
+            return capacity(alloc, &mut self.draws, walk);
+        }
         if self.asks == 0 && self.draws.one_in(9) {
             self.conn = self.draws.small(number(conns.len()));
         }

@@ -64,6 +64,11 @@ pub fn shared(alloc: Global) -> Result<Net, NetFault> {
     build(alloc, &[512000, 512000], &lines)
 }
 
+/// One connection over the first of two ports of 1,000 cells per second; no path goes through the other.
+pub fn spare(alloc: Global) -> Result<Net, NetFault> {
+    build(alloc, &[512000, 512000], &[line(100, &[0])])
+}
+
 /// Three connections over two ports of 1,000 cells per second, two of them over both, one each way; the third has an access
 /// line without delay or tolerance.
 pub fn crossing(alloc: Global) -> Result<Net, NetFault> {

@@ -5,24 +5,26 @@ use crate::step::{Step, not_enabled};
 use crate::{sources, words};
 use abt_facts::Fact;
 use abt_gcra::Verdict;
-use abt_model::ConnectionFact;
+use abt_model::NetFact;
+use abt_node::CapacityFault;
 use abt_rate::Rate;
 use abt_world::{Cause, Conn, Event, Net, Outcome};
 use std::alloc::{AllocError, Global};
 
-/// A net and the facts of its connections, the oldest first.
+/// A net and the facts of its connections and ports, the oldest first.
 #[derive(Debug, Drop)]
 pub struct Walk<'net> {
     net: &'net Net,
-    facts: Vec<ConnectionFact>,
+    facts: Vec<NetFact>,
 }
 
-/// How a net stands: rates, what is held along each path, totals, and whether all that is safe.
+/// How a net stands: rates, what is held along each path, totals and capacities, and whether all that is safe.
 #[derive(Debug, Drop)]
 pub struct Standing {
     pub rates: Vec<Rate>,
     pub held: Vec<Vec<Rate>>,
     pub totals: Vec<u64>,
+    pub capacities: Vec<u64>,
     pub safe: bool,
 }
 
@@ -58,7 +60,9 @@ fn answer(conn: &Conn, facts: &[Fact], event: &Event) -> Step {
             granted,
             ..
         } if port_of(conn, hop).is_some() => hops::answer(facts, hops, hop, seq, granted),
-        Event::Answer { .. } | Event::Request { .. } => not_enabled(Cause::Unknown),
+        Event::Answer { .. } | Event::Request { .. } | Event::Capacity { .. } => {
+            not_enabled(Cause::Unknown)
+        }
     }
 }
 
@@ -102,8 +106,9 @@ impl<'net> Walk<'net> {
     pub fn facts_of(&self, alloc: Global, conn: u16) -> Result<Vec<Fact>, AllocError> {
         let mut facts = Vec::new(alloc);
         for entry in &self.facts {
-            if entry.conn == conn {
-                facts.push(entry.fact)?;
+            match *entry {
+                NetFact::OfConn { conn: owner, fact } if owner == conn => facts.push(fact)?,
+                _ => {}
             }
         }
         Ok(facts)
@@ -111,14 +116,55 @@ impl<'net> Walk<'net> {
 
     /// Lets an event happen, and gives what it answers.
     pub fn step(&mut self, alloc: Global, event: &Event) -> Result<Outcome, AllocError> {
+        if let Event::Capacity { port, capacity } = *event {
+            return self.set_capacity(alloc, port, capacity);
+        }
         let conn = event.conn();
         let step = self.answer(alloc, event)?;
         for fact in step.added {
             if let (Some(conn), Some(fact)) = (conn, fact) {
-                self.facts.push(ConnectionFact { conn, fact })?;
+                self.facts.push(NetFact::OfConn { conn, fact })?;
             }
         }
         Ok(step.outcome)
+    }
+
+    // A port is to have a capacity: no less than what is held there, and at most 2^60.
+    fn set_capacity(
+        &mut self,
+        alloc: Global,
+        port: u16,
+        capacity: u64,
+    ) -> Result<Outcome, AllocError> {
+        // Names a type within a net's facts, without which the checker can't follow one here.
+        let _ = Fact::Crashed;
+        if usize::from(port) >= self.net.capacities().len() {
+            return Ok(Outcome::NotEnabled(Cause::Unknown));
+        }
+        if self.total(alloc, port)? > capacity {
+            return Ok(Outcome::CapacityRefused(CapacityFault::BelowSum));
+        }
+        if capacity > 1_152_921_504_606_846_976 {
+            return Ok(Outcome::CapacityRefused(CapacityFault::AboveLimit));
+        }
+        self.facts.push(NetFact::Capped { port, capacity })?;
+        Ok(Outcome::CapacitySet)
+    }
+
+    /// The capacity of a port: the last that was set, else the net's.
+    pub fn capacity(&self, port: u16) -> u64 {
+        let first = self.net.capacities().get(usize::from(port)).copied();
+        let mut in_force = first.unwrap_or(0);
+        for entry in &self.facts {
+            match *entry {
+                NetFact::Capped {
+                    port: capped,
+                    capacity,
+                } if capped == port => in_force = capacity,
+                _ => {}
+            }
+        }
+        in_force
     }
 
     fn answer(&self, alloc: Global, event: &Event) -> Result<Step, AllocError> {
@@ -142,10 +188,9 @@ impl<'net> Walk<'net> {
     }
 
     fn link(&self, alloc: Global, port: u16) -> Result<Link, AllocError> {
-        let capacity = self.net.capacities().get(usize::from(port)).copied();
         Ok(Link {
             total: self.total(alloc, port)?,
-            capacity: capacity.unwrap_or(0),
+            capacity: self.capacity(port),
         })
     }
 
@@ -199,6 +244,14 @@ impl<'net> Walk<'net> {
         Ok(totals)
     }
 
+    fn capacities(&self, alloc: Global) -> Result<Vec<u64>, AllocError> {
+        let mut capacities = Vec::new(alloc);
+        for (place, _) in self.net.capacities().iter().enumerate() {
+            capacities.push(self.capacity(number(place)))?;
+        }
+        Ok(capacities)
+    }
+
     // Whether a connection's rate is held at each hop and its cells conform.
     fn is_served(&self, alloc: Global, place: usize) -> Result<bool, AllocError> {
         let facts = self.facts_of(alloc, number(place))?;
@@ -217,8 +270,8 @@ impl<'net> Walk<'net> {
                 return Ok(false);
             }
         }
-        for (place, capacity) in self.net.capacities().iter().enumerate() {
-            if self.total(alloc, number(place))? > *capacity {
+        for (place, _) in self.net.capacities().iter().enumerate() {
+            if self.total(alloc, number(place))? > self.capacity(number(place)) {
                 return Ok(false);
             }
         }
@@ -231,6 +284,7 @@ impl<'net> Walk<'net> {
             rates: self.rates(alloc)?,
             held: self.held(alloc)?,
             totals: self.totals(alloc)?,
+            capacities: self.capacities(alloc)?,
             safe: self.safe(alloc)?,
         })
     }

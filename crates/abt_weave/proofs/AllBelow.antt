@@ -38,7 +38,7 @@ use Rattle.abt_facts.specs.declared.fact.Fact.{Fact}
 use Rattle.abt_model.specs.Past.{facts_of}
 use Rattle.abt_weave.specs.Comes.{entry_beside}
 use Rattle.abt_weave.proofs.Candidates.{cond_some}
-use Rattle.abt_weave.proofs.PortEvents.{IsVisit, visit_is, made_beside, reply_enabled, some_same}
+use Rattle.abt_weave.proofs.PortEvents.{IsVisit, visit_cases, visit_is, made_beside, reply_enabled, some_same}
 use Rattle.abt_weave.proofs.Prefixes.{get_beginning}
 use Rattle.abt_weave.proofs.SentBelow.{IsBelow}
 
@@ -87,10 +87,17 @@ own_has net js ended earlier event end rates begun below nowhere c x whose made 
           end.stands.still [] tt event (own_fits net js ended c event did.0 mine told enabled next))
     ]
 
+-- what stands in a source's journal is of a connection
+made_visit : (net : Topology) (earlier : List Event) (event : Event) (v : Visit) (x : SourceEntry) → visit net (past_of net earlier) event ≡ Some v → entry_made net earlier event ≡ Some x → IsVisit net (past_of net earlier) event v
+made_visit net earlier event v x is made = elim (visit_cases net (past_of net earlier) event v is) [
+  | inl parts ↦ parts
+  | inr alone ↦ (let clash : None ≡ Some x = sym (ap (entry_made net earlier) alone.event_is) ∙ made in absurd (cc))
+]
+
 -- an entry that stands beside a step names its place
 visit_entry : (net : Topology) → IsWithinRules net → (earlier : List Event) (event : Event) (v : Visit) (x : SourceEntry) → visit net (past_of net earlier) event ≡ Some v → entry_made net earlier event ≡ Some x → Names x (length (steps_on net v.port earlier))
 visit_entry net rules earlier event v x is made =
-    let parts = visit_is net (past_of net earlier) event v is in
+    let parts = made_visit net earlier event v x is made in
     let beside = made_beside net earlier event v.port (length (steps_on net v.port earlier)) parts.c parts.conn (outcome_of net (past_of net earlier) event) v.input (facts_of parts.c (past_of net earlier)) parts.whose parts.known parts.port refl parts.input
     (reply_enabled (outcome_of net (past_of net earlier) event) v.reply parts.reply) in
     names_beside (length (steps_on net v.port earlier)) event x (sym beside ∙ made)
@@ -116,7 +123,7 @@ step_first net earlier event v x parts made =
 silent : (net : Topology) (earlier ended : List Event) (event : Event) (v : Visit) → visit net (past_of net earlier) event ≡ Some v → entry_made net earlier event ≡ None → ArrivesAlone net earlier ended event
 silent net earlier ended (Arrive c cell at) v is none =
     let event = Arrive c cell at in
-    let parts = visit_is net (past_of net earlier) event v is in
+    let parts = visit_is net (past_of net earlier) event v c refl is in
     let enabled = reply_enabled (outcome_of net (past_of net earlier) event) v.reply parts.reply in
     let made : entry_made net earlier event ≡ Some (ArrivedAt cell (place_at_first net earlier event)) = cond-true _ _ _ enabled in
     let clash = sym none ∙ made in absurd (cc)
@@ -126,60 +133,71 @@ pub alone_if : (net : Topology) (earlier ended : List Event) (event : Event) (c 
 alone_if net earlier ended (Arrive d cell at) c whose same = subst (λ n. entries_on net n earlier ≡ entries_on net n ended) (some_same (sym whose)) same
 alone_if net earlier ended other c whose same = tt
 
--- what comes to a port, by the port and by the source beside it
-both_have : (net : Topology) (js : Journaled) (ended earlier : List Event) (event : Event) (v : Visit) → HaveEnded net js ended → All AsksRate earlier → AreBegun net js (event ∷ earlier) → IsBelow net earlier ended →
-    visit net (past_of net earlier) event ≡ Some v → IsBelow net (event ∷ earlier) ended
-both_have net js ended earlier event v end rates begun below is =
+-- what comes to a port, by that port
+port_has : (net : Topology) (js : Journaled) (ended earlier : List Event) (event : Event) (v : Visit) → HaveEnded net js ended → AreBegun net js (event ∷ earlier) →
+    visit net (past_of net earlier) event ≡ Some v → length (steps_on net v.port earlier) < length (steps_on net v.port ended) → PortHas net ended earlier event
+port_has net js ended earlier event v end begun is less w also =
+    let here : v ≡ w = some_same (sym is ∙ also) in
+    subst (λ (u : Visit). slice_get (steps_on net u.port ended) (length (steps_on net u.port earlier)) ≡ Some (step_next net earlier u)) here (step_had net js ended earlier event v end begun is less)
+
+-- what comes to a port alone, by that port
+alone_has : (net : Topology) (js : Journaled) (ended earlier : List Event) (event : Event) (v : Visit) → HaveEnded net js ended → All AsksRate earlier → AreBegun net js (event ∷ earlier) → IsBelow net earlier ended →
+    visit net (past_of net earlier) event ≡ Some v → entry_made net earlier event ≡ None → IsBelow net (event ∷ earlier) ended
+alone_has net js ended earlier event v end rates begun below is none =
+    let p = v.port in
+    elim (cases_less (steps_on net p earlier) (steps_on net p ended) (below.ports p (visit_low net end.rules (past_of net earlier) event v is))) [
+      | inl less ↦ below_on net js ended earlier event below (port_has net js ended earlier event v end begun is less) (λ d x whose made low. (let clash = sym none ∙ made in absurd (cc)))
+      | inr same ↦ absurd (fits_again net js ended earlier event v end begun
+          (again_at net js ended earlier end rates below event v is same (silent net earlier ended event v is none)) is same (λ d x whose made. (let clash = sym none ∙ made in absurd (cc))))
+    ]
+
+-- what comes to a port of a connection, by the port and by the source beside it
+beside_has : (net : Topology) (js : Journaled) (ended earlier : List Event) (event : Event) (v : Visit) (x : SourceEntry) → HaveEnded net js ended → All AsksRate earlier → AreBegun net js (event ∷ earlier) → IsBelow net earlier ended →
+    visit net (past_of net earlier) event ≡ Some v → entry_made net earlier event ≡ Some x → IsBelow net (event ∷ earlier) ended
+beside_has net js ended earlier event v x end rates begun below is made =
     let past = past_of net earlier in
     let p = v.port in
-    let parts = visit_is net past event v is in
+    let parts = made_visit net earlier event v x is made in
     let c = parts.c in
     let conn = parts.conn in
     let c_low = slice_get_within net.conns c conn parts.known in
     let p_low = visit_low net end.rules past event v is in
     let begins_p = below.ports p p_low in
     let begins_c = below.conns c c_low in
-    let port_has : length (steps_on net p earlier) < length (steps_on net p ended) → PortHas net ended earlier event
-    = λ less w also. (let here : v ≡ w = some_same (sym is ∙ also) in
-    subst (λ (u : Visit). slice_get (steps_on net u.port ended) (length (steps_on net u.port earlier)) ≡ Some (step_next net earlier u)) here (step_had net js ended earlier event v end begun is less)) in
     let on : length (steps_on net p earlier) < length (steps_on net p ended) → ConnHas net ended earlier event → IsBelow net (event ∷ earlier) ended
-    = λ less has. below_on net js ended earlier event below (port_has less) has in
-    elim (cases_option (entry_made net earlier event)) [
-      | inl none ↦ (
-          let alone : ConnHas net ended earlier event = λ d x whose made low. (let clash = sym none ∙ made in absurd (cc)) in
-          elim (cases_less (steps_on net p earlier) (steps_on net p ended) begins_p) [
-            | inl less ↦ on less alone
-            | inr same ↦ absurd (fits_again net js ended earlier event v end begun
-                (again_at net js ended earlier end rates below event v is same (silent net earlier ended event v is none)) is same (λ d x whose made. (let clash = sym none ∙ made in absurd (cc))))
-          ])
-      | inr some ↦ (
-          let x = some.0 in
-          let names = visit_entry net end.rules earlier event v x is some.1 in
-          let now = named_now net end.rules earlier c conn event x (length (steps_on net p earlier)) parts.known parts.whose some.1 names in
-          let first : p ≡ slice_index conn.path 0 = (let same : v ≡ now.1.v = some_same (sym is ∙ now.1.visits) in ap (λ (w : Visit). w.port) same ∙ now.1.first) in
-          elim (cases_less (steps_on net p earlier) (steps_on net p ended) begins_p) [
-            | inl less ↦ (elim (cases_less (entries_on net c earlier) (entries_on net c ended) begins_c) [
-              | inl fewer ↦ on less (λ d y whose made low. (let here : c ≡ d = some_same (sym parts.whose ∙ whose) in
-                  entry_had net js ended earlier event d y end begun whose low made (subst (λ n. length (entries_on net n earlier) < length (entries_on net n ended)) here fewer)))
-              | inr same ↦ absurd (
-                  let had = step_had net js ended earlier event v end begun is less in
-                  let here : slice_get (steps_on net (slice_index conn.path 0) ended) (length (steps_on net p earlier)) ≡ Some (step_next net earlier v) = subst (λ q. slice_get (steps_on net q ended) (length (steps_on net p earlier)) ≡ Some (step_next net earlier v)) first had in
-                  let named = step_named net end.rules c conn parts.known ended (length (steps_on net p earlier)) (step_next net earlier v) here (step_first net earlier event v x parts some.1) in
-                  let before = named_low net end.rules c conn parts.known earlier named.i (length (steps_on net p earlier)) named.entry (ap (λ l. slice_get l named.i) same ∙ named.at) named.names in
-                  let there : length (steps_on net (slice_index conn.path 0) earlier) ≡ length (steps_on net p earlier) = ap (λ q. length (steps_on net q earlier)) (sym first) in
-                  omega (arith, before, there))
-            ])
-            | inr same ↦ (elim (cases_less (entries_on net c earlier) (entries_on net c ended) begins_c) [
-              | inl fewer ↦ absurd (
-                  let had = entry_had net js ended earlier event c x end begun parts.whose c_low some.1 fewer in
-                  let before = named_low net end.rules c conn parts.known ended (length (entries_on net c earlier)) (length (steps_on net p earlier)) x had names in
-                  let there : length (steps_on net (slice_index conn.path 0) ended) ≡ length (steps_on net p earlier) = ap (λ q. length (steps_on net q ended)) (sym first) ∙ ap (λ l. length l) (sym same) in
-                  omega (arith, before, there))
-              | inr level ↦ absurd (fits_again net js ended earlier event v end begun (again_at net js ended earlier end rates below event v is same (alone_if net earlier ended event c parts.whose level)) is same
-                  (λ d y whose made. subst (λ n. entries_on net n earlier ≡ entries_on net n ended) (some_same (sym parts.whose ∙ whose)) level))
-            ])
-          ])
+    = λ less has. below_on net js ended earlier event below (port_has net js ended earlier event v end begun is less) has in
+    let names = visit_entry net end.rules earlier event v x is made in
+    let now = named_now net end.rules earlier c conn event x (length (steps_on net p earlier)) parts.known parts.whose made names in
+    let first : p ≡ slice_index conn.path 0 = (let same : v ≡ now.1.v = some_same (sym is ∙ now.1.visits) in ap (λ (w : Visit). w.port) same ∙ now.1.first) in
+    elim (cases_less (steps_on net p earlier) (steps_on net p ended) begins_p) [
+      | inl less ↦ (elim (cases_less (entries_on net c earlier) (entries_on net c ended) begins_c) [
+        | inl fewer ↦ on less (λ d y whose also low. (let here : c ≡ d = some_same (sym parts.whose ∙ whose) in
+            entry_had net js ended earlier event d y end begun whose low also (subst (λ n. length (entries_on net n earlier) < length (entries_on net n ended)) here fewer)))
+        | inr same ↦ absurd (
+            let had = step_had net js ended earlier event v end begun is less in
+            let here : slice_get (steps_on net (slice_index conn.path 0) ended) (length (steps_on net p earlier)) ≡ Some (step_next net earlier v) = subst (λ q. slice_get (steps_on net q ended) (length (steps_on net p earlier)) ≡ Some (step_next net earlier v)) first had in
+            let named = step_named net end.rules c conn parts.known ended (length (steps_on net p earlier)) (step_next net earlier v) here (step_first net earlier event v x parts made) in
+            let before = named_low net end.rules c conn parts.known earlier named.i (length (steps_on net p earlier)) named.entry (ap (λ l. slice_get l named.i) same ∙ named.at) named.names in
+            let there : length (steps_on net (slice_index conn.path 0) earlier) ≡ length (steps_on net p earlier) = ap (λ q. length (steps_on net q earlier)) (sym first) in
+            omega (arith, before, there))
+      ])
+      | inr same ↦ (elim (cases_less (entries_on net c earlier) (entries_on net c ended) begins_c) [
+        | inl fewer ↦ absurd (
+            let had = entry_had net js ended earlier event c x end begun parts.whose c_low made fewer in
+            let before = named_low net end.rules c conn parts.known ended (length (entries_on net c earlier)) (length (steps_on net p earlier)) x had names in
+            let there : length (steps_on net (slice_index conn.path 0) ended) ≡ length (steps_on net p earlier) = ap (λ q. length (steps_on net q ended)) (sym first) ∙ ap (λ l. length l) (sym same) in
+            omega (arith, before, there))
+        | inr level ↦ absurd (fits_again net js ended earlier event v end begun (again_at net js ended earlier end rates below event v is same (alone_if net earlier ended event c parts.whose level)) is same
+            (λ d y whose also. subst (λ n. entries_on net n earlier ≡ entries_on net n ended) (some_same (sym parts.whose ∙ whose)) level))
+      ])
     ]
+
+both_have : (net : Topology) (js : Journaled) (ended earlier : List Event) (event : Event) (v : Visit) → HaveEnded net js ended → All AsksRate earlier → AreBegun net js (event ∷ earlier) → IsBelow net earlier ended →
+    visit net (past_of net earlier) event ≡ Some v → IsBelow net (event ∷ earlier) ended
+both_have net js ended earlier event v end rates begun below is = elim (cases_option (entry_made net earlier event)) [
+  | inl none ↦ alone_has net js ended earlier event v end rates begun below is none
+  | inr some ↦ beside_has net js ended earlier event v some.0 end rates begun below is some.1
+]
 
 -- all events that are beginnings of the journals are below those that have ended
 pub all_below : (net : Topology) (js : Journaled) (ended : List Event) → HaveEnded net js ended → (events : List Event) → All AsksRate events → AreBegun net js events → IsBelow net events ended

@@ -8,7 +8,7 @@ use Rattle.abt_model.specs.declared.event.Event.TheVariants.{Arrive, Request, An
 use Rattle.abt_model.specs.Outcomes.{conn_of}
 use Rattle.abt_model.specs.PortTable.{hop_visited}
 use Rattle.abt_journal.specs.declared.input.PortInput.{PortInput}
-use Rattle.abt_journal.specs.declared.input.PortInput.TheVariants.{Request as RequestIn, Answer as AnswerIn, Arrive as ArriveIn}
+use Rattle.abt_journal.specs.declared.input.PortInput.TheVariants.{Request as RequestIn, Answer as AnswerIn, Arrive as ArriveIn, Capacity as CapacityIn}
 use Rattle.abt_source_journal.specs.declared.entry.SourceEntry.{SourceEntry}
 use Rattle.abt_source_journal.specs.declared.entry.SourceEntry.TheVariants.{Did, Sent, Arrived as ArrivedAt}
 use Rattle.abt_woven.specs.Asked.{floor_in, ask_in}
@@ -42,7 +42,7 @@ arrived_is place cell (Some (ArrivedAt found named)) h =
 pub record IsFound (c hop place : ℕ) (input : PortInput) (placed : List SourceEntry) (next : Option SourceEntry) (event : Event) : Type 0 where
   pub conn : conn_of event ≡ Some c
   pub hop_is : hop_visited event ≡ hop
-  pub brings : input_told (channel_of input) placed event ≡ Some input
+  pub brings : (vc : Channel) → channel_of input ≡ Some vc → input_told vc placed event ≡ Some input
   pub beside : (x : SourceEntry) → entry_beside place event ≡ Some x → next ≡ Some x
 
 sent_beside : (hop place : ℕ) (next : Option SourceEntry) → not (hop == 1) || is_sent_at place next ≡ true → (x : SourceEntry) → (if hop == 1 then Some (Sent place) else None) ≡ Some x → next ≡ Some x
@@ -65,9 +65,9 @@ found c hop place (RequestIn q) placed next event h =
     subst (IsFound c hop place (RequestIn q) placed next) (some_same both.1) (record {
       conn = refl;
       hop_is = refl;
-      brings =
-          ap (λ (n : ℕ). Some (RequestIn (record { vc = q.vc; seq = q.seq; floor = n; ask = ask_in placed q.seq }))) (sym (eqb-true q.floor (floor_in placed q.seq) rates.0))
-          ∙ ap (λ (n : ℕ). Some (RequestIn (record { vc = q.vc; seq = q.seq; floor = q.floor; ask = n }))) (sym (eqb-true q.ask (ask_in placed q.seq) rates.1));
+      brings = λ vc of_it. subst (λ w. input_told w placed (Request c hop q.seq) ≡ Some (RequestIn q)) (some_same of_it)
+          (ap (λ (n : ℕ). Some (RequestIn (record { vc = q.vc; seq = q.seq; floor = n; ask = ask_in placed q.seq }))) (sym (eqb-true q.floor (floor_in placed q.seq) rates.0))
+          ∙ ap (λ (n : ℕ). Some (RequestIn (record { vc = q.vc; seq = q.seq; floor = q.floor; ask = n }))) (sym (eqb-true q.ask (ask_in placed q.seq) rates.1)));
       beside = sent_beside hop place next parts.1;
     })
 found c hop place (AnswerIn a) placed next event h =
@@ -79,9 +79,9 @@ found c hop place (AnswerIn a) placed next event h =
     subst (IsFound c hop place (AnswerIn a) placed next) (some_same both.1) (record {
       conn = refl;
       hop_is = refl;
-      brings =
-          ap (λ (n : ℕ). Some (AnswerIn (record { terms = record { vc = a.terms.vc; seq = s; floor = n; ask = ask_in placed s }; granted = a.granted }))) (sym (eqb-true a.terms.floor (floor_in placed s) rates.0))
-          ∙ ap (λ (n : ℕ). Some (AnswerIn (record { terms = record { vc = a.terms.vc; seq = s; floor = a.terms.floor; ask = n }; granted = a.granted }))) (sym (eqb-true a.terms.ask (ask_in placed s) rates.1));
+      brings = λ vc of_it. subst (λ w. input_told w placed (Answer c hop s a.granted) ≡ Some (AnswerIn a)) (some_same of_it)
+          (ap (λ (n : ℕ). Some (AnswerIn (record { terms = record { vc = a.terms.vc; seq = s; floor = n; ask = ask_in placed s }; granted = a.granted }))) (sym (eqb-true a.terms.floor (floor_in placed s) rates.0))
+          ∙ ap (λ (n : ℕ). Some (AnswerIn (record { terms = record { vc = a.terms.vc; seq = s; floor = a.terms.floor; ask = n }; granted = a.granted }))) (sym (eqb-true a.terms.ask (ask_in placed s) rates.1)));
       beside = λ x e. absurd (cc);
     })
 found c hop place (ArriveIn vc at) placed next event h =
@@ -90,14 +90,15 @@ found c hop place (ArriveIn vc at) placed next event h =
     subst (IsFound c hop place (ArriveIn vc at) placed next) cell.2 (record {
       conn = refl;
       hop_is = sym (eqb-true hop 1 both.0);
-      brings = refl;
+      brings = λ w of_it. ap (λ (u : Channel). Some (ArriveIn u at)) (sym (some_same of_it));
       beside = λ x e. arrived_is place cell.0 next cell.1 ∙ e;
     })
+found c hop place (CapacityIn u) placed next event h = absurd (cc)
 
 -- and there is no other
 pub record IsOnly (c hop place : ℕ) (vc : Channel) (input : PortInput) (placed : List SourceEntry) (next : Option SourceEntry) (event : Event) : Type 0 where
   pub is : event_by c hop place input placed next ≡ Some event
-  pub channel : channel_of input ≡ vc
+  pub channel : channel_of input ≡ Some vc
 
 or_sent : (hop place : ℕ) (next : Option SourceEntry) → ((x : SourceEntry) → (if hop == 1 then Some (Sent place) else None) ≡ Some x → next ≡ Some x) → (b : Bool) → (hop == 1) ≡ b → not b || is_sent_at place next ≡ true
 or_sent hop place next beside true first = ap (is_sent_at place) (beside (Sent place) (cond-true _ _ _ first)) ∙ eq-eqb place place refl

@@ -5,7 +5,6 @@ use Rattle.std.specs.Global.{Global}
 use Rattle.std.proofs.Math.Seq.{take-append_seam}
 use Rattle.std.proofs.lemmas.List.{length-append, length-map}
 use Rattle.std.proofs.lemmas.Option.{slice_get_within}
-use Rattle.abt_cell.specs.Channel.{Channel}
 use Rattle.abt_net.specs.Topology.{Topology}
 use Rattle.abt_model.specs.declared.event.Event.{Event}
 use Rattle.abt_model.specs.Answers.{is_hop}
@@ -17,15 +16,15 @@ use Rattle.abt_source_journal.specs.declared.journal.SourceJournal.{SourceJourna
 use Rattle.abt_world.specs.Standing.{WorldView}
 use Rattle.abt_woven.specs.Projections.{steps_on, entries_on}
 use Rattle.abt_woven.specs.Stuck.{Journaled, source_journal, entries_in, next_entry, IsBeginning}
-use Rattle.abt_weave.specs.Candidates.{event_by, channel_of}
+use Rattle.abt_weave.specs.Candidates.{event_by}
 use Rattle.abt_weave.specs.Stops.{IsStop}
 use Rattle.abt_weave.specs.Comes.{input_told, Comes, IsComing}
 use Rattle.abt_weave.specs.Board.{journaled, IsPlacing}
 use Rattle.abt_weave.proofs.SourceLooks.{place_read, source_read, next_read}
 use Rattle.abt_weave.proofs.Candidates.{found, only}
 
-pub stop_low : (net : Topology) (vc : Channel) (p c hop : ℕ) → IsStop net vc p c hop → c < length net.conns
-stop_low net vc p c hop stop = slice_get_within net.conns c stop.conn stop.known
+pub stop_low : (net : Topology) (input : PortInput) (p c hop : ℕ) → IsStop net input p c hop → c < length net.conns
+stop_low net input p c hop stop = slice_get_within net.conns c stop.conn stop.known
 
 -- how far a source has come
 pub record IsBeside (net : Topology) (js : Journaled) (earlier : List Event) (c : ℕ) (entries : List SourceEntry) (come : ℕ) : Type 0 where
@@ -55,10 +54,10 @@ beside_read net ports sources events world sp pp k j entries come board low read
     }
 
 -- the candidate that is found comes
-pub coming_found : (net : Topology) (js : Journaled) (earlier : List Event) (p c hop k place : ℕ) (input : PortInput) (vc : Channel) (entries : List SourceEntry) (come : ℕ) (event : Event) →
-    IsStop net vc p c hop → vc ≡ channel_of input → k ≡ c → IsBeside net js earlier k entries come → place ≡ length (steps_on net p earlier) →
+pub coming_found : (net : Topology) (js : Journaled) (earlier : List Event) (p c hop k place : ℕ) (input : PortInput) (entries : List SourceEntry) (come : ℕ) (event : Event) →
+    IsStop net input p c hop → k ≡ c → IsBeside net js earlier k entries come → place ≡ length (steps_on net p earlier) →
     Some event ≡ event_by c hop place input (reverse (take come entries)) (slice_get entries come) → IsComing net js earlier p place input c event
-coming_found net js earlier p c hop k place input vc entries come event stop channel same beside at is =
+coming_found net js earlier p c hop k place input entries come event stop same beside at is =
     let its = found c hop place input (reverse (take come entries)) (slice_get entries come) event (sym is) in
     let placed : reverse (take come entries) ≡ reverse (entries_on net c earlier) = ap (λ l. reverse l) beside.placed ∙ ap (λ n. reverse (entries_on net n earlier)) same in
     record {
@@ -70,19 +69,18 @@ coming_found net js earlier p c hop k place input vc entries come event stop cha
         known = stop.known;
         within = subst (λ j. is_hop (length stop.conn.path) j ≡ true) (sym its.hop_is) stop.within;
         port = ap (λ j. slice_index stop.conn.path (j - 1)) its.hop_is ∙ stop.port;
-        brings = ap (λ (w : Channel). input_told w (reverse (entries_on net c earlier)) event) (stop.channel ∙ channel)
-            ∙ ap (λ (l : List SourceEntry). input_told (channel_of input) l event) (sym placed) ∙ its.brings;
+        brings = ap (λ (l : List SourceEntry). input_told stop.conn.vc l event) (sym placed) ∙ its.brings stop.conn.vc stop.channel;
         at = at;
         beside = λ x e. ap (next_entry net js earlier) (sym same) ∙ sym beside.next ∙ its.beside x e;
       };
     }
 
 -- what comes stops at the port
-pub comes_stop : (net : Topology) (js : Journaled) (earlier : List Event) (p place : ℕ) (input : PortInput) (vc : Channel) (event : Event) → vc ≡ channel_of input → (comes : Comes net js earlier p place input event) →
-    IsStop net vc p comes.c (hop_visited event)
-comes_stop net js earlier p place input vc event channel comes =
+pub comes_stop : (net : Topology) (js : Journaled) (earlier : List Event) (p place : ℕ) (input : PortInput) (event : Event) → (comes : Comes net js earlier p place input event) →
+    IsStop net input p comes.c (hop_visited event)
+comes_stop net js earlier p place input event comes =
     let its = only place comes.c comes.conn.vc input (reverse (entries_on net comes.c earlier)) (next_entry net js earlier comes.c) event comes.whose comes.brings comes.beside in
-    record { conn = comes.conn; known = comes.known; channel = sym its.channel ∙ sym channel; within = comes.within; port = comes.port }
+    record { conn = comes.conn; known = comes.known; channel = its.channel; within = comes.within; port = comes.port }
 
 -- and is the candidate
 pub coming_only : (net : Topology) (js : Journaled) (earlier : List Event) (p c hop k place : ℕ) (input : PortInput) (entries : List SourceEntry) (come : ℕ) (event : Event) →

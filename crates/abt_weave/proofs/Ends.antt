@@ -7,7 +7,7 @@ use Rattle.std.proofs.lemmas.Option.{slice_get_within, slice_get-get_or}
 use Rattle.abt_net.specs.declared.conn.Conn.{Conn}
 use Rattle.abt_net.specs.Topology.{Topology, IsWithinRules, conn_at}
 use Rattle.abt_model.specs.declared.event.Event.{Event}
-use Rattle.abt_model.specs.declared.event.Event.TheVariants.{Arrive, Request, Turn, Answer, Told}
+use Rattle.abt_model.specs.declared.event.Event.TheVariants.{Arrive, Request, Turn, Answer, Told, Capacity}
 use Rattle.abt_model.specs.declared.outcome.Outcome.{Outcome}
 use Rattle.abt_model.specs.Outcomes.{conn_of, outcome_of}
 use Rattle.abt_model.specs.Past.{Past, facts_of}
@@ -59,6 +59,7 @@ own_or_visit net rules earlier (Arrive c cell at) x none h =
     absurd (seen_visit net rules (past_of net earlier) (Arrive c cell at) c refl (λ conn. (_, refl)) both.0 none)
 own_or_visit net rules earlier (Turn c seq) x none h = absurd (cc)
 own_or_visit net rules earlier (Answer c hop seq granted) x none h = absurd (cc)
+own_or_visit net rules earlier (Capacity p u) x none h = absurd (cc)
 own_or_visit net rules earlier other x none h = (outcome_of net (past_of net earlier) other, sym (some_same h))
 
 mark_at : (marks : List Bool) (i : ℕ) → i < length marks → (b : Bool) × (slice_get marks i ≡ Some b)

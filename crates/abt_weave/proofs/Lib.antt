@@ -6,10 +6,12 @@ pub mod OwnEvents
 pub mod SourceLooks
 pub mod Openings
 pub mod PortEvents
+pub mod Alone
 pub mod Candidates
 pub mod Comings
 pub mod PortLooks
 pub mod PortPlaces
+pub mod Capped
 pub mod Passes
 pub mod Ends
 pub mod Whole

@@ -18,7 +18,7 @@ use Rattle.abt_facts.specs.declared.fact.Fact.TheVariants.{Started as FactStarte
 use Rattle.abt_facts.specs.Source.{writes, written_for}
 use Rattle.abt_facts.specs.Cells.{emitted_of}
 use Rattle.abt_model.specs.declared.event.Event.{Event}
-use Rattle.abt_model.specs.declared.event.Event.TheVariants.{Start, Ask, Crash, Emit, Arrive, Request, Turn, Answer, Told}
+use Rattle.abt_model.specs.declared.event.Event.TheVariants.{Start, Ask, Crash, Emit, Arrive, Request, Turn, Answer, Told, Capacity}
 use Rattle.abt_model.specs.declared.outcome.Heard.TheVariants.{Raised}
 use Rattle.abt_model.specs.declared.outcome.Outcome.{Outcome}
 use Rattle.abt_model.specs.declared.outcome.Outcome.TheVariants.{Started, Asked, AskRefused, Crashed, Emitted, Arrived, Requested, Turned, Answered, Told as HasTold, NotEnabled}
@@ -144,6 +144,7 @@ line_none facts place (Answer c hop seq granted) other none = refl
 line_none facts place (Told c seq granted) (NotEnabled cause) none = refl
 line_none facts place (Told c seq granted) (HasTold heard) none = absurd (cc)
 line_none facts place (Told c seq granted) other none = refl
+line_none facts place (Capacity p u) outcome none = refl
 line_none facts place other outcome none = absurd (cc)
 
 -- what a source did adds the same to the line
@@ -184,7 +185,7 @@ line_entry net rules earlier c conn (Request d hop seq) (Sent place) known whose
     let named = named_now net rules earlier c conn event (Sent place) place known whose made refl in
     let v = named.1.v in
     let said = request_said net (past_of net earlier) d hop seq v named.1.visits in
-    let parts = visit_is net (past_of net earlier) event v named.1.visits in
+    let parts = visit_is net (past_of net earlier) event v d refl named.1.visits in
     let input = some_same parts.input in
     let both = cond_some (is_enabled (outcome_of net (past_of net earlier) event) && hop == 1) (Some (Sent (place_at_first net earlier event))) (Sent place) made in
     let one = (and_both (is_enabled (outcome_of net (past_of net earlier) event)) (hop == 1) both.0).1 in
@@ -201,7 +202,7 @@ line_entry net rules earlier c conn (Arrive d cell a) (ArrivedAt other place) kn
     let named = named_now net rules earlier c conn event (ArrivedAt other place) place known whose made refl in
     let v = named.1.v in
     let said = arrival_said net (past_of net earlier) d cell a v named.1.visits in
-    let parts = visit_is net (past_of net earlier) event v named.1.visits in
+    let parts = visit_is net (past_of net earlier) event v d refl named.1.visits in
     let input = some_same parts.input in
     let both = cond_some (is_enabled (outcome_of net (past_of net earlier) event)) (Some (ArrivedAt cell (place_at_first net earlier event))) (ArrivedAt other place) made in
     let cells : cell ≡ other = (let e = some_same both.1 in cc) in

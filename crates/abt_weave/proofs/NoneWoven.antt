@@ -10,7 +10,7 @@ use Rattle.abt_facts.specs.declared.fact.Fact.{Fact}
 use Rattle.abt_facts.specs.declared.fact.Fact.TheVariants.{Turned as FactTurned}
 use Rattle.abt_facts.specs.Sent.{answer_is_at, was_turned, was_passed, was_back, was_shut}
 use Rattle.abt_model.specs.declared.event.Event.{Event}
-use Rattle.abt_model.specs.declared.event.Event.TheVariants.{Arrive, Request, Turn, Answer}
+use Rattle.abt_model.specs.declared.event.Event.TheVariants.{Arrive, Request, Turn, Answer, Capacity}
 use Rattle.abt_model.specs.declared.outcome.Cause.TheVariants.{NotSent}
 use Rattle.abt_model.specs.declared.outcome.Outcome.TheVariants.{Turned, NotEnabled}
 use Rattle.abt_model.specs.Events.{AsksRate}
@@ -23,19 +23,20 @@ use Rattle.abt_model.proofs.Steps.{is_hop_tells}
 use Rattle.abt_model.proofs.Worlds.{conn_cases, cases_option, outcome_of-known, lawful_at, facts_of-own}
 use Rattle.abt_model.specs.PortTable.{hop_visited}
 use Rattle.abt_source_journal.specs.declared.entry.SourceEntry.{SourceEntry}
-use Rattle.abt_woven.specs.Projections.{Step, Visit, past_of, visit, step_at, steps_on, entry_made, entry_at, entries_on}
+use Rattle.abt_woven.specs.Projections.{Step, Visit, reply_of, past_of, visit, step_at, steps_on, entry_made, entry_at, entries_on}
 use Rattle.abt_woven.specs.Stuck.{Journaled, port_journal, source_journal, next_step, step_next, AreTurns, IsBeginning, StandsStill}
 use Rattle.abt_woven.proofs.Turns.{steps_turn, entries_turn, steps_turns, entries_turns}
 use Rattle.abt_weave.proofs.Growth.{entries_other, entries_none, steps_none, steps_other}
 use Rattle.abt_weave.proofs.Places.{less_if, step_made, entries_made}
-use Rattle.abt_weave.proofs.PortEvents.{visit_is, has_reply, reply_enabled, some_same}
+use Rattle.abt_weave.proofs.PortEvents.{IsVisit, visit_cases, visit_is, has_reply, reply_enabled, some_same}
 use Rattle.abt_weave.proofs.PortLooks.{first_hop}
 use Rattle.abt_weave.proofs.Candidates.{and_both}
+use Rattle.abt_weave.proofs.Alone.{capped_by}
 use Rattle.std.proofs.lemmas.List.Elements.{All-cons}
 use Rattle.abt_weave.proofs.Prefixes.{get_whole, begins_next, get_last}
 use Rattle.abt_weave.proofs.Replays.{no_visit, past_lawful}
 use Rattle.abt_weave.proofs.SentBelow.{IsBelow, passed_below, back_below, shut_below}
-use Rattle.abt_weave.proofs.VisitAgain.{AreBoth, ComesAgain, came_back, request_again, answer_again, arrival_again}
+use Rattle.abt_weave.proofs.VisitAgain.{AreBoth, ComesAgain, came_back, capacity_again, request_again, answer_again, arrival_again}
 
 -- events that are beginnings of the journals, as far as the net goes
 pub record AreBegun (net : Topology) (js : Journaled) (events : List Event) : Type 0 where
@@ -117,14 +118,20 @@ below_on net js ended earlier event below port conn = record {
       (λ x made same. conn c x same made low);
 }
 
--- a port that an event comes to is one of the net
-pub visit_low : (net : Topology) → IsWithinRules net → (past : Past) (event : Event) (v : Visit) → visit net past event ≡ Some v → v.port < length net.capacities
-visit_low net rules past event v is =
-    let parts = visit_is net past event v is in
+-- a port that an event of a connection comes to is one of the net
+stop_low : (net : Topology) → IsWithinRules net → (past : Past) (event : Event) (v : Visit) → IsVisit net past event v → v.port < length net.capacities
+stop_low net rules past event v parts =
     let enabled = reply_enabled (outcome_of net past event) v.reply parts.reply in
     let reply = has_reply net past event parts.c parts.conn v.input parts.whose parts.known (first_hop net rules parts.c parts.conn parts.known) parts.input enabled in
     let hop = is_hop_tells (length parts.conn.path) (hop_visited event) reply.within in
     subst (λ n. n < length net.capacities) parts.port ((conn_within net rules parts.c parts.conn parts.known).in_net (hop_visited event - 1) 0 (omega (arith, hop.0, hop.1)))
+
+-- a port that an event comes to is one of the net
+pub visit_low : (net : Topology) → IsWithinRules net → (past : Past) (event : Event) (v : Visit) → visit net past event ≡ Some v → v.port < length net.capacities
+visit_low net rules past event v is = elim (visit_cases net past event v is) [
+  | inl parts ↦ stop_low net rules past event v parts
+  | inr alone ↦ (capped_by net past v.port alone.capacity v.reply (ap (λ e. reply_of (outcome_of net past e)) (sym alone.event_is) ∙ alone.reply)).0
+]
 
 -- An event comes again where all has ended, also after Turns.
 pub record AgainAt (net : Topology) (ended earlier : List Event) (event : Event) (v : Visit) : Type 0 where
@@ -137,7 +144,6 @@ pub fits_again : (net : Topology) (js : Journaled) (ended earlier : List Event) 
     steps_on net v.port earlier ≡ steps_on net v.port ended → ((c : ℕ) (x : SourceEntry) → conn_of event ≡ Some c → entry_made net earlier event ≡ Some x → entries_on net c earlier ≡ entries_on net c ended) → ⊥
 fits_again net js ended earlier event v end begun at is same beside =
     let more = at.turns ++ ended in
-    let parts = visit_is net (past_of net earlier) event v is in
     let low = visit_low net end.rules (past_of net earlier) event v is in
     let steps : steps_on net v.port earlier ≡ steps_on net v.port more = same ∙ sym (steps_turns net ended at.turns at.all v.port) in
     let due = step_due net js event earlier v begun low is in
@@ -151,6 +157,7 @@ fits_again net js ended earlier event v end begun at is same beside =
           subst (λ (u : Visit). next_step net js more u.port ≡ Some (step_next net more u)) here next);
       entry = λ c x whose also.
           (let made = sym at.again.beside ∙ also in
+          let parts = visit_is net (past_of net earlier) event v c whose is in
           let c_low = subst (λ d. d < length net.conns) (some_same (sym parts.whose ∙ whose)) (slice_get_within net.conns parts.c parts.conn parts.known) in
           ap (λ (l : List SourceEntry). slice_get (source_journal js c) (length l)) (entries_turns net ended at.turns at.all c ∙ sym (beside c x whose made))
           ∙ entry_due net js event earlier c x begun whose c_low made);
@@ -281,4 +288,6 @@ again_at net js ended earlier end rates below (Arrive c cell at) v is same alone
     record { turns = []; all = tt; again = arrival_again net earlier ended (both_are net js ended earlier end rates below) c cell at v is same alone }
 again_at net js ended earlier end rates below (Answer c hop seq true) v is same alone = yes_again net js ended earlier end rates below c hop seq v is same
 again_at net js ended earlier end rates below (Answer c hop seq false) v is same alone = no_again net js ended earlier end rates below c hop seq v is same
-again_at net js ended earlier end rates below other v is same alone = (let none = no_visit net (past_of net earlier) other (λ vc facts. refl) in absurd (cc))
+again_at net js ended earlier end rates below (Capacity p u) v is same alone =
+    record { turns = []; all = tt; again = capacity_again net earlier ended (both_are net js ended earlier end rates below) p u v is same }
+again_at net js ended earlier end rates below other v is same alone = (let none = no_visit net (past_of net earlier) other _ refl (λ vc facts. refl) in absurd (cc))

@@ -1,10 +1,11 @@
 -- All ends of weaving are one.
-use Rattle.std.proofs.Common.{◌≡◌, ℕ, zero, suc, ◌<◌, refl, ap, false, List, [], ◌∷◌, ◌++◌, length, reverse, ◌∙◌, sym, subst, arith}
+use Rattle.std.proofs.Common.{◌≡◌, ℕ, zero, suc, ◌<◌, inl, inr, refl, ap, false, List, [], ◌∷◌, ◌++◌, length, reverse, ◌∙◌, sym, subst, arith, Some}
 use Rattle.std.specs.Prelude.{◌&&◌, not, slice_get, All}
 use Rattle.std.proofs.lemmas.List.{length-append}
 use Rattle.std.proofs.lemmas.List.Elements.{All-cons}
 use Rattle.std.proofs.lemmas.Option.{slice_get_within}
-use Rattle.abt_net.specs.Topology.{Topology, IsWithinRules}
+use Rattle.abt_net.specs.Topology.{Topology, IsWithinRules, conn_at}
+use Rattle.abt_net.specs.declared.conn.Conn.{Conn}
 use Rattle.abt_model.specs.declared.event.Event.{Event}
 use Rattle.abt_model.specs.Events.{AsksRate}
 use Rattle.abt_model.specs.Outcomes.{outcome_of}
@@ -13,7 +14,7 @@ use Rattle.abt_source_journal.specs.declared.entry.SourceEntry.TheVariants.{Did}
 use Rattle.abt_woven.specs.declared.actor.Actor.{Actor}
 use Rattle.abt_woven.specs.declared.actor.Actor.TheVariants.{Source, Port}
 use Rattle.abt_woven.specs.declared.actor.Stuck.{Stuck}
-use Rattle.abt_woven.specs.Projections.{Step, is_enabled, place_at_first, past_of, steps_on, entries_on}
+use Rattle.abt_woven.specs.Projections.{Step, Visit, is_enabled, place_at_first, past_of, visit, steps_on, entries_on}
 use Rattle.abt_woven.specs.Stuck.{Journaled, port_journal, source_journal, AreTurns, IsBeginning, ArePlaced, StandsStill, PortMismatches, SourceMismatches}
 use Rattle.abt_woven.proofs.Turns.{steps_turns, entries_turns}
 use Rattle.abt_weave.specs.Actors.{IsAmong, placed_on}
@@ -25,9 +26,9 @@ use Rattle.abt_weave.proofs.Again.{own_again}
 use Rattle.abt_weave.proofs.AllBelow.{all_below, conn_there, alone_if, entries_there}
 use Rattle.abt_weave.proofs.Ends.{whole_beginning}
 use Rattle.abt_weave.proofs.Leavings.{all_reversed}
-use Rattle.abt_weave.proofs.NoneWoven.{AreBegun, HaveEnded, visit_low, again_at}
+use Rattle.abt_weave.proofs.NoneWoven.{AreBegun, HaveEnded, visit_low, again_at, ArrivesAlone}
 use Rattle.abt_weave.proofs.OwnEvents.{own_here, made_own, own_made}
-use Rattle.abt_weave.proofs.PortEvents.{some_same, visit_is}
+use Rattle.abt_weave.proofs.PortEvents.{some_same, visit_cases, visit_is}
 use Rattle.abt_weave.proofs.SentBelow.{IsBelow}
 
 -- two lists of events that stand still before the journals of a net
@@ -98,18 +99,27 @@ source_again net js one other ends c m =
       },
     )
 
+conn_low : (net : Topology) (c d : ℕ) (conn : Conn) → conn_at net c ≡ Some conn → c ≡ d → d < length net.conns
+conn_low net c d conn known same = subst (λ n. n < length net.conns) same (slice_get_within net.conns c conn known)
+
+-- what came at one end finds the entries of its source at the other
+alone_where : (net : Topology) (js : Journaled) (one other : List Event) → AreEnds net js one other → (turns : List Event) → AreTurns net one turns → (event : Event) (v : Visit) →
+    visit net (past_of net (turns ++ one)) event ≡ Some v → ArrivesAlone net (turns ++ one) other event
+alone_where net js one other ends turns turned event v comes = elim (visit_cases net (past_of net (turns ++ one)) event v comes) [
+  | inl parts ↦ alone_if net (turns ++ one) other event parts.c parts.whose
+      (entries_there_too net js one other turns [] ends turned tt parts.c (conn_low net parts.c parts.c parts.conn parts.known refl))
+  | inr alone ↦ subst (ArrivesAlone net (turns ++ one) other) (sym alone.event_is) tt
+]
+
 port_again : (net : Topology) (js : Journaled) (one other : List Event) → AreEnds net js one other → (p : ℕ) → PortMismatches net js one p → PortMismatches net js other p
 port_again net js one other ends p m =
     let more = m.turns ++ one in
     let event = m.event in
     let low_v = visit_low net ends.here.rules (past_of net more) event m.visits m.comes in
     let low : p < length net.capacities = subst (λ q. q < length net.capacities) m.here low_v in
-    let parts = visit_is net (past_of net more) event m.visits m.comes in
-    let lowc : parts.c < length net.conns = slice_get_within net.conns parts.c parts.conn parts.known in
     let at = again_at net js other more ends.there (turns_ask net one m.turns m.turned ends.here.rates) (ends_below net js one other ends m.turns m.turned) event m.visits m.comes
-    (steps_there_too net js one other m.turns [] ends m.turned tt m.visits.port low_v) (alone_if net more other event parts.c parts.whose (entries_there_too net js one other m.turns [] ends m.turned tt parts.c lowc)) in
+    (steps_there_too net js one other m.turns [] ends m.turned tt m.visits.port low_v) (alone_where net js one other ends m.turns m.turned event m.visits m.comes) in
     let level = steps_there_too net js one other m.turns at.turns ends m.turned at.all p low in
-    let level_c = entries_there_too net js one other m.turns at.turns ends m.turned at.all parts.c lowc in
     record {
       turns = at.turns;
       turned = at.all;
@@ -122,8 +132,10 @@ port_again net js one other ends p m =
       place = m.place ∙ ap (λ (l : List Step). length l) level;
       input = m.input;
       beside = λ d x whose made.
-          (let here : parts.c ≡ d = some_same (sym parts.whose ∙ whose) in
-          ap (λ (l : List SourceEntry). slice_get (source_journal js d) (length l)) (sym (subst (λ n. entries_on net n more ≡ entries_on net n (at.turns ++ other)) here level_c)) ∙ m.beside d x whose (sym at.again.beside ∙ made));
+          (let parts = visit_is net (past_of net more) event m.visits d whose m.comes in
+          let low_d = conn_low net parts.c d parts.conn parts.known (some_same (sym parts.whose ∙ whose)) in
+          let level_d = entries_there_too net js one other m.turns at.turns ends m.turned at.all d low_d in
+          ap (λ (l : List SourceEntry). slice_get (source_journal js d) (length l)) (sym level_d) ∙ m.beside d x whose (sym at.again.beside ∙ made));
     }
 
 -- what is left at one end is left at the other

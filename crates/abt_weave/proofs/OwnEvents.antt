@@ -13,7 +13,7 @@ use Rattle.abt_model.specs.declared.target.SourceEvent.{SourceEvent}
 use Rattle.abt_model.specs.declared.target.HopEvent.{HopEvent}
 use Rattle.abt_model.specs.declared.target.HopEvent.TheVariants as hop
 use Rattle.abt_model.specs.declared.target.Target.{Target}
-use Rattle.abt_model.specs.declared.target.Target.TheVariants.{Source, Hop, End}
+use Rattle.abt_model.specs.declared.target.Target.TheVariants.{Source, Hop, End, Port}
 use Rattle.abt_model.specs.declared.outcome.Outcome.{Outcome}
 use Rattle.abt_model.specs.Outcomes.{conn_of, outcome_of}
 use Rattle.abt_journal.specs.declared.input.PortInput.{PortInput}
@@ -30,24 +30,21 @@ use Rattle.abt_woven.proofs.Turns.{outcome_turns, entries_turns}
 use Rattle.abt_weave.specs.Candidates.{is_at_source, is_own_of, is_told_in, is_told}
 use Rattle.abt_weave.specs.Board.{IsSourceSettled}
 
--- an event that brings nothing to a port comes to none
+-- an event of a connection that brings nothing to a port comes to none
 unvisited_at : (event : Event) → ((conn : Conn) (facts : List Fact) → input_of conn.vc facts event ≡ None) → (r : Option PortReply) (facts : List Fact) (o : Option Conn) → visit_by event r facts o ≡ None
 unvisited_at event none r facts None = refl
 unvisited_at event none None facts (Some conn) = refl
 unvisited_at event none (Some reply) facts (Some conn) =
     ap (option_map (λ (input : PortInput). let v : Visit = record { port = slice_index conn.path (hop_visited event - 1); input = input; reply = reply } in v)) (none conn facts)
 
-pub unvisited_by : (net : Topology) (past : Past) (event : Event) → ((conn : Conn) (facts : List Fact) → input_of conn.vc facts event ≡ None) → (r : Option PortReply) (own : Option ℕ) → visit_of net past event r own ≡ None
-unvisited_by net past event none r None = refl
-unvisited_by net past event none r (Some c) = unvisited_at event none r (facts_of c past) (conn_at net c)
+pub unvisited_by : (net : Topology) (past : Past) (event : Event) (c : ℕ) → conn_of event ≡ Some c → ((conn : Conn) (facts : List Fact) → input_of conn.vc facts event ≡ None) → visit net past event ≡ None
+unvisited_by net past event c whose none =
+    ap (visit_of net past event (reply_of (outcome_of net past event))) whose
+    ∙ unvisited_at event none (reply_of (outcome_of net past event)) (facts_of c past) (conn_at net c)
 
 own_input : (c : ℕ) (t : Target) → is_at_source c t ≡ true → (vc : Channel) (request : ℕ → Terms) → input_in vc request t ≡ None
 own_input c (Source d x) h vc request = refl
 own_input c other h vc request = absurd (false≢true h)
-
--- it comes to no port
-pub own_visit : (net : Topology) (past : Past) (c : ℕ) (event : Event) → is_own_of c event ≡ true → visit net past event ≡ None
-own_visit net past c event own = unvisited_by net past event (λ conn facts. own_input c (target_of event) own conn.vc (request_of conn.vc facts)) (reply_of (outcome_of net past event)) (conn_of event)
 
 own_number : (c : ℕ) (t : Target) → is_at_source c t ≡ true → conn_in t ≡ Some c
 own_number c (Source d x) h = ap Some (eqb-true d c h)
@@ -55,6 +52,10 @@ own_number c other h = absurd (false≢true h)
 
 pub own_conn : (c : ℕ) (event : Event) → is_own_of c event ≡ true → conn_of event ≡ Some c
 own_conn c event h = own_number c (target_of event) h
+
+-- it comes to no port
+pub own_visit : (net : Topology) (past : Past) (c : ℕ) (event : Event) → is_own_of c event ≡ true → visit net past event ≡ None
+own_visit net past c event own = unvisited_by net past event c (own_conn c event own) (λ conn facts. own_input c (target_of event) own conn.vc (request_of conn.vc facts))
 
 pub some_is : (e d : ℕ) → Some e ≡ Some d → e ≡ d
 some_is e d same = cc
@@ -111,6 +112,7 @@ done_there : (place : ℕ) (t : Target) (outcome : Outcome) (done : Event) (told
 done_there place (Source d x) outcome done told h = (let its = done_source d x outcome done told (is_told_by x) (is_enabled outcome) h in (its.0, its.1, (d, eq-eqb d d refl), its.2))
 done_there place (Hop d x) outcome done told h = absurd (beside_not_done place x (is_enabled outcome) done told h)
 done_there place (End d s) outcome done told h = absurd (cc)
+done_there place (Port p u) outcome done told h = absurd (cc)
 
 pub made_own : (place : ℕ) (event : Event) (outcome : Outcome) (done : Event) (told : Outcome) → entry_of place event outcome ≡ Some (Did done told) → IsDone event outcome done told
 made_own place event outcome done told h =

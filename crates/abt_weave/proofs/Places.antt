@@ -10,7 +10,7 @@ use Rattle.abt_net.specs.declared.conn.Conn.{Conn}
 use Rattle.abt_net.specs.Topology.{Topology, IsWithinRules, conn_at}
 use Rattle.abt_facts.specs.declared.fact.Fact.{Fact}
 use Rattle.abt_model.specs.declared.event.Event.{Event}
-use Rattle.abt_model.specs.declared.event.Event.TheVariants.{Arrive, Request, Turn, Answer, Told}
+use Rattle.abt_model.specs.declared.event.Event.TheVariants.{Arrive, Request, Turn, Answer, Told, Capacity}
 use Rattle.abt_model.specs.Outcomes.{conn_of, outcome_of}
 use Rattle.abt_cell.specs.Message.{answer_to}
 use Rattle.abt_source.specs.SourceFacts.{request_of}
@@ -20,13 +20,13 @@ use Rattle.abt_model.proofs.Served.{conn_within}
 use Rattle.abt_model.proofs.Worlds.{cases_option, conn_cases}
 use Rattle.abt_model.specs.PortTable.{hop_visited}
 use Rattle.abt_journal.specs.declared.input.PortInput.{PortInput}
-use Rattle.abt_journal.specs.declared.input.PortInput.TheVariants.{Request as RequestIn, Answer as AnswerIn, Arrive as ArriveIn}
+use Rattle.abt_journal.specs.declared.input.PortInput.TheVariants.{Request as RequestIn, Answer as AnswerIn, Arrive as ArriveIn, Capacity as CapacityIn}
 use Rattle.abt_source_journal.specs.declared.entry.SourceEntry.{SourceEntry}
 use Rattle.abt_source_journal.specs.declared.entry.SourceEntry.TheVariants.{Did, Sent, Arrived as ArrivedAt}
 use Rattle.abt_woven.specs.Projections.{Step, Visit, is_enabled, input_of, first_port, place_at_first, past_of, visit, step_at, steps_on, entry_made, entry_at, entries_on}
 use Rattle.abt_weave.proofs.Candidates.{cond_some, and_both}
 use Rattle.abt_weave.proofs.Growth.{entries_other, entries_none, steps_none, steps_other}
-use Rattle.abt_weave.proofs.PortEvents.{visit_is, visit_made, has_reply, reply_enabled, made_beside, some_same}
+use Rattle.abt_weave.proofs.PortEvents.{visit_by_input, visit_made, has_reply, reply_enabled, made_beside, some_same}
 use Rattle.abt_weave.proofs.PortLooks.{first_hop}
 use Rattle.abt_weave.proofs.Prefixes.{begins_more, get_whole, get_last, get_more}
 use Rattle.abt_net.proofs.PathLemmas.{hop_at}
@@ -98,6 +98,7 @@ named_now net rules earlier c conn (Told d seq granted) x n known whose made nam
     let is : x ≡ Did event o = sym (some_same both.1) in absurd (subst (λ y. Names y n) is names)
 named_now net rules earlier c conn (Turn d seq) x n known whose made names = absurd (cc)
 named_now net rules earlier c conn (Answer d hop seq granted) x n known whose made names = absurd (cc)
+named_now net rules earlier c conn (Capacity p u) x n known whose made names = absurd (cc)
 named_now net rules earlier c conn other x n known whose made names = absurd (subst (λ y. Names y n) (sym (some_same made)) names)
 
 -- the entries of a source after an event
@@ -155,6 +156,7 @@ abbrev pub IsFirstStep : Channel → PortInput → Type 0
 IsFirstStep vc (RequestIn request) = request.vc ≡ vc
 IsFirstStep vc (ArriveIn channel at) = channel ≡ vc
 IsFirstStep vc (AnswerIn answer) = ⊥
+IsFirstStep vc (CapacityIn capacity) = ⊥
 
 -- what stands in a source's journal beside a step
 pub record IsNamed (net : Topology) (earlier : List Event) (c n : ℕ) : Type 0 where
@@ -190,7 +192,7 @@ named_new net rules earlier c conn event v known is here first =
     let past = past_of net earlier in
     let p = slice_index conn.path 0 in
     let n = length (steps_on net p earlier) in
-    let parts = visit_is net past event v is in
+    let parts = visit_by_input net past event v (λ u e. subst (IsFirstStep conn.vc) e first) is in
     let its = first_event parts.conn.vc (facts_of parts.c past) event v.input parts.input conn.vc first in
     let at_c : parts.c ≡ c = own_number net rules parts.c c parts.conn conn parts.known known (sym its.0) in
     let whose : conn_of event ≡ Some c = parts.whose ∙ ap Some at_c in

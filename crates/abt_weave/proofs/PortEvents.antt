@@ -1,6 +1,10 @@
 -- What comes to a port.
-use Rattle.std.proofs.Common.{◌≡◌, ℕ, ◌-◌, inl, inr, refl, ap, Bool, true, false, List, length, reverse, ◌∙◌, sym, subst, Option, None, Some}
+use Rattle.std.proofs.Common.{◌≡◌, ℕ, ◌-◌, ◌⊎◌, inl, inr, refl, ap, Bool, true, false, List, length, reverse, ◌∙◌, sym, subst, Option, None, Some}
 use Rattle.std.specs.Prelude.{◌==◌, ◌&&◌, not, nat_lt, if◌then◌else◌, Ok, slice_index, option_map}
+use Rattle.abt_model.specs.declared.target.Target.{Target}
+use Rattle.abt_model.specs.declared.target.Target.TheVariants.{Source, Hop, End, Port}
+use Rattle.abt_model.specs.Targets.{target_of, event_at}
+use Rattle.abt_model.proofs.Targets.{event_there}
 use Rattle.std.proofs.lemmas.Bool.{false≢true, cond-false, cond-true, cases_eq, ne_eqb}
 use Rattle.abt_cell.specs.Channel.{Channel}
 use Rattle.abt_cell.specs.Message.{answer_to}
@@ -10,7 +14,7 @@ use Rattle.abt_facts.specs.declared.fact.Fact.{Fact}
 use Rattle.abt_facts.specs.Requests.{ask_of}
 use Rattle.abt_facts.specs.Sent.{request_is_at, answer_is_at}
 use Rattle.abt_model.specs.declared.event.Event.{Event}
-use Rattle.abt_model.specs.declared.event.Event.TheVariants.{Arrive, Request, Answer}
+use Rattle.abt_model.specs.declared.event.Event.TheVariants.{Arrive, Request, Answer, Capacity}
 use Rattle.abt_gcra.specs.declared.verdict.Verdict.{Verdict}
 use Rattle.abt_facts.specs.Cells.{emitted_of, fence_of, is_in_time, last_arrival_of, verdict_at}
 use Rattle.abt_facts.specs.Hop.{held_of}
@@ -22,17 +26,17 @@ use Rattle.abt_model.specs.Decision.{request_decision, answer_decision}
 use Rattle.abt_model.specs.Outcomes.{conn_of, port_of, outcome_of}
 use Rattle.abt_source.specs.SourceFacts.{request_of}
 use Rattle.abt_model.specs.Past.{Past, facts_of}
-use Rattle.abt_model.specs.Reserved.{reserved_on}
+use Rattle.abt_model.specs.Reserved.{reserved_on, capacity_of}
 use Rattle.abt_model.proofs.Worlds.{outcome_of-known}
 use Rattle.abt_model.specs.PortTable.{hop_visited}
 use Rattle.abt_journal.specs.declared.input.PortInput.{PortInput}
-use Rattle.abt_journal.specs.declared.input.PortInput.TheVariants.{Request as RequestIn, Answer as AnswerIn}
+use Rattle.abt_journal.specs.declared.input.PortInput.TheVariants.{Request as RequestIn, Answer as AnswerIn, Arrive as ArriveIn, Capacity as CapacityIn}
 use Rattle.abt_journal.specs.declared.input.PortReply.{PortReply}
 use Rattle.abt_journal.specs.declared.input.PortReply.TheVariants.{Arrived as ArrivedOut}
 use Rattle.abt_source_journal.specs.declared.entry.SourceEntry.{SourceEntry}
 use Rattle.abt_source_journal.specs.declared.entry.SourceEntry.TheVariants.{Sent, Arrived as ArrivedAt}
 use Rattle.abt_woven.specs.Asked.{floor_in}
-use Rattle.abt_woven.specs.Projections.{Visit, reply_of, is_enabled, input_of, visit_by, visit_of, visit, entry_of, first_port, place_at_first, past_of, entry_made, steps_on, entries_on}
+use Rattle.abt_woven.specs.Projections.{Visit, reply_of, is_enabled, input_of, visit_by, visit_alone, visit_of, visit, entry_of, first_port, place_at_first, past_of, entry_made, steps_on, entries_on}
 use Rattle.abt_woven.specs.Stuck.{Journaled, next_step, step_next, next_entry, Fits}
 use Rattle.abt_woven.proofs.Asked.{floor_told, ask_told}
 use Rattle.abt_weave.specs.Comes.{input_told, entry_beside, Comes}
@@ -48,7 +52,7 @@ told_same net earlier vc c (Answer d hop seq granted) =
     ∙ ap (λ (n : ℕ). Some (AnswerIn (record { terms = record { vc = vc; seq = seq; floor = floor_in (reverse (entries_on net c earlier)) seq; ask = n }; granted = granted }))) (ask_told net c seq earlier)
 told_same net earlier vc c other = refl
 
--- A visit is of an event that comes to the port of its hop.
+-- A visit of an event of a connection is at the port of its hop.
 pub record IsVisit (net : Topology) (past : Past) (event : Event) (v : Visit) : Type 0 where
   pub c : ℕ
   pub whose : conn_of event ≡ Some c
@@ -57,6 +61,16 @@ pub record IsVisit (net : Topology) (past : Past) (event : Event) (v : Visit) : 
   pub port : slice_index conn.path (hop_visited event - 1) ≡ v.port
   pub input : input_of conn.vc (facts_of c past) event ≡ Some v.input
   pub reply : reply_of (outcome_of net past event) ≡ Some v.reply
+
+-- A visit of an event of a port alone brings it a capacity.
+pub record IsVisitAlone (net : Topology) (past : Past) (event : Event) (v : Visit) : Type 0 where
+  pub capacity : ℕ
+  pub event_is : event ≡ Capacity v.port capacity
+  pub input : v.input ≡ CapacityIn capacity
+  pub reply : reply_of (outcome_of net past event) ≡ Some v.reply
+
+pub some_same : {A : Type 0} → {x y : A} → Some x ≡ Some y → x ≡ y
+some_same h = cc
 
 mapped : {A B : Type 0} → (f : A → B) (o : Option A) (y : B) → option_map f o ≡ Some y → (x : A) × (o ≡ Some x) × (y ≡ f x)
 mapped f None y h = absurd (cc)
@@ -79,16 +93,51 @@ visit_parts net past event v (Some reply) c (Some conn) re whose known h =
       reply = re ∙ ap (λ (w : Visit). Some w.reply) (sym parts.2);
     }
 
+alone_parts : (net : Topology) (past : Past) (event : Event) (v : Visit) (r : Option PortReply) (t : Target) → reply_of (outcome_of net past event) ≡ r → event ≡ event_at t →
+    visit_alone t r ≡ Some v → IsVisitAlone net past event v
+alone_parts net past event v None t re is h = absurd (cc)
+alone_parts net past event v (Some reply) (Port p u) re is h =
+    let made : (let w : Visit = record { port = p; input = CapacityIn u; reply = reply } in w) ≡ v = some_same h in
+    record {
+      capacity = u;
+      event_is = is ∙ ap (λ (w : Visit). Capacity w.port u) made;
+      input = sym (ap (λ (w : Visit). w.input) made);
+      reply = re ∙ ap (λ (w : Visit). Some w.reply) made;
+    }
+alone_parts net past event v (Some reply) (Source c x) re is h = absurd (cc)
+alone_parts net past event v (Some reply) (Hop c x) re is h = absurd (cc)
+alone_parts net past event v (Some reply) (End c s) re is h = absurd (cc)
+
 visit_owner : (net : Topology) (past : Past) (event : Event) (v : Visit) (r : Option PortReply) (own : Option ℕ) → reply_of (outcome_of net past event) ≡ r → conn_of event ≡ own →
-    visit_of net past event r own ≡ Some v → IsVisit net past event v
-visit_owner net past event v r None re whose h = absurd (cc)
-visit_owner net past event v r (Some c) re whose h = visit_parts net past event v r c (conn_at net c) re whose refl h
+    visit_of net past event r own ≡ Some v → IsVisit net past event v ⊎ IsVisitAlone net past event v
+visit_owner net past event v r None re whose h = inr (alone_parts net past event v r (target_of event) re (sym (event_there event)) h)
+visit_owner net past event v r (Some c) re whose h = inl (visit_parts net past event v r c (conn_at net c) re whose refl h)
 
-pub visit_is : (net : Topology) (past : Past) (event : Event) (v : Visit) → visit net past event ≡ Some v → IsVisit net past event v
-visit_is net past event v h = visit_owner net past event v (reply_of (outcome_of net past event)) (conn_of event) refl refl h
+-- a visit is one of these two
+pub visit_cases : (net : Topology) (past : Past) (event : Event) (v : Visit) → visit net past event ≡ Some v → IsVisit net past event v ⊎ IsVisitAlone net past event v
+visit_cases net past event v h = visit_owner net past event v (reply_of (outcome_of net past event)) (conn_of event) refl refl h
 
-pub some_same : {A : Type 0} → {x y : A} → Some x ≡ Some y → x ≡ y
-some_same h = cc
+-- that of an event of a connection
+pub visit_is : (net : Topology) (past : Past) (event : Event) (v : Visit) (c : ℕ) → conn_of event ≡ Some c → visit net past event ≡ Some v → IsVisit net past event v
+visit_is net past event v c whose h = elim (visit_cases net past event v h) [
+  | inl parts ↦ parts
+  | inr alone ↦ (let clash : None ≡ Some c = sym (ap conn_of alone.event_is) ∙ whose in absurd (cc))
+]
+
+-- an input is no capacity
+abbrev pub IsNoCapacity : PortInput → Type 0
+IsNoCapacity input = (capacity : ℕ) → input ≡ CapacityIn capacity → ⊥
+
+-- that of what is no capacity
+pub visit_by_input : (net : Topology) (past : Past) (event : Event) (v : Visit) → IsNoCapacity v.input → visit net past event ≡ Some v → IsVisit net past event v
+visit_by_input net past event v none h = elim (visit_cases net past event v h) [ inl parts ↦ parts | inr alone ↦ absurd (none alone.capacity alone.input) ]
+
+-- what a connection brings is no capacity
+pub brings_none : (vc : Channel) (placed : List SourceEntry) (event : Event) (input : PortInput) → input_told vc placed event ≡ Some input → IsNoCapacity input
+brings_none vc placed (Request d hop seq) input h u e = (let clash : Some (RequestIn _) ≡ Some (CapacityIn u) = h ∙ ap (λ (i : PortInput). Some i) e in cc)
+brings_none vc placed (Answer d hop seq granted) input h u e = (let clash : Some (AnswerIn _) ≡ Some (CapacityIn u) = h ∙ ap (λ (i : PortInput). Some i) e in cc)
+brings_none vc placed (Arrive d cell at) input h u e = (let clash : Some (ArriveIn vc at) ≡ Some (CapacityIn u) = h ∙ ap (λ (i : PortInput). Some i) e in cc)
+brings_none vc placed other input h u e = absurd (cc)
 
 -- the connection of a visit is that of its event
 pub known_at : (net : Topology) (past : Past) (c : ℕ) (event : Event) (v : Visit) → (parts : IsVisit net past event v) → conn_of event ≡ Some c → conn_at net c ≡ Some parts.conn
@@ -155,7 +204,7 @@ pub has_reply : (net : Topology) (past : Past) (event : Event) (c : ℕ) (conn :
 has_reply net past event c conn input whose known one brings h =
     let is = outcome_of-known net past event c conn whose known in
     subst (λ o. HasReply conn o event) (sym is)
-    (by_reply conn (reserved_on net past (port_of conn.path event)) (slice_index net.capacities (port_of conn.path event)) (facts_of c past) event input one brings (ap is_enabled (sym is) ∙ h))
+    (by_reply conn (reserved_on net past (port_of conn.path event)) (capacity_of net past (port_of conn.path event)) (facts_of c past) event input one brings (ap is_enabled (sym is) ∙ h))
 
 -- what an event that happens and comes to a port is to its source
 beside_request : (net : Topology) (earlier : List Event) (c hop seq p place : ℕ) (conn : Conn) (outcome : Outcome) → conn_at net c ≡ Some conn → slice_index conn.path (hop - 1) ≡ p → place ≡ length (steps_on net p earlier) →
@@ -188,14 +237,14 @@ made_beside net earlier (Arrive d cell a) p place c conn outcome input facts who
 made_beside net earlier (Answer d hop seq granted) p place c conn outcome input facts whose known port at brings h = refl
 made_beside net earlier other p place c conn outcome input facts whose known port at brings h = absurd (cc)
 
--- a visit is of an event that comes
+-- a visit of what is no capacity is of an event that comes
 pub visit_comes : (net : Topology) (journals : Journaled) (earlier : List Event) (event : Event) (v : Visit) (p place : ℕ) (input : PortInput) →
-    ((c : ℕ) (conn : Conn) → conn_at net c ≡ Some conn → is_hop (length conn.path) 1 ≡ true) → visit net (past_of net earlier) event ≡ Some v → v.port ≡ p →
+    ((c : ℕ) (conn : Conn) → conn_at net c ≡ Some conn → is_hop (length conn.path) 1 ≡ true) → IsNoCapacity input → visit net (past_of net earlier) event ≡ Some v → v.port ≡ p →
     place ≡ length (steps_on net p earlier) → input ≡ v.input → ((c : ℕ) (x : SourceEntry) → conn_of event ≡ Some c → entry_made net earlier event ≡ Some x → next_entry net journals earlier c ≡ Some x) →
     Comes net journals earlier p place input event
-visit_comes net journals earlier event v p place input one is here at same beside =
+visit_comes net journals earlier event v p place input one none is here at same beside =
     let past = past_of net earlier in
-    let parts = visit_is net past event v is in
+    let parts = visit_by_input net past event v (λ u e. none u (same ∙ e)) is in
     let enabled = reply_enabled (outcome_of net past event) v.reply parts.reply in
     let reply = has_reply net past event parts.c parts.conn v.input parts.whose parts.known (one parts.c parts.conn parts.known) parts.input enabled in
     record {

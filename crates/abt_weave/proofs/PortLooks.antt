@@ -26,7 +26,7 @@ use Rattle.abt_journal.specs.declared.input.PortReply.{PortReply}
 use Rattle.abt_source_journal.specs.declared.entry.SourceEntry.{SourceEntry}
 use Rattle.abt_source_journal.specs.declared.journal.SourceJournal.{SourceJournal}
 use Rattle.abt_world.specs.Standing.{WorldView}
-use Rattle.abt_woven.specs.Projections.{Step, step_of, Visit, reply_of, is_enabled, past_of, visit, steps_on}
+use Rattle.abt_woven.specs.Projections.{Step, step_of, Visit, reply_of, is_enabled, past_of, visit, steps_on, entries_on}
 use Rattle.abt_woven.specs.Stuck.{Journaled, steps_in, port_journal, next_step, step_next, next_entry, Fits, IsTurn, AreTurns, PortMismatches}
 use Rattle.abt_woven.proofs.Turns.{HasOwnTurn, outcome_turns, own_same, own_enabled, steps_turns, entries_turns}
 use Rattle.abt_weave.specs.Comes.{input_told, Comes, IsYes, IsTurnOf, IsComing, IsExpected}
@@ -40,7 +40,7 @@ use Rattle.abt_weave.specs.Board.{count, IsAfterLook, journaled, IsPlacing, IsPo
 use Rattle.abt_weave.proofs.Pasts.{past-is, pushed}
 use Rattle.abt_weave.proofs.OwnEvents.{next_turns}
 use Rattle.abt_weave.proofs.SourceLooks.{place_read}
-use Rattle.abt_weave.proofs.PortEvents.{some_same, told_same, visit_is, visit_made, reply_enabled, has_reply, made_beside, visit_comes}
+use Rattle.abt_weave.proofs.PortEvents.{some_same, told_same, IsNoCapacity, visit_by_input, brings_none, visit_made, reply_enabled, has_reply, made_beside, visit_comes}
 
 -- each path has a hop
 pub first_hop : (net : Topology) → IsWithinRules net → (c : ℕ) (conn : Conn) → conn_at net c ≡ Some conn → is_hop (length conn.path) 1 ≡ true
@@ -79,15 +79,19 @@ comes_after net js earlier turns all p place input event comes = record {
   beside = λ x e. next_turns net js earlier turns all comes.c ∙ comes.beside x e;
 }
 
+-- what comes is no capacity
+comes_none : (net : Topology) (js : Journaled) (earlier : List Event) (p place : ℕ) (input : PortInput) (event : Event) → Comes net js earlier p place input event → IsNoCapacity input
+comes_none net js earlier p place input event comes = brings_none comes.conn.vc (reverse (entries_on net comes.c earlier)) event input comes.brings
+
 -- An event that would be the next step, by what it replies.
 pub record Would (net : Topology) (js : Journaled) (earlier turns : List Event) (p : ℕ) (step : Step) (event : Event) (reply : PortReply) : Type 0 where
   pub turned : AreTurns net earlier turns
   pub comes : Comes net js earlier p step.place step.input event
   pub replies : reply_of (outcome_of net (past_of net (turns ++ earlier)) event) ≡ Some reply
 
-would_fit : (net : Topology) (js : Journaled) → IsWithinRules net → (earlier turns : List Event) (p : ℕ) (step : Step) (event : Event) (v : Visit) → next_step net js earlier p ≡ Some step → AreTurns net earlier turns →
+would_fit : (net : Topology) (js : Journaled) → IsWithinRules net → (earlier turns : List Event) (p : ℕ) (step : Step) (event : Event) (v : Visit) → next_step net js earlier p ≡ Some step → IsNoCapacity step.input → AreTurns net earlier turns →
     visit net (past_of net (turns ++ earlier)) event ≡ Some v → v.port ≡ p → Fits net js (turns ++ earlier) event → Would net js earlier turns p step event v.reply × (v.reply ≡ step.reply)
-would_fit net js rules earlier turns p step event v next all is here fits =
+would_fit net js rules earlier turns p step event v next none all is here fits =
     let after = turns ++ earlier in
     let at : next_step net js after p ≡ Some (record { place = length (steps_on net p after); input = v.input; reply = v.reply }) =
     subst (λ q. next_step net js after q ≡ Some (record { place = length (steps_on net q after); input = v.input; reply = v.reply })) here (fits.step v is) in
@@ -97,30 +101,31 @@ would_fit net js rules earlier turns p step event v next all is here fits =
       record {
         turned = all;
         comes = comes_before net js earlier turns all p step.place step.input event
-            (visit_comes net js after event v p step.place step.input (first_hop net rules) is here place input (λ c x whose e. fits.entry c x whose e));
-        replies = (visit_is net (past_of net after) event v is).reply;
+            (visit_comes net js after event v p step.place step.input (first_hop net rules) none is here place input (λ c x whose e. fits.entry c x whose e));
+        replies = (visit_by_input net (past_of net after) event v (λ u e. none u (input ∙ e)) is).reply;
       },
       sym (ap (λ (s : Step). s.reply) same),
     )
 
-would_mismatch : (net : Topology) (js : Journaled) → IsWithinRules net → (earlier : List Event) (p : ℕ) (step : Step) → next_step net js earlier p ≡ Some step → (m : PortMismatches net js earlier p) →
+would_mismatch : (net : Topology) (js : Journaled) → IsWithinRules net → (earlier : List Event) (p : ℕ) (step : Step) → next_step net js earlier p ≡ Some step → IsNoCapacity step.input → (m : PortMismatches net js earlier p) →
     Would net js earlier m.turns p step m.event m.visits.reply
-would_mismatch net js rules earlier p step next m =
+would_mismatch net js rules earlier p step next none m =
     let after = m.turns ++ earlier in
     let same : step ≡ m.step = some_same (sym next ∙ sym (steps_next net js earlier m.turns m.turned p) ∙ m.next) in
+    let input : step.input ≡ m.visits.input = ap (λ (s : Step). s.input) same ∙ m.input in
     record {
       turned = m.turned;
       comes = comes_before net js earlier m.turns m.turned p step.place step.input m.event
-          (visit_comes net js after m.event m.visits p step.place step.input (first_hop net rules) m.comes m.here (ap (λ (s : Step). s.place) same ∙ m.place) (ap (λ (s : Step). s.input) same ∙ m.input) m.beside);
-      replies = (visit_is net (past_of net after) m.event m.visits m.comes).reply;
+          (visit_comes net js after m.event m.visits p step.place step.input (first_hop net rules) none m.comes m.here (ap (λ (s : Step). s.place) same ∙ m.place) input m.beside);
+      replies = (visit_by_input net (past_of net after) m.event m.visits (λ u e. none u (input ∙ e)) m.comes).reply;
     }
 
--- no event at all would be the next step
-pub port_waits : (net : Topology) (js : Journaled) → IsWithinRules net → (earlier : List Event) (p : ℕ) (step : Step) → next_step net js earlier p ≡ Some step →
+-- no event at all would be the next step, which is no capacity
+pub port_waits : (net : Topology) (js : Journaled) → IsWithinRules net → (earlier : List Event) (p : ℕ) (step : Step) → next_step net js earlier p ≡ Some step → IsNoCapacity step.input →
     ((turns : List Event) (event : Event) (reply : PortReply) → Would net js earlier turns p step event reply → ⊥) → IsPortSettled net js earlier p false
-port_waits net js rules earlier p step next never = record {
-  stuck = λ turns event v all is here fits. never turns event v.reply (would_fit net js rules earlier turns p step event v next all is here fits).0;
-  marks = λ m. never m.turns m.event m.visits.reply (would_mismatch net js rules earlier p step next m);
+port_waits net js rules earlier p step next none never = record {
+  stuck = λ turns event v all is here fits. never turns event v.reply (would_fit net js rules earlier turns p step event v next none all is here fits).0;
+  marks = λ m. never m.turns m.event m.visits.reply (would_mismatch net js rules earlier p step next none m);
 }
 
 pub port_done : (net : Topology) (js : Journaled) (earlier : List Event) (p : ℕ) → next_step net js earlier p ≡ None → IsPortSettled net js earlier p false
@@ -135,10 +140,10 @@ abbrev pub IsOne : Topology → Journaled → List Event → ℕ → Step → Ev
 IsOne net js earlier p step event = (other : Event) → Comes net js earlier p step.place step.input other → other ≡ event
 
 -- it can't come at once, and it isn't a yes at the last hop
-pub port_absent : (net : Topology) (js : Journaled) → IsWithinRules net → (earlier : List Event) (p : ℕ) (step : Step) (event : Event) → next_step net js earlier p ≡ Some step → IsOne net js earlier p step event →
+pub port_absent : (net : Topology) (js : Journaled) → IsWithinRules net → (earlier : List Event) (p : ℕ) (step : Step) (event : Event) → next_step net js earlier p ≡ Some step → IsNoCapacity step.input → IsOne net js earlier p step event →
     is_enabled (outcome_of net (past_of net earlier) event) ≡ false → ((c seq : ℕ) → IsYes net event c seq → outcome_of net (past_of net earlier) (Turn c seq) ≡ Turned → ⊥) → IsPortSettled net js earlier p false
-port_absent net js rules earlier p step event next one off no_turn =
-    port_waits net js rules earlier p step next (λ turns other reply would.
+port_absent net js rules earlier p step event next none one off no_turn =
+    port_waits net js rules earlier p step next none (λ turns other reply would.
     (let same = one other would.comes in
     let after = past_of net (turns ++ earlier) in
     let replies : reply_of (outcome_of net after event) ≡ Some reply = subst (λ e. reply_of (outcome_of net after e) ≡ Some reply) same would.replies in
@@ -177,7 +182,7 @@ pub port_differs : (net : Topology) (js : Journaled) → IsWithinRules net → (
     Comes net js earlier p step.place step.input event → is_enabled (outcome_of net (past_of net earlier) event) ≡ true → reply_of (outcome_of net (past_of net earlier) event) ≢ Some step.reply → IsPortSettled net js earlier p true
 port_differs net js rules earlier p step event next one comes on differ = record {
   stuck = λ turns other v all is here fits.
-      (let would = would_fit net js rules earlier turns p step other v next all is here fits in
+      (let would = would_fit net js rules earlier turns p step other v next (comes_none net js earlier p step.place step.input event comes) all is here fits in
       let same = one other would.0.comes in
       let after = past_of net (turns ++ earlier) in
       let replies : reply_of (outcome_of net after event) ≡ Some step.reply = subst (λ e. reply_of (outcome_of net after e) ≡ Some v.reply) same would.0.replies ∙ ap (λ r. Some r) would.1 in
@@ -232,7 +237,7 @@ turn_differs net js rules earlier p step event turn next one comes off its happe
     subst (λ e. is_enabled (outcome_of net (past_of net (e ∷ earlier)) event) ≡ true) (sym its.turn_is) (own_enabled net earlier event own (last_hop net rules its.c its.yes_of.conn its.yes_of.known)) in
     record {
       stuck = λ turns other v all is here fits.
-          (let would = would_fit net js rules earlier turns p step other v next all is here fits in
+          (let would = would_fit net js rules earlier turns p step other v next (comes_none net js earlier p step.place step.input event comes) all is here fits in
           let same = one other would.0.comes in
           let after = past_of net (turns ++ earlier) in
           let replies : reply_of (outcome_of net after event) ≡ Some step.reply = subst (λ e. reply_of (outcome_of net after e) ≡ Some v.reply) same would.0.replies ∙ ap (λ r. Some r) would.1 in
@@ -283,10 +288,10 @@ step_at_place entries place entry low read = ap (option_map step_of) (slice_get_
 pub no_step : (entries : List Entry) (place : ℕ) → length entries ≤ place → option_map step_of (slice_get entries place) ≡ None
 no_step entries place past = ap (option_map step_of) (slice_get_past entries place past)
 
--- where no event can be the next entry
-pub none_settled : (net : Topology) (js : Journaled) → IsWithinRules net → (earlier : List Event) (p : ℕ) (entry : Entry) → next_step net js earlier p ≡ Some (step_of entry) →
+-- where no event can be the next entry, which is no capacity
+pub none_settled : (net : Topology) (js : Journaled) → IsWithinRules net → (earlier : List Event) (p : ℕ) (entry : Entry) → next_step net js earlier p ≡ Some (step_of entry) → IsNoCapacity entry.input →
     ((event : Event) → Comes net js earlier p entry.place entry.input event → ⊥) → IsPortSettled net js earlier p false
-none_settled net js rules earlier p entry next never = port_waits net js rules earlier p (step_of entry) next (λ turns event reply would. never event would.comes)
+none_settled net js rules earlier p entry next none never = port_waits net js rules earlier p (step_of entry) next none (λ turns event reply would. never event would.comes)
 
 abbrev expected_step : (place : ℕ) → PortInput → PortReply → Step
 expected_step place input reply = record { place = place; input = input; reply = reply }
@@ -296,7 +301,7 @@ pub expected_absent : (net : Topology) (js : Journaled) (events : List Event) (s
     IsExpected net js (reverse events) sp p place input reply c reached event → is_enabled (outcome_of net (facts_after net events) event) ≡ false →
     ((d seq : ℕ) → IsYes net event d seq → outcome_of net (facts_after net events) (Turn d seq) ≡ Turned → ⊥) → IsPortSettled net js (reverse events) p false
 expected_absent net js events sp p place input reply c reached event it off none =
-    port_absent net js it.rules (reverse events) p (expected_step place input reply) event it.next it.only
+    port_absent net js it.rules (reverse events) p (expected_step place input reply) event it.next (comes_none net js (reverse events) p place input event it.coming.comes) it.only
     (subst (λ w. is_enabled (outcome_of net w event) ≡ false) (past-is net events) off)
     (λ d seq yes_of happens. none d seq yes_of (subst (λ w. outcome_of net w (Turn d seq) ≡ Turned) (sym (past-is net events)) happens))
 

@@ -15,7 +15,7 @@ use Rattle.abt_facts.specs.Sent.{request_is_at, answer_is_at}
 use Rattle.abt_facts.specs.Cells.{emitted_of, fence_of, is_in_time, last_arrival_of, verdict_at}
 use Rattle.abt_facts.specs.Hop.{held_of}
 use Rattle.abt_model.specs.declared.event.Event.{Event}
-use Rattle.abt_model.specs.declared.event.Event.TheVariants.{Arrive, Request, Answer}
+use Rattle.abt_model.specs.declared.event.Event.TheVariants.{Arrive, Request, Answer, Capacity}
 use Rattle.abt_model.specs.declared.outcome.Cause.TheVariants.{Unknown, NotSent, Fenced, Delay, ClockBack}
 use Rattle.abt_model.specs.declared.outcome.Outcome.{Outcome}
 use Rattle.abt_model.specs.declared.outcome.Outcome.TheVariants.{Requested, Answered, Arrived, NotEnabled}
@@ -27,10 +27,11 @@ use Rattle.abt_model.specs.Events.{AsksRate}
 use Rattle.abt_model.specs.Outcomes.{past_by, conn_of, port_of, outcome_of, facts_added, after_event}
 use Rattle.abt_model.specs.Past.{Past, facts_of, with_facts}
 use Rattle.abt_model.specs.PortTable.{VisitsBy, port_table, hop_visited, Visits}
-use Rattle.abt_model.specs.Reserved.{reserved_on}
+use Rattle.abt_model.specs.Reserved.{reserved_on, capacity_of}
 use Rattle.abt_net.specs.Paths.{hop_of}
 use Rattle.abt_model.proofs.Served.{conn_within}
 use Rattle.abt_model.proofs.Serving.{requests_served, answers_served, arrivals_served}
+use Rattle.abt_model.proofs.Setting.{capacities_served}
 use Rattle.abt_model.proofs.Steps.{is_hop_tells}
 use Rattle.abt_net.proofs.PathLemmas.{hop_of-port, hop_at}
 use Rattle.abt_model.proofs.Tables.{tables_stay}
@@ -38,11 +39,13 @@ use Rattle.abt_model.proofs.Worlds.{AllLawful, nothing_lawful, after_event_lawfu
 use Rattle.abt_journal.specs.declared.entry.Entry.{Entry}
 use Rattle.abt_journal.specs.declared.input.PortInput.{PortInput}
 use Rattle.abt_journal.specs.declared.input.PortReply.{PortReply}
-use Rattle.abt_journal.specs.declared.input.PortReply.TheVariants.{Requested as RequestedOut, Answered as AnsweredOut, Arrived as ArrivedOut}
+use Rattle.abt_journal.specs.declared.input.PortReply.TheVariants.{Requested as RequestedOut, Answered as AnsweredOut, Arrived as ArrivedOut, Capped as CappedOut}
+use Rattle.abt_journal.specs.declared.input.PortInput.TheVariants.{Capacity as CapacityIn}
 use Rattle.abt_journal.specs.Replay.{reply_by, table_after, replay}
 use Rattle.abt_woven.specs.Projections.{Step, step_of, Visit, reply_of, input_of, visit, past_of, step_at, steps_on}
+use Rattle.abt_weave.proofs.Alone.{answer_told, capped_by, capacity_visits, capacity_silent}
 use Rattle.abt_weave.proofs.OwnEvents.{unvisited_by}
-use Rattle.abt_weave.proofs.PortEvents.{IsVisit, known_at, input_at, visit_is, visit_made, has_reply, reply_enabled, some_same}
+use Rattle.abt_weave.proofs.PortEvents.{IsVisit, known_at, input_at, visit_cases, visit_is, visit_made, has_reply, reply_enabled, some_same}
 use Rattle.abt_weave.proofs.PortLooks.{first_hop}
 
 -- the table that steps make of one
@@ -58,9 +61,9 @@ pub past_lawful : (net : Topology) (earlier : List Event) → All AsksRate earli
 past_lawful net [] rates = nothing_lawful net
 past_lawful net (event ∷ earlier) rates = after_event_lawful net (past_of net earlier) (past_lawful net earlier (others_ask event earlier rates)) event (first_asks event earlier rates)
 
--- an event that brings nothing comes to no port
-pub no_visit : (net : Topology) (past : Past) (event : Event) → ((vc : Channel) (facts : List Fact) → input_of vc facts event ≡ None) → visit net past event ≡ None
-no_visit net past event none = unvisited_by net past event (λ conn facts. none conn.vc facts) (reply_of (outcome_of net past event)) (conn_of event)
+-- an event of a connection that brings nothing comes to no port
+pub no_visit : (net : Topology) (past : Past) (event : Event) (c : ℕ) → conn_of event ≡ Some c → ((vc : Channel) (facts : List Fact) → input_of vc facts event ≡ None) → visit net past event ≡ None
+no_visit net past event c whose none = unvisited_by net past event c whose (λ conn facts. none conn.vc facts)
 
 -- the hop of the port that an event comes to
 pub hop_here : (net : Topology) (past : Past) → IsWithinRules net → (event : Event) (v : Visit) → (parts : IsVisit net past event v) → hop_of parts.conn.path v.port ≡ hop_visited event
@@ -97,17 +100,17 @@ arrived_by true false true false v reply h = refl
 pub request_said : (net : Topology) (past : Past) (c hop seq : ℕ) (v : Visit) → visit net past (Request c hop seq) ≡ Some v → (onward : Onward) × (outcome_of net past (Request c hop seq) ≡ Requested onward)
 request_said net past c hop seq v is =
     let event = Request c hop seq in
-    let parts = visit_is net past event v is in
+    let parts = visit_is net past event v c refl is in
     let conn = parts.conn in
     let facts = facts_of parts.c past in
     let known = outcome_of-known net past event parts.c conn parts.whose parts.known in
-    let onward = request_decision facts (reserved_on net past (port_of conn.path event)) (slice_index net.capacities (port_of conn.path event)) hop (request_of conn.vc facts seq) in
+    let onward = request_decision facts (reserved_on net past (port_of conn.path event)) (capacity_of net past (port_of conn.path event)) hop (request_of conn.vc facts seq) in
     (onward, known ∙ requested_by (is_hop (length conn.path) hop) (request_is_at facts seq hop) onward v.reply (ap reply_of (sym known) ∙ parts.reply))
 
 pub answer_said : (net : Topology) (past : Past) (c hop seq : ℕ) (granted : Bool) (v : Visit) → visit net past (Answer c hop seq granted) ≡ Some v → (back : Back) × (outcome_of net past (Answer c hop seq granted) ≡ Answered back)
 answer_said net past c hop seq granted v is =
     let event = Answer c hop seq granted in
-    let parts = visit_is net past event v is in
+    let parts = visit_is net past event v c refl is in
     let conn = parts.conn in
     let facts = facts_of parts.c past in
     let known = outcome_of-known net past event parts.c conn parts.whose parts.known in
@@ -117,7 +120,7 @@ answer_said net past c hop seq granted v is =
 pub arrival_said : (net : Topology) (past : Past) (c cell at : ℕ) (v : Visit) → visit net past (Arrive c cell at) ≡ Some v → (verdict : Verdict) × (outcome_of net past (Arrive c cell at) ≡ Arrived verdict)
 arrival_said net past c cell at v is =
     let event = Arrive c cell at in
-    let parts = visit_is net past event v is in
+    let parts = visit_is net past event v c refl is in
     let conn = parts.conn in
     let facts = facts_of parts.c past in
     let known = outcome_of-known net past event parts.c conn parts.whose parts.known in
@@ -131,7 +134,7 @@ IsServed net past event v = (v.reply ≡ reply_by (port_table net past v.port) v
 request_made : (net : Topology) (past : Past) → IsWithinRules net → AllLawful net past → (c hop seq : ℕ) (v : Visit) → visit net past (Request c hop seq) ≡ Some v → IsServed net past (Request c hop seq) v
 request_made net past rules lawful c hop seq v is =
     let event = Request c hop seq in
-    let parts = visit_is net past event v is in
+    let parts = visit_is net past event v c refl is in
     let said = request_said net past c hop seq v is in
     let served = requests_served net past rules lawful c hop seq v.port parts.conn said.0 (known_at net past c event v parts refl) (hop_here net past rules event v parts) said.1 in
     let table = port_table net past v.port in
@@ -143,7 +146,7 @@ request_made net past rules lawful c hop seq v is =
 answer_made : (net : Topology) (past : Past) → IsWithinRules net → AllLawful net past → (c hop seq : ℕ) (granted : Bool) (v : Visit) → visit net past (Answer c hop seq granted) ≡ Some v → IsServed net past (Answer c hop seq granted) v
 answer_made net past rules lawful c hop seq granted v is =
     let event = Answer c hop seq granted in
-    let parts = visit_is net past event v is in
+    let parts = visit_is net past event v c refl is in
     let said = answer_said net past c hop seq granted v is in
     let served = answers_served net past rules lawful c hop seq v.port granted parts.conn said.0 (known_at net past c event v parts refl) (hop_here net past rules event v parts) said.1 in
     let table = port_table net past v.port in
@@ -155,7 +158,7 @@ answer_made net past rules lawful c hop seq granted v is =
 arrival_made : (net : Topology) (past : Past) → IsWithinRules net → AllLawful net past → (c cell at : ℕ) (v : Visit) → visit net past (Arrive c cell at) ≡ Some v → IsServed net past (Arrive c cell at) v
 arrival_made net past rules lawful c cell at v is =
     let event = Arrive c cell at in
-    let parts = visit_is net past event v is in
+    let parts = visit_is net past event v c refl is in
     let said = arrival_said net past c cell at v is in
     let served = arrivals_served net past rules lawful c cell at v.port parts.conn said.0 (known_at net past c event v parts refl) (hop_here net past rules event v parts) said.1 in
     let table = port_table net past v.port in
@@ -164,21 +167,38 @@ arrival_made net past rules lawful c cell at v is =
       sym served.1 ∙ ap (table_after table) input,
     )
 
+capacity_made : (net : Topology) (past : Past) → IsWithinRules net → AllLawful net past → (p u : ℕ) (v : Visit) → visit net past (Capacity p u) ≡ Some v → IsServed net past (Capacity p u) v
+capacity_made net past rules lawful p u v is =
+    let parts = capacity_visits net past p u v is in
+    let said = capped_by net past p u v.reply parts.2 in
+    let served = capacities_served net past rules lawful p u (answer_told net past p u) said.1 in
+    let after = after_event net past (Capacity p u) in
+    subst (λ q. (v.reply ≡ reply_by (port_table net past q) v.input) × (port_table net after q ≡ table_after (port_table net past q) v.input)) parts.0
+    (subst (λ i. (v.reply ≡ reply_by (port_table net past p) i) × (port_table net after p ≡ table_after (port_table net past p) i)) (sym parts.1)
+    (said.2 ∙ ap CappedOut (sym served.0), sym served.1))
+
 pub event_made : (net : Topology) (past : Past) → IsWithinRules net → AllLawful net past → (event : Event) (v : Visit) → visit net past event ≡ Some v → IsServed net past event v
 event_made net past rules lawful (Request c hop seq) v is = request_made net past rules lawful c hop seq v is
 event_made net past rules lawful (Answer c hop seq granted) v is = answer_made net past rules lawful c hop seq granted v is
 event_made net past rules lawful (Arrive c cell at) v is = arrival_made net past rules lawful c cell at v is
-event_made net past rules lawful other v is = (let none = no_visit net past other (λ vc facts. refl) in absurd (cc))
+event_made net past rules lawful (Capacity p u) v is = capacity_made net past rules lawful p u v is
+event_made net past rules lawful other v is = (let none = no_visit net past other _ refl (λ vc facts. refl) in absurd (cc))
 
 -- what comes to another port leaves a table
-elsewhere : (net : Topology) (past : Past) (event : Event) (v : Visit) (p : ℕ) → IsVisit net past event v → v.port ≢ p → ¬ Visits net event p
-elsewhere net past event v p parts differ visited =
+elsewhere_of : (net : Topology) (past : Past) (event : Event) (v : Visit) (p : ℕ) → IsVisit net past event v → v.port ≢ p → ¬ Visits net event p
+elsewhere_of net past event v p parts differ visited =
     let visits = subst (VisitsBy net event p) parts.whose visited in
     let same : visits.0 ≡ parts.conn = some_same (sym visits.1 ∙ parts.known) in
     let hop : hop_of parts.conn.path p ≡ hop_visited event = subst (λ (conn : Conn). hop_of conn.path p ≡ hop_visited event) same visits.3 in
     let low : 1 ≤ hop_visited event = visits.2 in
     let port = hop_of-port parts.conn.path p (λ zero. (let e = sym hop ∙ zero in omega (arith, e, low))) in
     differ (sym parts.port ∙ ap (λ n. slice_index parts.conn.path (n - 1)) (sym hop) ∙ port)
+
+elsewhere : (net : Topology) (past : Past) (event : Event) (v : Visit) (p : ℕ) → visit net past event ≡ Some v → v.port ≢ p → ¬ Visits net event p
+elsewhere net past event v p is differ visited = elim (visit_cases net past event v is) [
+  | inl parts ↦ elsewhere_of net past event v p parts differ visited
+  | inr alone ↦ (let visits = subst (λ e. Visits net e p) alone.event_is visited in differ visits.0)
+]
 
 -- an event that comes to no port leaves the tables
 no_reply : (facts : List Fact) (vc : Channel) (event : Event) (outcome : Outcome) (input : PortInput) → input_of vc facts event ≡ Some input → reply_of outcome ≡ None → facts_added facts event outcome ≡ []
@@ -212,6 +232,7 @@ unvisited : (net : Topology) (past : Past) → IsWithinRules net → AllLawful n
 unvisited net past rules lawful (Request c hop seq) rate p none = ap (λ (w : Past). port_table net w p) (nothing_past net past (Request c hop seq) c refl (λ vc facts. (_, refl)) none)
 unvisited net past rules lawful (Answer c hop seq granted) rate p none = ap (λ (w : Past). port_table net w p) (nothing_past net past (Answer c hop seq granted) c refl (λ vc facts. (_, refl)) none)
 unvisited net past rules lawful (Arrive c cell at) rate p none = ap (λ (w : Past). port_table net w p) (nothing_past net past (Arrive c cell at) c refl (λ vc facts. (_, refl)) none)
+unvisited net past rules lawful (Capacity q u) rate p none = ap (λ (w : Past). port_table net w p) (capacity_silent net past q u none)
 unvisited net past rules lawful other rate p none = stays net past rules lawful other rate _ refl refl p
 
 -- what one event makes of a table is what its step there does
@@ -226,7 +247,7 @@ one_step net past rules lawful event rate p place = elim (cases_option (visit ne
         | inl same ↦ subst (λ q. port_table net (after_event net past event) q ≡ table_after (port_table net past q) v.input) same (event_made net past rules lawful event v some.1).1
             ∙ ap (replayed (port_table net past p)) (sym (cond-true (v.port == p) (made ∷ []) [] (eq-eqb v.port p same)))
             ∙ ap (λ (o : Option Visit). replayed (port_table net past p) (step_at p place o)) (sym some.1)
-        | inr differ ↦ tables_stay net past rules lawful event p rate (elsewhere net past event v p (visit_is net past event v some.1) differ)
+        | inr differ ↦ tables_stay net past rules lawful event p rate (elsewhere net past event v p some.1 differ)
             ∙ ap (replayed (port_table net past p)) (sym (cond-false (v.port == p) (made ∷ []) [] (ne_eqb v.port p differ)))
             ∙ ap (λ (o : Option Visit). replayed (port_table net past p) (step_at p place o)) (sym some.1)
       ])

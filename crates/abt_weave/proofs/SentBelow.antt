@@ -41,7 +41,7 @@ use Rattle.abt_woven.specs.Projections.{Step, Visit, reply_of, input_of, past_of
 use Rattle.abt_woven.specs.Stuck.{IsBeginning}
 use Rattle.abt_weave.proofs.Candidates.{and_both}
 use Rattle.abt_weave.proofs.Growth.{steps_none, steps_other}
-use Rattle.abt_weave.proofs.PortEvents.{IsVisit, visit_is, visit_made, some_same}
+use Rattle.abt_weave.proofs.PortEvents.{IsVisit, visit_by_input, visit_made, some_same}
 use Rattle.abt_weave.proofs.Places.{step_made, own_number}
 use Rattle.abt_weave.proofs.Prefixes.{begins_more, get_whole, get_last, get_more, any_rest}
 use Rattle.abt_weave.proofs.Replays.{hop_here}
@@ -327,7 +327,7 @@ pass_left net c conn s j its = record {
         | inr (inr (inr did)) ↦ absurd (false≢true did.passes)
       ]);
   adds = λ past event v is here m.
-      (let parts = visit_is net past event v is in
+      (let parts = visit_by_input net past event v (λ u e. (let clash = sym m.1 ∙ e in cc)) is in
       let its_event = request_event parts.conn.vc (facts_of parts.c past) event m.0 (parts.input ∙ ap (λ (i : PortInput). Some i) m.1) in
       let at = located net c conn j its past event v parts here (its_event.3 ∙ m.2) in
       let said = requested_is (outcome_of net past event) Pass (parts.reply ∙ ap (λ (r : PortReply). Some r) m.4) in
@@ -361,7 +361,7 @@ back_left net c conn s j its = record {
         | inr (inr (inr did)) ↦ absurd (false≢true did.passes)
       ]);
   adds = λ past event v is here m.
-      (let parts = visit_is net past event v is in
+      (let parts = visit_by_input net past event v (λ u e. (let clash = sym m.1 ∙ e in cc)) is in
       let its_event = answer_event parts.conn.vc (facts_of parts.c past) event m.0 (parts.input ∙ ap (λ (i : PortInput). Some i) m.1) in
       let at = located net c conn j its past event v parts here (its_event.3 ∙ m.2) in
       let said = answered_is (outcome_of net past event) PassBack (parts.reply ∙ ap (λ (r : PortReply). Some r) m.5) in
@@ -410,7 +410,7 @@ shut_left net c conn s j its = record {
     shut_adds : (past : Past) (event : Event) (v : Visit) → visit net past event ≡ Some v → v.port ≡ slice_index conn.path (j - 1) → Shutting conn.vc s v.input v.reply →
         (conn_of event ≡ Some c) × (list_any (is_sending (Shut s j)) (facts_added (facts_of c past) event (outcome_of net past event)) ≡ true)
     shut_adds past event v is here (inl m) =
-        let parts = visit_is net past event v is in
+        let parts = visit_by_input net past event v (λ u e. (let clash = sym m.2 ∙ e in cc)) is in
         let its_event = request_event parts.conn.vc (facts_of parts.c past) event m.0 (parts.input ∙ ap (λ (i : PortInput). Some i) m.2) in
         let at = located net c conn j its past event v parts here (its_event.3 ∙ m.3) in
         let said = requested_is (outcome_of net past event) (Refuse m.1) (parts.reply ∙ ap (λ (r : PortReply). Some r) m.5) in
@@ -421,7 +421,7 @@ shut_left net c conn s j its = record {
               ∙ first_true (m.0.seq == s && its_event.1 == j) _ (both_true m.0.seq s its_event.1 j m.4 hop),
         )
     shut_adds past event v is here (inr m) =
-        let parts = visit_is net past event v is in
+        let parts = visit_by_input net past event v (λ u e. (let clash = sym m.1 ∙ e in cc)) is in
         let its_event = answer_event parts.conn.vc (facts_of parts.c past) event m.0 (parts.input ∙ ap (λ (i : PortInput). Some i) m.1) in
         let at = located net c conn j its past event v parts here (its_event.3 ∙ m.2) in
         let said = answered_is (outcome_of net past event) PassBack (parts.reply ∙ ap (λ (r : PortReply). Some r) m.5) in

@@ -11,6 +11,8 @@ use Rattle.abt_net.proofs.PathLemmas.{hop_of-port, hop_at}
 use Rattle.abt_model.proofs.Steps.{is_hop_tells}
 use Rattle.abt_model.proofs.Served.{conn_within}
 use Rattle.abt_model.specs.Answers.{is_hop}
+use Rattle.abt_journal.specs.declared.input.PortInput.{PortInput}
+use Rattle.abt_weave.specs.Candidates.{channel_of}
 use Rattle.abt_weave.specs.Stops.{IsStop}
 use Rattle.abt_weave.proofs.PortEvents.{some_same}
 
@@ -18,13 +20,13 @@ use Rattle.abt_weave.proofs.PortEvents.{some_same}
 read_conn : (net : Topology) (c : ℕ) (conn : Conn) → c < length net.conns → conn ≡ get_or net.conns c conn → conn_at net c ≡ Some conn
 read_conn net c conn low is = slice_get-get_or net.conns c conn low ∙ ap Some (sym is)
 
-pub stop_found : (net : Topology) (vc : Channel) (p c hop : ℕ) (conn : Conn) → c < length net.conns → conn ≡ get_or net.conns c conn →
-    channel_at net.conns c ≡ Some vc → hop ≡ hop_of conn.path p → hop ≤ length conn.path → hop ≢ 0 → IsStop net vc p c hop
-stop_found net vc p c hop conn low is has at high some =
+pub stop_found : (net : Topology) (vc : Channel) (input : PortInput) (p c hop : ℕ) (conn : Conn) → Some vc ≡ channel_of input → c < length net.conns → conn ≡ get_or net.conns c conn →
+    channel_at net.conns c ≡ Some vc → hop ≡ hop_of conn.path p → hop ≤ length conn.path → hop ≢ 0 → IsStop net input p c hop
+stop_found net vc input p c hop conn about low is has at high some =
     let known = read_conn net c conn low is in record {
       conn = conn;
       known = known;
-      channel = some_same (sym (ap (option_map (λ (x : Conn). x.vc)) known) ∙ has);
+      channel = sym about ∙ sym (sym (ap (option_map (λ (x : Conn). x.vc)) known) ∙ has);
       within = and_from _ _ (le-leb 1 hop (omega (arith, some))) (le-leb hop (length conn.path) high);
       port = ap (λ h. slice_index conn.path (h - 1)) at ∙ hop_of-port conn.path p (λ z. some (at ∙ z));
     }
@@ -41,10 +43,10 @@ at_own_hop net rules c hop p conn known is port =
     ap (hop_of conn.path) port ∙ hop_at conn.path (hop - 1) within.visits_once (omega arith) ∙ back
 
 -- there is no other
-pub stop_only : (net : Topology) (vc : Channel) (p c hop d : ℕ) (conn : Conn) → IsWithinRules net → d < length net.conns → conn ≡ get_or net.conns d conn →
-    ((k : ℕ) → channel_at net.conns k ≡ Some vc → ◌≡◌ {A = Option ℕ} (Some d) (Some k)) → IsStop net vc p c hop → (d ≡ c) × (hop_of conn.path p ≡ hop) × (1 ≤ hop)
-stop_only net vc p c hop d conn rules low is only stop =
-    let same : d ≡ c = some_same (only c (ap (option_map (λ (x : Conn). x.vc)) stop.known ∙ ap Some stop.channel)) in
+pub stop_only : (net : Topology) (vc : Channel) (input : PortInput) (p c hop d : ℕ) (conn : Conn) → Some vc ≡ channel_of input → IsWithinRules net → d < length net.conns → conn ≡ get_or net.conns d conn →
+    ((k : ℕ) → channel_at net.conns k ≡ Some vc → ◌≡◌ {A = Option ℕ} (Some d) (Some k)) → IsStop net input p c hop → (d ≡ c) × (hop_of conn.path p ≡ hop) × (1 ≤ hop)
+stop_only net vc input p c hop d conn about rules low is only stop =
+    let same : d ≡ c = some_same (only c (ap (option_map (λ (x : Conn). x.vc)) stop.known ∙ sym stop.channel ∙ sym about)) in
     let one : stop.conn ≡ conn = some_same (sym stop.known ∙ ap (conn_at net) (sym same) ∙ read_conn net d conn low is) in
     let at = at_own_hop net rules c hop p stop.conn stop.known stop.within (sym stop.port) in
     (same, ap (λ (x : Conn). hop_of x.path p) (sym one) ∙ at, (is_hop_tells _ hop stop.within).0)

@@ -16,7 +16,7 @@ use Rattle.abt_facts.specs.Sent.{request_is_at, answer_is_at, was_passed}
 use Rattle.abt_facts.specs.Cells.{emitted_of, moment_of, after_last_of, delivered_mark_of, last_arrival_of, fence_of, is_in_time, verdict_at}
 use Rattle.abt_facts.specs.Hop.{held_of}
 use Rattle.abt_model.specs.declared.event.Event.{Event}
-use Rattle.abt_model.specs.declared.event.Event.TheVariants.{Arrive, Request, Answer}
+use Rattle.abt_model.specs.declared.event.Event.TheVariants.{Arrive, Request, Answer, Capacity}
 use Rattle.abt_model.specs.declared.outcome.Cause.TheVariants.{ClockBack, NotSent, Unknown, Fenced, Delay}
 use Rattle.abt_model.specs.declared.outcome.Outcome.{Outcome}
 use Rattle.abt_model.specs.declared.outcome.Outcome.TheVariants.{Requested, Arrived, NotEnabled}
@@ -32,13 +32,15 @@ use Rattle.abt_model.proofs.Lawful.{route_of}
 use Rattle.abt_model.proofs.Steps.{is_hop_tells, request_at_tells}
 use Rattle.abt_model.proofs.Worlds.{outcome_of-known, lawful_at}
 use Rattle.abt_journal.specs.declared.input.PortInput.{PortInput}
-use Rattle.abt_journal.specs.declared.input.PortInput.TheVariants.{Request as RequestIn, Answer as AnswerIn}
+use Rattle.abt_journal.specs.declared.input.PortInput.TheVariants.{Request as RequestIn, Answer as AnswerIn, Capacity as CapacityIn}
+use Rattle.abt_journal.specs.declared.input.PortReply.TheVariants.{Capped as CappedOut}
 use Rattle.abt_journal.specs.declared.input.PortReply.{PortReply}
 use Rattle.abt_journal.specs.Replay.{reply_by}
 use Rattle.abt_woven.specs.Projections.{Visit, is_enabled, input_of, past_of, visit, steps_on, entry_made, entries_on}
 use Rattle.abt_weave.proofs.Asks.{AreTerms, asked_below, terms_below}
 use Rattle.abt_weave.proofs.LineFacts.{line, emitted_of-line, moment_of-line, after_last_of-line, last_arrival_of-line, delivered_mark_of-line}
 use Rattle.abt_weave.proofs.LineReplays.{lined, line_replayed}
+use Rattle.abt_weave.proofs.Alone.{answer_told, capped_by, capped_at, capacity_visit, capacity_visits}
 use Rattle.abt_weave.proofs.PortEvents.{known_at, input_at, IsVisit, visit_is, visit_made, has_reply, reply_enabled, made_beside, some_same}
 use Rattle.abt_weave.proofs.PortLooks.{first_hop}
 use Rattle.abt_weave.proofs.Replays.{replayed, past_lawful, event_made, tables_replayed}
@@ -90,6 +92,26 @@ comes_again net less more both event v parts c whose is same brings on =
           ∙ sym (made_beside net less event v.port n c conn (outcome_of net before event) v.input (facts_of c before) whose known parts.port refl (input_at net before c event v parts whose) enabled);
     }
 
+-- so does a capacity
+pub capacity_again : (net : Topology) (less more : List Event) → AreBoth net less more → (p u : ℕ) (v : Visit) → visit net (past_of net less) (Capacity p u) ≡ Some v → steps_on net v.port less ≡ steps_on net v.port more →
+    ComesAgain net less more (Capacity p u) v
+capacity_again net less more both p u v is same =
+    let before = past_of net less in
+    let past = past_of net more in
+    let parts = capacity_visits net before p u v is in
+    let low = (capped_by net before p u v.reply parts.2).0 in
+    let reply = CappedOut (answer_told net past p u) in
+    let made = capacity_visit net past p u reply (capped_at net past p u low) in
+    let one = (event_made net before both.rules (past_lawful net less both.one) (Capacity p u) v is).0 in
+    let other = (event_made net past both.rules (past_lawful net more both.other) (Capacity p u) (record { port = p; input = CapacityIn u; reply = reply }) made).0 in
+    let replies : reply ≡ v.reply =
+    other ∙ ap (λ q. reply_by (port_table net past q) (CapacityIn u)) parts.0 ∙ ap (λ (t : Table). reply_by t (CapacityIn u)) (sym (tables_same net less more both v.port same))
+    ∙ ap (reply_by (port_table net before v.port)) (sym parts.1) ∙ sym one in
+    record {
+      visits = made ∙ ap (λ (w : Visit). Some w) (visit_made_of p v.port (CapacityIn u) v.input reply v.reply parts.0 (sym parts.1) replies);
+      beside = refl;
+    }
+
 conn_low : (net : Topology) (c : ℕ) (conn : Conn) → conn_at net c ≡ Some conn → c < length net.conns
 conn_low net c conn known = slice_get_within net.conns c conn known
 
@@ -127,7 +149,7 @@ request_again net less more both c hop seq v is same =
     let event = Request c hop seq in
     let before = past_of net less in
     let past = past_of net more in
-    let parts = visit_is net before event v is in
+    let parts = visit_is net before event v c refl is in
     let conn = parts.conn in
     let there = known_at net before c event v parts refl in
     let facts = facts_of c before in
@@ -165,7 +187,7 @@ pub came_back : (net : Topology) (less : List Event) (c hop seq : ℕ) (granted 
 came_back net less c hop seq granted v is =
     let event = Answer c hop seq granted in
     let past = past_of net less in
-    let parts = visit_is net past event v is in
+    let parts = visit_is net past event v c refl is in
     let there = known_at net past c event v parts refl in
     let known = outcome_of-known net past event c parts.conn refl there in
     let enabled = reply_enabled (outcome_of net past event) v.reply parts.reply in
@@ -178,7 +200,7 @@ answer_again net less more both c hop seq granted v is same sent =
     let event = Answer c hop seq granted in
     let before = past_of net less in
     let past = past_of net more in
-    let parts = visit_is net before event v is in
+    let parts = visit_is net before event v c refl is in
     let conn = parts.conn in
     let there = known_at net before c event v parts refl in
     let facts = facts_of c before in
@@ -238,7 +260,7 @@ arrival_again net less more both c cell at v is same entries =
     let event = Arrive c cell at in
     let before = past_of net less in
     let past = past_of net more in
-    let parts = visit_is net before event v is in
+    let parts = visit_is net before event v c refl is in
     let conn = parts.conn in
     let there = known_at net before c event v parts refl in
     let known = outcome_of-known net before event c conn refl there in

@@ -9,7 +9,7 @@ use Rattle.abt_model.specs.declared.target.Target.{Target}
 use Rattle.abt_model.specs.declared.target.Target.TheVariants.{Source, Hop}
 use Rattle.abt_model.specs.Targets.{target_of}
 use Rattle.abt_journal.specs.declared.input.PortInput.{PortInput}
-use Rattle.abt_journal.specs.declared.input.PortInput.TheVariants.{Request as RequestIn, Answer as AnswerIn, Arrive as ArriveIn}
+use Rattle.abt_journal.specs.declared.input.PortInput.TheVariants.{Request as RequestIn, Answer as AnswerIn, Arrive as ArriveIn, Capacity as CapacityIn}
 use Rattle.abt_source_journal.specs.declared.entry.SourceEntry.{SourceEntry}
 use Rattle.abt_source_journal.specs.declared.entry.SourceEntry.TheVariants.{Sent, Arrived as ArrivedAt}
 use Rattle.abt_woven.specs.Asked.{floor_in, ask_in}
@@ -34,12 +34,14 @@ event_by conn hop place (AnswerIn answer) placed next =
     then Some (Answer conn hop answer.terms.seq answer.granted) else None
 event_by conn hop place (ArriveIn vc at) placed next =
     if hop == 1 then option_map (λ cell. Arrive conn cell at) (cell_arrived_at place next) else None
+event_by conn hop place (CapacityIn capacity) placed next = None
 
--- the channel that an input is about
-abbrev pub channel_of : PortInput → Channel
-channel_of (RequestIn request) = request.vc
-channel_of (AnswerIn answer) = answer.terms.vc
-channel_of (ArriveIn vc at) = vc
+-- the channel that an input is about, if it is about one
+abbrev pub channel_of : PortInput → Option Channel
+channel_of (RequestIn request) = Some request.vc
+channel_of (AnswerIn answer) = Some answer.terms.vc
+channel_of (ArriveIn vc at) = Some vc
+channel_of (CapacityIn capacity) = None
 
 -- whether an event is a command of this source, or an answer that it is told
 abbrev pub is_at_source : ℕ → Target → Bool

@@ -36,7 +36,7 @@ entry_beside_in place other = None
 abbrev pub entry_beside : (place : ℕ) → Event → Option SourceEntry
 entry_beside place event = entry_beside_in place (target_of event)
 
--- An event comes to a port with this step, whatever it answers, and what it is to its source is the next entry there.
+-- An event of a connection comes to a port with this step, whatever it answers, and what it is to its source is the next entry there.
 pub record Comes (net : Topology) (journals : Journaled) (earlier : List Event) (p place : ℕ) (input : PortInput) (event : Event) : Type 0 where
   pub c : ℕ
   pub whose : conn_of event ≡ Some c

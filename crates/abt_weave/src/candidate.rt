@@ -21,29 +21,32 @@ pub(crate) struct Stop {
     pub hop: u16,
 }
 
-// Where a port stands on the path of the connection that has this channel.
-pub(crate) fn stop_of(net: &Net, vc: Vc, port: u16) -> Option<Stop>
-    ensures some { IfSome result (λ stop. IsStop net.now vc port stop.conn stop.hop) }
-    ensures rules { IsWithinRules net.now }
-    ensures only { (c hop : ℕ) → IsStop net.now vc port c hop → result ≡ Some (record { conn = c; hop = hop }) }
+// The channel that an input is about, if it is about one.
+fn channel_of(input: &PortInput) -> Option<Vc>
+    ensures { result ≡ candidates.channel_of input.now }
 {
+    match input {
+        PortInput::Request(request) => Some(request.vc()),
+        PortInput::Answer(answer) => Some(answer.vc()),
+        PortInput::Arrive { vc, .. } => Some(*vc),
+        PortInput::Capacity(_) => None,
+    }
+}
+
+// Where a port stands on the path of the connection that an input is about, if it is about one.
+pub(crate) fn stop_of(net: &Net, input: &PortInput, port: u16) -> Option<Stop>
+    ensures some { IfSome result (λ stop. IsStop net.now input.now port stop.conn stop.hop) }
+    ensures rules { IsWithinRules net.now }
+    ensures only { (c hop : ℕ) → IsStop net.now input.now port c hop → result ≡ Some (record { conn = c; hop = hop }) }
+{
+    let conns = net.conns();
+    let vc = channel_of(input)?;
     let conn = net.find(vc)?;
-    let hop = net.conns()[usize::from(conn)].path.hop_of(port)?;
+    let hop = conns[usize::from(conn)].path.hop_of(port)?;
     Some(Stop {
         conn,
         hop: hop as u16,
     })
-}
-
-// The channel that an input is about.
-pub(crate) fn channel_of(input: &PortInput) -> Vc
-    ensures { result ≡ candidates.channel_of input.now }
-{
-    match input {
-        PortInput::Request(request) => request.vc(),
-        PortInput::Answer(answer) => answer.vc(),
-        PortInput::Arrive { vc, .. } => *vc,
-    }
 }
 
 fn is_sent_at(next: Option<SourceEntry>, place: u64) -> bool
@@ -72,7 +75,7 @@ fn has_rates(rates: Rates, floor: Rate, ask: Rate) -> bool
     floor == rates.floor && ask == rates.ask
 }
 
-// The event that brings this to a port, where its step takes this place in the port's journal.
+// The event of a connection that brings this to a port, where its step takes this place in the port's journal.
 pub(crate) fn event_of(
     stop: Stop,
     place: u64,
@@ -118,6 +121,7 @@ pub(crate) fn event_of(
                 at: *at,
             })
         }
+        PortInput::Capacity(_) => None,
     }
 }
 

@@ -1,6 +1,7 @@
 //! The next entry of a port.
 ghost use Rattle.std.specs.Prelude.{◌≡◌, ◌<◌, ◌+◌, ◌^◌, slice_get, slice_index, length, reverse, false, Some, IfOk, IfSome, IsNone};
 ghost use Rattle.abt_model.specs.declared.event.Event.{Event as EventSpec};
+ghost use Rattle.abt_journal.specs.declared.input.PortInput.TheVariants.{Capacity as CapacityIn};
 ghost use Rattle.abt_model.specs.Outcomes.{outcome_of};
 ghost use Rattle.abt_net.specs.Topology.{IsWithinRules};
 ghost use Rattle.abt_weave.specs.Candidates as candidates;
@@ -12,11 +13,11 @@ ghost use Rattle.abt_model.specs.Run.{facts_after};
 ghost use Rattle.abt_weave.specs.Board.{journaled, IsBoard, IsAfterLook, IsPortSettled};
 
 use crate::board::{Board, world_after};
-use crate::candidate::{channel_of, event_of, own_turn, stop_of};
+use crate::candidate::{event_of, own_turn, stop_of};
 use crate::given::Given;
 use crate::look::Look;
 use crate::trying::{Tried, try_turn, try_visit};
-use abt_journal::Entry;
+use abt_journal::{Entry, PortInput};
 use abt_model::{Event, HopEvent, Target};
 use abt_source_journal::SourceEntry;
 use std::alloc::{AllocError, Global};
@@ -35,7 +36,7 @@ fn entry_at(entries: &[SourceEntry], place: usize) -> Option<SourceEntry>
     entries.get(place).copied()
 }
 
-// The event that an entry of a port can be.
+// The event of a connection that an entry of a port can be.
 fn candidate(given: &Given, board: &Board, port: u16, place: usize, entry: &Entry) -> Option<Coming>
     requires conns { length given.now.sources.now ≡ length given.now.net.now.conns }
     requires port { port < length given.now.ports.now }
@@ -48,7 +49,7 @@ fn candidate(given: &Given, board: &Board, port: u16, place: usize, entry: &Entr
         (comes : Comes given.now.net.now (journaled given.now.ports.now given.now.sources.now) (reverse board.now.events.items) port entry.now.place entry.now.input event) →
         result ≡ Some (record { conn = comes.c; event = event }) }
 {
-    let stop = stop_of(given.net, channel_of(&entry.input), port)?;
+    let stop = stop_of(given.net, &entry.input, port)?;
     if entry.place != place as u64 {
         return None;
     }
@@ -84,7 +85,7 @@ fn is_beside(event: &Event) -> bool
 {
     match event.target() {
         Target::Hop { event, .. } => is_beside_by(&event),
-        Target::Source { .. } | Target::End { .. } => false,
+        Target::Source { .. } | Target::End { .. } | Target::Port { .. } => false,
     }
 }
 
@@ -96,7 +97,7 @@ fn behind(place: usize, count: usize) -> usize
     place + 1
 }
 
-/// The one event that can be a port's next entry, its connection, and how many entries of its source are placed then.
+/// The one event of a connection that can be a port's next entry, that connection, and how many entries of its source are placed then.
 #[derive(Clone, Copy)]
 pub(crate) struct Expected {
     pub conn: u16,
@@ -104,7 +105,7 @@ pub(crate) struct Expected {
     pub reached: usize,
 }
 
-// The event that the next entry of a port can be, if there is one.
+// The event of a connection that the next entry of a port can be, if there is one.
 fn expect_event(
     given: &Given,
     board: &Board,
@@ -161,6 +162,9 @@ pub(crate) fn look_at_port<'run>(
         return Ok(Look::Waits);
     }
     let entry = &entries[place];
+    if let PortInput::Capacity(capacity) = entry.input {
+        return look_at_capacity(alloc, given, board, port, entry, capacity);
+    }
     let Some(it) = expect_event(given, board, port, place, entry) else {
         return Ok(Look::Waits);
     };
@@ -218,5 +222,44 @@ fn look_after_turn<'run>(
             board.world = world_after(alloc, given, &board.events)?;
             Ok(Look::Mismatches)
         }
+    }
+}
+
+// The same of a capacity that the port's link is to have: that is an event of the port alone.
+fn look_at_capacity<'run>(
+    alloc: Global,
+    given: &Given<'run>,
+    board: &mut Board<'run>,
+    port: u16,
+    entry: &Entry,
+    capacity: u64,
+) -> Result<Look, AllocError>
+    requires port { port < length board.old.port_places.items }
+    requires board { IsBoard given.now.net.now (journaled given.now.ports.now given.now.sources.now) board.old }
+    requires next { next_step given.now.net.now (journaled given.now.ports.now given.now.sources.now) (reverse board.old.events.items) port ≡ Some (step_of entry.now) }
+    requires input { entry.now.input ≡ CapacityIn capacity }
+    requires place { slice_index board.old.port_places.items port + 1 < 2 ^ 64 }
+    ensures { let journals = journaled given.now.ports.now given.now.sources.now in
+        IfOk result (IsAfterLook given.now.net.now journals
+        (λ earlier mismatches. IsPortSettled given.now.net.now journals earlier port mismatches) board.old board.new) }
+{
+    let p = usize::from(port);
+    let placed = board.port_places[p];
+    if entry.place != placed as u64 {
+        return Ok(Look::Waits);
+    }
+    let event = Event::Capacity { port, capacity };
+    board.events.reserve(1)?;
+    match try_visit(&mut board.world, &event, &entry.reply)? {
+        Tried::Agrees => {
+            board.events.push(event)?;
+            board.port_places[p] = placed + 1;
+            Ok(Look::Placed)
+        }
+        Tried::Differs => {
+            board.world = world_after(alloc, given, &board.events)?;
+            Ok(Look::Mismatches)
+        }
+        Tried::Absent => Ok(Look::Waits),
     }
 }

@@ -34,6 +34,8 @@ pub(crate) fn reply_of(outcome: Outcome) -> Option<PortReply>
         Outcome::Requested(onward) => Some(PortReply::Requested(onward)),
         Outcome::Answered(back) => Some(PortReply::Answered(back)),
         Outcome::Arrived(verdict) => Some(PortReply::Arrived(Ok(verdict))),
+        Outcome::CapacitySet => Some(PortReply::Capped(Ok(()))),
+        Outcome::CapacityRefused(fault) => Some(PortReply::Capped(Err(fault))),
         _ => None,
     }
 }

@@ -1,5 +1,6 @@
 //! Journals by hand, each with what weaving them gives. Codes 5120, 5258 and 53e8 are 400, 600 and 1,000 cells per second
 //! (docs/RULES.md, "Rates").
+mod capacities;
 mod left;
 mod rows;
 
@@ -9,7 +10,7 @@ use abt_keep::StorePlan;
 use abt_list::Sequence;
 use abt_model::{Event, Heard, Outcome};
 use abt_net::{Conn, Net, NetFault, Path};
-use abt_node::{Back, DropCause, Onward};
+use abt_node::{Back, CapacityFault, DropCause, Onward};
 use abt_ports::Journals;
 use abt_rate::Rate;
 use abt_source_journal::{SourceEntry, SourceJournal};
@@ -116,6 +117,16 @@ fn returned(place: u64, request: Request, granted: bool, back: Back) -> Entry {
     }
 }
 
+/// An entry of a port for a capacity that its operator gives it.
+fn capped(place: u64, capacity: u64, answer: Result<(), CapacityFault>) -> Entry {
+    Entry {
+        place,
+        caller: 5,
+        input: PortInput::Capacity(capacity),
+        reply: PortReply::Capped(answer),
+    }
+}
+
 /// Journals, of ports and of sources.
 #[derive(Drop)]
 struct Run {
@@ -169,6 +180,13 @@ fn gives(rt: &impl Abort, woven: Result<Sequence<Event>, WeaveFault>, events: &[
     match woven {
         Ok(found) => assert_eq!(rt; found.as_slice(), events),
         Err(fault) => assert!(rt; false, "{fault:?}"),
+    }
+}
+
+/// That the journals are woven into some events.
+fn weaves(rt: &impl Abort, woven: Result<Sequence<Event>, WeaveFault>) {
+    if let Err(fault) = woven {
+        assert!(rt; false, "{fault:?}");
     }
 }
 

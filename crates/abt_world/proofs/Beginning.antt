@@ -45,6 +45,6 @@ fresh_tallied net ports courses tally rules fresh above over broken =
     let are : AreOfPast net [] courses ports = record { rules = rules; looks = 0; stands = fresh_stands net ports courses 0 fresh } in
     record {
       above = above ∙ sym (none_above net.conns courses ports (rates_pass net [] courses ports are));
-      over = over ∙ sym (none_over net.capacities ports (sums_pass net [] courses ports are));
+      over = over ∙ sym (none_over ports (sums_pass net [] courses ports are));
       broken = broken ∙ sym (none_broken courses (cells_pass net [] courses ports are));
     }

@@ -20,14 +20,14 @@ use Rattle.abt_model.specs.declared.event.Event.{Event}
 use Rattle.abt_model.specs.Answers.{is_hop}
 use Rattle.abt_model.specs.Past.{facts_of}
 use Rattle.abt_model.specs.PortTable.{port_table}
-use Rattle.abt_model.specs.Reserved.{reserved_on}
+use Rattle.abt_model.specs.Reserved.{reserved_on, capacity_of}
 use Rattle.abt_model.specs.Run.{facts_after}
 use Rattle.abt_model.specs.Safe.{AllConform}
 use Rattle.abt_model.proofs.Sums.{facts_after_lawful}
 use Rattle.abt_model.proofs.Tables.{totals_reserved}
-use Rattle.abt_model.proofs.EveryPasts.{every_safe, capacity_is}
+use Rattle.abt_model.proofs.EveryPasts.{every_safe}
 use Rattle.abt_model.proofs.Worlds.{cases_option}
-use Rattle.abt_trace.specs.Traces.{rates_after, held_after, held_along, totals_after}
+use Rattle.abt_trace.specs.Traces.{rates_after, held_after, held_along, totals_after, capacities_after}
 use Rattle.abt_world.specs.declared.course.Course.{Course}
 use Rattle.abt_world.specs.Seen.{seen}
 use Rattle.abt_safety.specs.Holding.{held_by_port, is_held_along}
@@ -137,6 +137,15 @@ totals_read net events courses ports are =
     ∙ map_of_none (λ (_ : ℕ). port_table net past p) sum_of (slice_get net.capacities p)
     ∙ ap (λ (n : ℕ). option_map (λ (_ : ℕ). n) (slice_get net.capacities p)) (totals_reserved net past are.rules (facts_after_lawful net events are.stands.rates).0 p))
 
+pub capacities_read :
+    (net : Topology) (events : List Event) (courses : List Course) (ports : List Table) → AreOfPast net events courses ports →
+    map (λ (table : Table). table.capacity) ports ≡ capacities_after net (facts_after net events)
+capacities_read net events courses ports are =
+    let past = facts_after net events in
+    numbered_from_0 (map (λ (table : Table). table.capacity) ports) (λ (n : ℕ × ℕ). capacity_of net past n.0) net.capacities
+    (λ p. slice_get-map (λ (table : Table). table.capacity) ports p ∙ ap (option_map (λ (table : Table). table.capacity)) (are.stands.stands.ports p)
+    ∙ map_of_none (λ (_ : ℕ). port_table net past p) (λ (table : Table). table.capacity) (slice_get net.capacities p))
+
 -- what is read off the ports along the paths
 along_read :
     (net : Topology) (events : List Event) (courses : List Course) (ports : List Table) (c : ℕ) (conn : Conn) → AreOfPast net events courses ports → conn_at net c ≡ Some conn →
@@ -202,15 +211,18 @@ rates_pass net events courses ports are =
 
 pub sums_pass :
     (net : Topology) (events : List Event) (courses : List Course) (ports : List Table) → AreOfPast net events courses ports →
-    list_all (λ (pair : ℕ × Table). nat_le (sum_of pair.1) pair.0) (zip net.capacities ports) ≡ true
+    list_all (λ (table : Table). nat_le (sum_of table) table.capacity) ports ≡ true
 sums_pass net events courses ports are =
     let past = facts_after net events in
-    all_pairs_pass (λ (pair : ℕ × Table). nat_le (sum_of pair.1) pair.0) net.capacities ports
-    (λ p u table known at. (
-    let table_is : table ≡ port_table net past p = some_same _ _ (sym at ∙ are.stands.stands.ports p ∙ ap (option_map (λ (_ : ℕ). port_table net past p)) known) in
-    let sum : sum_of table ≡ reserved_on net past p = ap sum_of table_is ∙ totals_reserved net past are.rules (facts_after_lawful net events are.stands.rates).0 p in
-    le_passes _ _ (subst (λ n. n ≤ u) (sym sum) (subst (λ n. reserved_on net past p ≤ n) (capacity_is net past p u known)
-    ((every_safe net events are.rules are.stands.rates).sums p (slice_get_within net.capacities p u known))))))
+    all_pass (λ (table : Table). nat_le (sum_of table) table.capacity) ports
+    (λ p table at. elim (cases_option (slice_get net.capacities p)) [
+      | inl none ↦ absurd (let e = sym at ∙ are.stands.stands.ports p ∙ ap (option_map (λ (_ : ℕ). port_table net past p)) none in cc)
+      | inr some ↦ (
+          let table_is : table ≡ port_table net past p = some_same _ _ (sym at ∙ are.stands.stands.ports p ∙ ap (option_map (λ (_ : ℕ). port_table net past p)) some.1) in
+          let total = totals_reserved net past are.rules (facts_after_lawful net events are.stands.rates).0 p in
+          let safe = (every_safe net events are.rules are.stands.rates).sums p (slice_get_within net.capacities p some.0 some.1) in
+          le_passes _ _ (subst (λ (x : Table). sum_of x ≤ x.capacity) (sym table_is) (subst (λ (n : ℕ). n ≤ capacity_of net past p) (sym total) safe)))
+    ])
 
 pub cells_pass :
     (net : Topology) (events : List Event) (courses : List Course) (ports : List Table) → AreOfPast net events courses ports →

@@ -1,6 +1,6 @@
 -- What one event makes of the ports and of the actor of its connection.
 use Rattle.std.proofs.Common.{◌≡◌, ℕ, Bool, true, false, List, [], ◌∷◌, ◌++◌, refl, sym, subst, ap, ◌∙◌, arith, inl, inr}
-use Rattle.std.specs.Prelude.{◌==◌, option_map, slice_get, slice_index, Some}
+use Rattle.std.specs.Prelude.{◌==◌, option_map, slice_get, Some}
 use Rattle.std.proofs.lemmas.Bool.{cases_Bool, cond-true, cond-false}
 use Rattle.abt_cell.specs.Channel.{Channel}
 use Rattle.abt_net.specs.declared.conn.Conn.{Conn}
@@ -23,7 +23,7 @@ use Rattle.abt_model.specs.declared.outcome.Outcome.TheVariants.{Arrived, Reques
 use Rattle.abt_model.specs.Events.{AsksRate}
 use Rattle.abt_model.specs.Targets.{event_at_hop}
 use Rattle.abt_model.specs.Past.{Past, facts_of}
-use Rattle.abt_model.specs.Reserved.{reserved_on}
+use Rattle.abt_model.specs.Reserved.{reserved_on, capacity_of}
 use Rattle.abt_model.specs.Answers.{answer_by}
 use Rattle.abt_model.specs.Outcomes.{conn_of, port_of, after_event, facts_added, delivery}
 use Rattle.abt_model.specs.PortTable.{hop_visited, VisitsBy, Visits}
@@ -151,7 +151,7 @@ command_happens net past conn facts c own actor new outcome added is_own carries
     let e = event_of c own in
     let carried = carries conn.vc facts is in (
       happens net past e c conn facts (own_conn c own is_own) at outcome added
-          (carried.answer ∙ own_answer conn (reserved_on net past (port_of conn.path e)) (slice_index net.capacities (port_of conn.path e)) c facts own is_own)
+          (carried.answer ∙ own_answer conn (reserved_on net past (port_of conn.path e)) (capacity_of net past (port_of conn.path e)) c facts own is_own)
           (carried.adds ∙ own_adds facts c own outcome is_own),
       carried.becomes,
     )

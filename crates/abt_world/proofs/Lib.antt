@@ -3,6 +3,7 @@ pub mod Serving
 mod Arriving
 mod Happening
 pub mod Standings
+pub mod Capping
 mod Pushing
 pub mod Openings
 mod Final

@@ -1,6 +1,6 @@
 -- Events of a connection that is known, and messages that were sent.
 use Rattle.std.proofs.Common.{◌≡◌, ℕ, ◌+◌, ◌-◌, ◌≤◌, Bool, true, false, List, inl, inr, refl, sym, subst, ap, ◌∙◌, arith, length}
-use Rattle.std.specs.Prelude.{◌==◌, ◌&&◌, slice_index, if◌then◌else◌, Some}
+use Rattle.std.specs.Prelude.{◌==◌, ◌&&◌, if◌then◌else◌, Some}
 use Rattle.std.proofs.lemmas.Bool.{cond-true, cond-false, cases_Bool, eq-eqb, eqb-true, and_parts}
 use Rattle.abt_cell.specs.Channel.{Channel}
 use Rattle.abt_cell.proofs.ChannelLemmas.{same_channel-refl}
@@ -19,7 +19,7 @@ use Rattle.abt_cell.specs.Message.{answer_to}
 use Rattle.abt_source.specs.SourceFacts.{request_of}
 use Rattle.abt_model.specs.Answers.{answer_by, told_answer, hearing}
 use Rattle.abt_model.specs.Outcomes.{conn_of, port_of, outcome_of, facts_added}
-use Rattle.abt_model.specs.Reserved.{reserved_on}
+use Rattle.abt_model.specs.Reserved.{reserved_on, capacity_of}
 use Rattle.abt_model.proofs.Lawful.{Route, route_of, IsLawful}
 use Rattle.abt_model.proofs.Worlds.{outcome_of-known, AllLawful, lawful_at}
 use Rattle.abt_model.proofs.Sums.{facts_after_lawful}
@@ -31,16 +31,16 @@ use Rattle.abt_world.specs.Steps.{IsConnAt, Happens}
 -- what an event of the connection answers, by its facts
 pub answers :
     (net : Topology) (past : Past) (e : Event) (c : ℕ) (conn : Conn) (facts : List Fact) → conn_of e ≡ Some c → IsConnAt net past c conn facts →
-    outcome_of net past e ≡ answer_by conn (reserved_on net past (port_of conn.path e)) (slice_index net.capacities (port_of conn.path e)) facts e
+    outcome_of net past e ≡ answer_by conn (reserved_on net past (port_of conn.path e)) (capacity_of net past (port_of conn.path e)) facts e
 answers net past e c conn facts own at =
     outcome_of-known net past e c conn own at.known
-    ∙ ap (λ fs. answer_by conn (reserved_on net past (port_of conn.path e)) (slice_index net.capacities (port_of conn.path e)) fs e) (sym at.facts_are)
+    ∙ ap (λ fs. answer_by conn (reserved_on net past (port_of conn.path e)) (capacity_of net past (port_of conn.path e)) fs e) (sym at.facts_are)
 
 -- the event that answers and adds so
 pub happens :
     (net : Topology) (past : Past) (e : Event) (c : ℕ) (conn : Conn) (facts : List Fact) → conn_of e ≡ Some c → IsConnAt net past c conn facts →
     (outcome : Outcome) (added : List Fact) →
-    outcome ≡ answer_by conn (reserved_on net past (port_of conn.path e)) (slice_index net.capacities (port_of conn.path e)) facts e →
+    outcome ≡ answer_by conn (reserved_on net past (port_of conn.path e)) (capacity_of net past (port_of conn.path e)) facts e →
     added ≡ facts_added facts e outcome → Happens net past c e outcome added
 happens net past e c conn facts own at outcome added answered adds = record {
   answer = answered ∙ sym (answers net past e c conn facts own at);

@@ -20,7 +20,7 @@ use Rattle.abt_model.specs.declared.event.Event.TheVariants.{Request, Answer}
 use Rattle.abt_model.specs.declared.outcome.Cause.TheVariants.{NotSent, Unknown}
 use Rattle.abt_model.specs.declared.outcome.Outcome.TheVariants.{Requested, Answered, NotEnabled}
 use Rattle.abt_model.specs.Past.{Past, facts_of, with_facts}
-use Rattle.abt_model.specs.Reserved.{reserved_on}
+use Rattle.abt_model.specs.Reserved.{reserved_on, capacity_of}
 use Rattle.abt_model.specs.Decision.{request_decision, answer_decision}
 use Rattle.abt_source.specs.SourceFacts.{request_of}
 use Rattle.abt_model.specs.Answers.{is_hop}
@@ -123,7 +123,7 @@ request_served net past c conn facts hop seq port ports at are has there low tab
     let tells = port_tells conn.path hop port has in
     let lawful = all_lawful net past c conn facts at in
     let at_hop = at_its_hop net past c conn facts hop port at tells.0 tells.1 in
-    let decided = request_decision facts (reserved_on net past (port_of conn.path e)) (slice_index net.capacities (port_of conn.path e)) hop (request_of conn.vc facts seq) in
+    let decided = request_decision facts (reserved_on net past (port_of conn.path e)) (capacity_of net past (port_of conn.path e)) hop (request_of conn.vc facts seq) in
     let said : outcome_of net past e ≡ Requested decided =
     answers net past e c conn facts refl at
     ∙ ap (λ b. if not b then NotEnabled Unknown else (if not (request_is_at facts seq hop) then NotEnabled NotSent else Requested decided)) tells.0

@@ -87,8 +87,7 @@ pub sound_counted :
 sound_counted net ports courses looks tally kept none = record {
   rates = λ c i p conn course known at there. le_tested _ _ (all_at (λ port. nat_le course.actor.source.rate (held_by_port conn.vc ports port)) conn.path i p
       (not_not _ (none_at_both (shapes_above ports) net.conns courses c conn course (sym kept.above ∙ none.above) known at)) there);
-  sums = λ p capacity table known at. le_tested _ _
-      (not_not _ (none_at_both (λ (pair : ℕ × Table). is_above pair.0 pair.1) net.capacities ports p capacity table (sym kept.over ∙ none.over) known at));
+  sums = λ p table at. le_tested _ _ (not_not _ (none_at is_above ports p table (sym kept.over ∙ none.over) at));
   cells = λ c course at. not_not _ (none_at is_broken courses c course (sym kept.broken ∙ none.broken) at);
 }
 
@@ -99,8 +98,7 @@ counted_sound net ports courses looks tally kept sound = record {
   above = kept.above ∙ none_counted_both (shapes_above ports) net.conns courses (λ c conn course known at.
       ap not (all_pass (λ port. nat_le course.actor.source.rate (held_by_port conn.vc ports port)) conn.path
       (λ i p there. le_passes _ _ (sound.rates c i p conn course known at there))));
-  over = kept.over ∙ none_counted_both (λ (pair : ℕ × Table). is_above pair.0 pair.1) net.capacities ports
-      (λ p capacity table known at. ap not (le_passes _ _ (sound.sums p capacity table known at)));
+  over = kept.over ∙ none_counted is_above ports (λ p table at. ap not (le_passes _ _ (sound.sums p table at)));
   broken = kept.broken ∙ none_counted is_broken courses (λ c course at. ap not (sound.cells c course at));
 }
 
@@ -110,6 +108,6 @@ pub past_counts_nothing :
     IsTallied net ports (map seen courses) tally → CountsNothing tally
 past_counts_nothing net events courses ports tally are kept = record {
   above = kept.above ∙ none_above net.conns courses ports (rates_pass net events courses ports are);
-  over = kept.over ∙ none_over net.capacities ports (sums_pass net events courses ports are);
+  over = kept.over ∙ none_over ports (sums_pass net events courses ports are);
   broken = kept.broken ∙ none_broken courses (cells_pass net events courses ports are);
 }

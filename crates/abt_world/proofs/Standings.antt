@@ -17,7 +17,7 @@ use Rattle.abt_model.specs.declared.outcome.Outcome.{Outcome}
 use Rattle.abt_model.specs.declared.outcome.Outcome.TheVariants.{NotEnabled}
 use Rattle.abt_model.specs.Events.{AsksRate}
 use Rattle.abt_model.specs.Past.{Past, facts_of}
-use Rattle.abt_model.specs.Outcomes.{conn_of, outcome_by, outcome_of, past_by, after_event}
+use Rattle.abt_model.specs.Outcomes.{conn_of, outcome_of, after_event}
 use Rattle.abt_model.specs.PortTable.{port_table}
 use Rattle.abt_model.specs.Run.{facts_after}
 use Rattle.abt_model.proofs.EveryPasts.{every_safe, every_never_disputes, every_one_answer, every_rates_wait, every_yes_stands, every_arrival_conforms, every_next_is_due, every_store_covers}
@@ -63,30 +63,20 @@ set_same [] i y at = refl
 set_same {A = A} (x ∷ xs) zero y at = (let is : y ≡ x = cc in ap (λ (z : A). z ∷ xs) is)
 set_same {A = A} (x ∷ xs) (suc i) y at = ap (λ (l : List A). x ∷ l) (set_same xs i y at)
 
-one_more : (net : Topology) (events : List Event) (e : Event) → facts_after net (events ++ e ∷ []) ≡ after_event net (facts_after net events) e
+pub one_more : (net : Topology) (events : List Event) (e : Event) → facts_after net (events ++ e ∷ []) ≡ after_event net (facts_after net events) e
 one_more net events e = facts_from_push net [] events e
 
-all_ask : (events : List Event) (e : Event) → All AsksRate events → AsksRate e → All AsksRate (events ++ e ∷ [])
+pub all_ask : (events : List Event) (e : Event) → All AsksRate events → AsksRate e → All AsksRate (events ++ e ∷ [])
 all_ask events e rates asks = All-append AsksRate events (e ∷ []) rates (All-cons AsksRate e [] asks (All-nil AsksRate))
 
 -- an event that changes nothing
-still : (net : Topology) (events : List Event) (world : WorldView) (e : Event) (looks : ℕ) → StandsFor net events world → AsksRate e → after_event net (facts_after net events) e ≡ facts_after net events →
+pub still : (net : Topology) (events : List Event) (world : WorldView) (e : Event) (looks : ℕ) → StandsFor net events world → AsksRate e → after_event net (facts_after net events) e ≡ facts_after net events →
     StandsFor net (events ++ e ∷ []) (record { net = world.net; ports = world.ports; courses = world.courses; looks = looks })
 still net events world e looks stands asks stays = record {
   rates = all_ask events e stands.rates asks;
   stands = subst (λ (p : Past). IsOfPast net p (record { net = world.net; ports = world.ports; courses = world.courses; looks = looks })) (sym (one_more net events e ∙ stays))
       (record { net_is = stands.stands.net_is; ports = stands.stands.ports; courses = stands.stands.courses });
 }
-
--- an event of no connection
-pub step_alone :
-    (net : Topology) (events : List Event) (world : WorldView) (e : Event) (looks : ℕ) → StandsFor net events world → AsksRate e → conn_of e ≡ None →
-    (NotEnabled Unknown ≡ outcome_of net (facts_after net events) e) × StandsFor net (events ++ e ∷ []) (record { net = world.net; ports = world.ports; courses = world.courses; looks = looks })
-step_alone net events world e looks stands asks alone =
-    let past = facts_after net events in (
-      sym (ap (outcome_by net past e) alone),
-      still net events world e looks stands asks (ap (past_by past e (outcome_of net past e)) alone),
-    )
 
 -- an event of a connection that the net doesn't have
 pub step_unknown :

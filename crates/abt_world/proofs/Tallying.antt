@@ -22,7 +22,7 @@ use Rattle.abt_world.specs.Touches.{Rewrites, Touches}
 -- what marks tell of a connection and a port
 pub record AreMarks (net : Topology) (ports : List Table) (conn : Conn) (course : CourseView) (port : Option ℕ) (marks : Marks) : Type 0 where
   pub above : marks.above ≡ shapes_above ports (conn, course)
-  pub over : marks.over ≡ over_at port net.capacities ports
+  pub over : marks.over ≡ over_at port ports
   pub broken : marks.broken ≡ is_broken course
 
 pub one_at_most : (b : Bool) → one_if b ≤ 1
@@ -108,32 +108,20 @@ channels_differ conns c conn own known i k other there same =
       | inr (inr more) ↦ own c i conn more low_i (ap (λ (x : Conn). x.vc) here ∙ sym same ∙ sym (ap (λ (x : Conn). x.vc) at_i))
     ]
 
-over_none : (capacities : List ℕ) (p : ℕ) → (0 + one_if (over_at (Some p) capacities []) ≡ 0 + one_if (over_at (Some p) capacities [])) × (one_if (over_at (Some p) capacities []) ≤ 0)
-over_none [] p = (refl, omega arith)
-over_none (u ∷ capacities) zero = (refl, omega arith)
-over_none (u ∷ capacities) (suc p) = over_none capacities p
-
 -- one port changes
-over_changed : (capacities : List ℕ) (ports : List Table) (p : ℕ) (table : Table) →
-    (count_of (λ (pair : ℕ × Table). is_above pair.0 pair.1) (zip capacities (slice_set ports p table)) + one_if (over_at (Some p) capacities ports)
-    ≡ count_of (λ (pair : ℕ × Table). is_above pair.0 pair.1) (zip capacities ports) + one_if (over_at (Some p) capacities (slice_set ports p table)))
-    × (one_if (over_at (Some p) capacities ports) ≤ count_of (λ (pair : ℕ × Table). is_above pair.0 pair.1) (zip capacities ports))
-over_changed [] ports p table = (refl, omega arith)
-over_changed (u ∷ capacities) [] zero table = (refl, omega arith)
-over_changed (u ∷ capacities) [] (suc p) table = over_none capacities p
-over_changed (u ∷ capacities) (t ∷ ports) zero table = (omega arith, omega arith)
-over_changed (u ∷ capacities) (t ∷ ports) (suc p) table = (let rest = over_changed capacities ports p table in (omega (arith, rest.0), omega (arith, rest.1)))
+over_changed : (ports : List Table) (p : ℕ) (table : Table) →
+    (count_of is_above (slice_set ports p table) + one_if (over_at (Some p) ports) ≡ count_of is_above ports + one_if (over_at (Some p) (slice_set ports p table)))
+    × (one_if (over_at (Some p) ports) ≤ count_of is_above ports)
+over_changed [] p table = (refl, omega arith)
+over_changed (t ∷ ports) zero table = (omega arith, omega arith)
+over_changed (t ∷ ports) (suc p) table = (let rest = over_changed ports p table in (omega (arith, rest.0), omega (arith, rest.1)))
 
-over_rewritten : (port : Option ℕ) (capacities : List ℕ) (before after : List Table) → Rewrites port before after →
-    (count_of (λ (pair : ℕ × Table). is_above pair.0 pair.1) (zip capacities after) + one_if (over_at port capacities before)
-    ≡ count_of (λ (pair : ℕ × Table). is_above pair.0 pair.1) (zip capacities before) + one_if (over_at port capacities after))
-    × (one_if (over_at port capacities before) ≤ count_of (λ (pair : ℕ × Table). is_above pair.0 pair.1) (zip capacities before))
-over_rewritten None capacities before after is = (ap (λ (ps : List Table). count_of (λ (pair : ℕ × Table). is_above pair.0 pair.1) (zip capacities ps) + 0) is, omega arith)
-over_rewritten (Some p) capacities before after is =
-    subst (λ (ps : List Table). (count_of (λ (pair : ℕ × Table). is_above pair.0 pair.1) (zip capacities ps) + one_if (over_at (Some p) capacities before)
-    ≡ count_of (λ (pair : ℕ × Table). is_above pair.0 pair.1) (zip capacities before) + one_if (over_at (Some p) capacities ps))
-    × (one_if (over_at (Some p) capacities before) ≤ count_of (λ (pair : ℕ × Table). is_above pair.0 pair.1) (zip capacities before)))
-    (sym is.1) (over_changed capacities before p is.0)
+over_rewritten : (port : Option ℕ) (before after : List Table) → Rewrites port before after →
+    (count_of is_above after + one_if (over_at port before) ≡ count_of is_above before + one_if (over_at port after)) × (one_if (over_at port before) ≤ count_of is_above before)
+over_rewritten None before after is = (ap (λ (ps : List Table). count_of is_above ps + 0) is, omega arith)
+over_rewritten (Some p) before after is =
+    subst (λ (ps : List Table). (count_of is_above ps + one_if (over_at (Some p) before) ≡ count_of is_above before + one_if (over_at (Some p) ps)) × (one_if (over_at (Some p) before) ≤ count_of is_above before))
+    (sym is.1) (over_changed before p is.0)
 
 -- a count that was brought up to date is the new count
 recounted : (count before after told : ℕ) (was is : Bool) → told ≡ before → IsRecounted told was is after → one_if was ≤ before → before + 1 < 2 ^ 64 → count + one_if was ≡ before + one_if is → after ≡ count
@@ -148,28 +136,60 @@ zip_within (x ∷ xs) (y ∷ ys) = (let rest = zip_within xs ys in omega arith)
 -- the counts after one connection and one port changed
 pub tallied_after :
     (net : Topology) (before after : List Table) (courses : List CourseView) (c : ℕ) (port : Option ℕ) (conn : Conn) (old new : CourseView) (tally told : Tally) (was is : Marks) →
-    IsTallied net before courses tally → OwnChannels net.conns → length courses ≡ length net.conns → length net.conns < 2 ^ 63 → length net.capacities < 2 ^ 63 →
+    IsTallied net before courses tally → OwnChannels net.conns → length courses ≡ length net.conns → length net.conns < 2 ^ 63 → length before < 2 ^ 63 →
     slice_get net.conns c ≡ Some conn → slice_get courses c ≡ Some old → Touches port conn.vc before after →
     AreMarks net before conn old port was → AreMarks net after conn new port is →
     IsRecounted tally.above was.above is.above told.above → IsRecounted tally.over was.over is.over told.over → IsRecounted tally.broken was.broken is.broken told.broken →
     IsTallied net after (slice_set courses c new) told
 tallied_after net before after courses c port conn old new tally told was is kept own many few few_ports known at touches marked marks above over broken =
     let a = above_changed before after net.conns courses c conn old new touches.1 known at (channels_differ net.conns c conn own known) in
-    let o = over_rewritten port net.capacities before after touches.0 in
+    let o = over_rewritten port before after touches.0 in
     let b = count_changed is_broken courses c old new at in
     let some = counted_one is_broken courses c old at in
     let pairs = count_within (shapes_above before) (zip net.conns courses) in
     let in_pairs = zip_within net.conns courses in
-    let sums = count_within (λ (pair : ℕ × Table). is_above pair.0 pair.1) (zip net.capacities before) in
-    let in_sums = zip_within net.capacities before in
+    let sums = count_within is_above before in
     let all = count_within is_broken courses in
     record {
       above = recounted _ (count_of (shapes_above before) (zip net.conns courses)) told.above tally.above (shapes_above before (conn, old)) (shapes_above after (conn, new)) kept.above
           (subst (λ x. IsRecounted tally.above x (shapes_above after (conn, new)) told.above) marked.above (subst (λ x. IsRecounted tally.above was.above x told.above) marks.above above)) a.1 (omega arith) a.0;
-      over = recounted _ (count_of (λ (pair : ℕ × Table). is_above pair.0 pair.1) (zip net.capacities before)) told.over tally.over (over_at port net.capacities before) (over_at port net.capacities after) kept.over
-          (subst (λ x. IsRecounted tally.over x (over_at port net.capacities after) told.over) marked.over (subst (λ x. IsRecounted tally.over was.over x told.over) marks.over over)) o.1 (omega arith) o.0;
+      over = recounted _ (count_of is_above before) told.over tally.over (over_at port before) (over_at port after) kept.over
+          (subst (λ x. IsRecounted tally.over x (over_at port after) told.over) marked.over (subst (λ x. IsRecounted tally.over was.over x told.over) marks.over over)) o.1 (omega arith) o.0;
       broken = recounted _ (count_of is_broken courses) told.broken tally.broken (is_broken old) (is_broken new) kept.broken
           (subst (λ x. IsRecounted tally.broken x (is_broken new) told.broken) marked.broken (subst (λ x. IsRecounted tally.broken was.broken x told.broken) marks.broken broken)) some (omega arith) b;
+    }
+
+-- the counts after one port changed, but not what it keeps of connections
+above_alone : (before after : List Table) (conns : List Conn) (courses : List CourseView) → ((vc : Channel) (p : ℕ) → held_by_port vc after p ≡ held_by_port vc before p) →
+    count_of (shapes_above after) (zip conns courses) ≡ count_of (shapes_above before) (zip conns courses)
+above_alone before after [] courses keep = refl
+above_alone before after (k ∷ conns) [] keep = refl
+above_alone before after (k ∷ conns) (o ∷ courses) keep =
+    let first = ap (λ (b : Bool). one_if (not b)) (along_same o.actor.source.rate k.vc before after k.path (keep k.vc)) in
+    let rest = above_alone before after conns courses keep in
+    omega arith
+
+pub tallied_alone :
+    (net : Topology) (before : List Table) (courses : List CourseView) (p : ℕ) (old new : Table) (tally told : Tally) (was is : Marks) →
+    IsTallied net before courses tally → length courses ≡ length net.conns → length net.conns < 2 ^ 63 → length before < 2 ^ 63 → slice_get before p ≡ Some old →
+    ((vc : Channel) (q : ℕ) → held_by_port vc (slice_set before p new) q ≡ held_by_port vc before q) →
+    (was.above ≡ false) × (was.over ≡ is_above old) × (was.broken ≡ false) → (is.above ≡ false) × (is.over ≡ is_above new) × (is.broken ≡ false) →
+    IsRecounted tally.above was.above is.above told.above → IsRecounted tally.over was.over is.over told.over → IsRecounted tally.broken was.broken is.broken told.broken →
+    IsTallied net (slice_set before p new) courses told
+tallied_alone net before courses p old new tally told was is kept many few few_ports at keep marked marks above over broken =
+    let same = above_alone before (slice_set before p new) net.conns courses keep in
+    let changed = count_changed is_above before p old new at in
+    let pairs = count_within (shapes_above before) (zip net.conns courses) in
+    let in_pairs = zip_within net.conns courses in
+    let sums = count_within is_above before in
+    let all = count_within is_broken courses in
+    record {
+      above = recounted _ (count_of (shapes_above before) (zip net.conns courses)) told.above tally.above false false kept.above
+          (subst (λ x. IsRecounted tally.above x false told.above) marked.0 (subst (λ x. IsRecounted tally.above was.above x told.above) marks.0 above)) (omega arith) (omega arith) (omega (arith, same));
+      over = recounted _ (count_of is_above before) told.over tally.over (is_above old) (is_above new) kept.over
+          (subst (λ x. IsRecounted tally.over x (is_above new) told.over) marked.1 (subst (λ x. IsRecounted tally.over was.over x told.over) marks.1 over)) (counted_one is_above before p old at) (omega arith) changed;
+      broken = recounted _ (count_of is_broken courses) told.broken tally.broken false false kept.broken
+          (subst (λ x. IsRecounted tally.broken x false told.broken) marked.2 (subst (λ x. IsRecounted tally.broken was.broken x told.broken) marks.2 broken)) (omega arith) (omega arith) refl;
     }
 
 -- nothing is counted where all is safe
@@ -184,14 +204,12 @@ none_above (k ∷ conns) (o ∷ courses) ports all =
     let rest = none_above conns courses ports parts.1 in
     omega arith
 
-pub none_over : (capacities : List ℕ) (ports : List Table) → list_all (λ (pair : ℕ × Table). nat_le (sum_of pair.1) pair.0) (zip capacities ports) ≡ true →
-    count_of (λ (pair : ℕ × Table). is_above pair.0 pair.1) (zip capacities ports) ≡ 0
-none_over [] ports all = refl
-none_over (u ∷ capacities) [] all = refl
-none_over (u ∷ capacities) (t ∷ ports) all =
+pub none_over : (ports : List Table) → list_all (λ (table : Table). nat_le (sum_of table) table.capacity) ports ≡ true → count_of is_above ports ≡ 0
+none_over [] all = refl
+none_over (t ∷ ports) all =
     let parts = and_parts _ _ all in
-    let first : one_if (is_above u t) ≡ 0 = ap (λ b. one_if (not b)) parts.0 in
-    let rest = none_over capacities ports parts.1 in
+    let first : one_if (is_above t) ≡ 0 = ap (λ b. one_if (not b)) parts.0 in
+    let rest = none_over ports parts.1 in
     omega arith
 
 pub none_broken : (courses : List Course) → list_all (λ (course : Course). course.log.index.conform) courses ≡ true → count_of is_broken (map seen courses) ≡ 0
@@ -212,8 +230,8 @@ pub counted_before :
     (net : Topology) (before after : List Table) (courses : List CourseView) (c : ℕ) (port : Option ℕ) (conn : Conn) (old : CourseView) (tally : Tally) →
     IsTallied net before courses tally → OwnChannels net.conns →
     slice_get net.conns c ≡ Some conn → slice_get courses c ≡ Some old → Touches port conn.vc before after →
-    (one_if (shapes_above before (conn, old)) ≤ tally.above) × (one_if (over_at port net.capacities before) ≤ tally.over) × (one_if (is_broken old) ≤ tally.broken)
+    (one_if (shapes_above before (conn, old)) ≤ tally.above) × (one_if (over_at port before) ≤ tally.over) × (one_if (is_broken old) ≤ tally.broken)
 counted_before net before after courses c port conn old tally kept own known at touches =
     let a = above_changed before after net.conns courses c conn old old touches.1 known at (channels_differ net.conns c conn own known) in
-    let o = over_rewritten port net.capacities before after touches.0 in
+    let o = over_rewritten port before after touches.0 in
     (omega (arith, kept.above, a.1), omega (arith, kept.over, o.1), omega (arith, kept.broken, counted_one is_broken courses c old at))

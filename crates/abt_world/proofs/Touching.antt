@@ -21,7 +21,7 @@ rewrites_none (Some p) ports = same_there ports p
 pub untouched : (port : Option ℕ) (vc : Channel) (ports : List Table) → Touches port vc ports ports
 untouched port vc ports = (rewrites_none port ports, λ other apart q. refl)
 
-rows_kept : (ports : List Table) (p q : ℕ) (table after : Table) (other : Channel) → slice_get ports p ≡ Some table → connection_at after other ≡ connection_at table other →
+pub rows_kept : (ports : List Table) (p q : ℕ) (table after : Table) (other : Channel) → slice_get ports p ≡ Some table → connection_at after other ≡ connection_at table other →
     held_by_port other (slice_set ports p after) q ≡ held_by_port other ports q
 rows_kept [] p q table after other at same = refl
 rows_kept (t ∷ ports) zero zero table after other at same =

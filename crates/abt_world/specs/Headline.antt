@@ -1,5 +1,4 @@
 -- What holds of a net whatever happened to it (docs/GUARANTEES.md, "The headline").
-use Rattle.std.specs.Prelude.{List}
 use Rattle.abt_net.specs.Topology.{Topology}
 use Rattle.abt_model.specs.Past.{Past}
 use Rattle.abt_model.specs.Safe.{IsSafe}

@@ -7,12 +7,15 @@ use Rattle.abt_log.specs.Index.{is_of_message}
 use Rattle.abt_safety.specs.Tallies.{one_if, count_of}
 use Rattle.abt_model.specs.declared.event.Event.{Event}
 use Rattle.abt_model.specs.declared.event.Event.TheVariants.{Arrive, Request, Turn, Answer, Told}
+use Rattle.abt_model.specs.declared.target.Target.{Target}
+use Rattle.abt_model.specs.declared.target.Target.TheVariants.{Port}
 use Rattle.abt_model.specs.declared.outcome.Cause.{Cause}
 use Rattle.abt_model.specs.declared.outcome.Cause.TheVariants.{NotSent, Fenced}
 use Rattle.abt_model.specs.declared.outcome.Outcome.{Outcome}
 use Rattle.abt_model.specs.declared.outcome.Outcome.TheVariants.{Requested, Answered, Told as HasTold, NotEnabled}
 use Rattle.abt_model.specs.Outcomes.{conn_of, outcome_of, facts_added}
 use Rattle.abt_model.specs.Past.{Past, facts_of}
+use Rattle.abt_model.specs.Targets.{target_of}
 use Rattle.abt_world.specs.Touches.{visited}
 
 -- a cell that doesn't arrive: when it was emitted, unless its number tells
@@ -55,9 +58,13 @@ looks_at net past event c None = 0
 looks_at net past event c (Some conn) =
     1 + looks_to_happen conn (facts_of c past) event (outcome_of net past event) + length conn.path + one_if (is_some (visited conn event))
 
--- An event of no connection looks nothing up.
+-- An event of a port alone looks that up, if the net has it.
+abbrev pub looks_alone : Topology → Target → ℕ
+looks_alone net (Port p capacity) = one_if (nat_lt p (length net.capacities))
+looks_alone net other = 0
+
 abbrev pub looks_by : Topology → Past → Event → Option ℕ → ℕ
-looks_by net past event None = 0
+looks_by net past event None = looks_alone net (target_of event)
 looks_by net past event (Some c) = looks_at net past event c (conn_at net c)
 
 abbrev pub looks_of : Topology → Past → Event → ℕ

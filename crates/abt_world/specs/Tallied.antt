@@ -20,5 +20,5 @@ is_broken course = not course.index.conform
 -- Each count is that of all connections and ports.
 pub record IsTallied (net : Topology) (ports : List Table) (courses : List CourseView) (tally : Tally) : Type 0 where
   pub above : tally.above ≡ count_of (shapes_above ports) (zip net.conns courses)
-  pub over : tally.over ≡ count_of (λ pair. is_above pair.0 pair.1) (zip net.capacities ports)
+  pub over : tally.over ≡ count_of is_above ports
   pub broken : tally.broken ≡ count_of is_broken courses

@@ -49,3 +49,14 @@ pub(crate) fn totals_of(alloc: Global, ports: &[Port]) -> Result<Sequence<u64>, 
     }
     Ok(totals)
 }
+
+// The capacity of each port.
+pub(crate) fn capacities_of(alloc: Global, ports: &[Port]) -> Result<Sequence<u64>, AllocError>
+    ensures { IfOk result (λ capacities. capacities ≡ map (λ table. table.capacity) ports.now) }
+{
+    let mut capacities = Sequence::new(alloc);
+    for port in ports {
+        capacities.push(port.capacity())?;
+    }
+    Ok(capacities)
+}

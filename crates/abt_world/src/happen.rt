@@ -18,10 +18,10 @@ ghost use Rattle.abt_world.specs.Touches.{Touches};
 
 use crate::cells::arrive;
 use crate::hops::{answer, port_at, request};
-use crate::messages::{told, turn};
+use crate::messages::{not_enabled, told, turn};
 use abt_actor::{Added, SourceActor};
 use abt_log::{Log, Looks};
-use abt_model::{Event, HopEvent, Outcome, SourceCommand, SourceEvent, Target};
+use abt_model::{Cause, Event, HopEvent, Outcome, SourceCommand, SourceEvent, Target};
 use abt_net::Conn;
 use abt_node::Port;
 
@@ -53,7 +53,7 @@ pub(crate) fn visited(conn: &Conn, event: &Event) -> Option<u16>
 {
     match event.target() {
         Target::Hop { event, .. } => port_at(conn, event.hop()),
-        Target::Source { .. } | Target::End { .. } => None,
+        Target::Source { .. } | Target::End { .. } | Target::Port { .. } => None,
     }
 }
 
@@ -148,5 +148,6 @@ pub(crate) fn happen(
             looks,
         ),
         Target::End { conn: place, seq } => turn(place, conn, log, seq, looks),
+        Target::Port { .. } => not_enabled(Cause::Unknown),
     }
 }

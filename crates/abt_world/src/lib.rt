@@ -7,6 +7,7 @@ mod ends;
 mod fresh;
 mod happen;
 mod hops;
+mod links;
 mod messages;
 mod opening;
 mod safety;

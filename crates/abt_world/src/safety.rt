@@ -16,12 +16,11 @@ pub(crate) fn marks(
     conn: &Conn,
     course: &Course,
     port: Option<u16>,
-    capacities: &[u64],
     ports: &[Port],
     looks: &mut Looks,
 ) -> Marks
     ensures above { result.above ≡ shapes_above ports.now (conn.now, seen course.now) }
-    ensures over { result.over ≡ over_at port capacities.now ports.now }
+    ensures over { result.over ≡ over_at port ports.now }
     ensures broken { result.broken ≡ is_broken (seen course.now) }
     ensures looks { looks.new ≤ looks.old + length conn.now.path + 1 }
     ensures counted { let looked = looked_at course.now.actor.source.rate conn.now.vc ports.now conn.now.path in
@@ -29,7 +28,7 @@ pub(crate) fn marks(
 {
     let path = conn.path.as_slice();
     let above = !is_held(course.actor.rate(), conn.vc, path, ports, looks);
-    let over = is_over(port, capacities, ports, looks);
+    let over = is_over(port, ports, looks);
     let broken = !course.log.all_conform();
     Marks {
         above,
@@ -44,14 +43,13 @@ pub(crate) fn counted_marks(
     conn: &Conn,
     course: &Course,
     port: Option<u16>,
-    capacities: &[u64],
     ports: &[Port],
     looks: &mut Looks,
 ) -> Marks
     ensures above { one_if (shapes_above ports.now (conn.now, seen course.now)) ≤ tally.now.above →
         result.above ≡ shapes_above ports.now (conn.now, seen course.now) }
-    ensures over { one_if (over_at port capacities.now ports.now) ≤ tally.now.over →
-        result.over ≡ over_at port capacities.now ports.now }
+    ensures over { one_if (over_at port ports.now) ≤ tally.now.over →
+        result.over ≡ over_at port ports.now }
     ensures broken { one_if (is_broken (seen course.now)) ≤ tally.now.broken → result.broken ≡ is_broken (seen course.now) }
     ensures looks { looks.new ≤ looks.old + length conn.now.path + 1 }
     ensures counted { tally.now.above ≡ 0 → tally.now.over ≡ 0 → tally.now.broken ≡ 0 → looks.new ≡ looks.old }
@@ -59,5 +57,5 @@ pub(crate) fn counted_marks(
     if tally.is_safe() {
         return Marks::none();
     }
-    marks(conn, course, port, capacities, ports, looks)
+    marks(conn, course, port, ports, looks)
 }

@@ -1,30 +1,32 @@
 //! Worlds.
-ghost use Rattle.std.specs.Prelude.{◌≡◌, ◌≤◌, ◌↔◌, ◌++◌, true, [], ◌∷◌, List, IfOk, OnOk, OnErr, MatchResult};
+ghost use Rattle.std.specs.Prelude.{◌≡◌, ◌≤◌, ◌↔◌, ◌++◌, true, [], ◌∷◌, List, IfOk, OnOk, OnErr, IsSome, MatchResult};
 ghost use Rattle.abt_net.specs.Topology.{Topology};
-ghost use Rattle.abt_model.specs.Outcomes.{outcome_of};
+ghost use Rattle.abt_model.specs.Outcomes.{conn_of, outcome_of};
 ghost use Rattle.abt_model.specs.Run.{facts_after, outcomes_of};
 ghost use Rattle.abt_model.specs.Safe.{IsSafe};
 ghost use Rattle.abt_trace.specs.Traces.{IsTrace};
 ghost use Rattle.abt_model.specs.declared.event.Event.{Event};
+ghost use Rattle.abt_model.specs.declared.event.Event.TheVariants as event;
 ghost use Rattle.abt_world.specs.Headline.{HeadlineHolds};
 ghost use Rattle.abt_world.specs.Looked.{looks_of};
-ghost use Rattle.abt_world.specs.Readings.{rate_in, held_in, total_in};
+ghost use Rattle.abt_world.specs.Readings.{rate_in, held_in, total_in, capacity_in};
 ghost use Rattle.abt_world.specs.Sound.{IsSound};
 ghost use Rattle.abt_world.specs.Standing.{StandsFor};
 
 use crate::course::Course;
-use crate::ends::{held_of, rates_of, totals_of};
+use crate::ends::{capacities_of, held_of, rates_of, totals_of};
 use crate::fresh::{fresh_courses, opening_ports};
 use crate::happen::{asks_rate, place_of, visited};
 use crate::hops::port_at;
+use crate::links::set_capacity;
 use crate::safety::{counted_marks, marks};
 use abt_list::Sequence;
 use abt_log::Looks;
-use abt_model::{Cause, Event, Outcome};
+use abt_model::{Cause, Event, Outcome, Target};
 use abt_net::Net;
 use abt_node::Port;
 use abt_rate::Rate;
-use abt_safety::Tally;
+use abt_safety::{Marks, Tally};
 use abt_trace::Trace;
 use std::alloc::{AllocError, Global};
 use std::marker::Model;
@@ -64,7 +66,8 @@ impl<'net> Model for World<'net> {
     } };
 
     ghost invariant = { λ w. (length w.courses.items ≡ length w.net.now.conns) × IsWithinRules w.net.now
-        × IsTallied w.net.now w.ports.items (list_map (λ course. record { actor = course.actor; index = course.log.index }) w.courses.items) w.tally };
+        × IsTallied w.net.now w.ports.items (list_map (λ course. record { actor = course.actor; index = course.log.index }) w.courses.items) w.tally
+        × (length w.ports.items ≡ length w.net.now.capacities) };
 }
 
 impl<'net> World<'net> {
@@ -100,6 +103,53 @@ impl<'net> World<'net> {
             OnOk result (self.new.looks ≡ looks_of net (facts_after net events) event.now) }
         ensures same { OnErr result (self.new ≡ self.old) }
     {
+        match event.target() {
+            Target::Port { port, capacity } => Ok(self.at_port(port, capacity)),
+            Target::Source { .. } | Target::Hop { .. } | Target::End { .. } => {
+                self.at_connection(event)
+            }
+        }
+    }
+
+    // An event of a port alone, whose link is to have this capacity.
+    fn at_port(&mut self, port: u16, capacity: u64) -> Outcome
+        ensures outcome { (net : Topology) (events : List Event) → StandsFor net events self.old →
+            (result ≡ outcome_of net (facts_after net events) (event.Capacity port capacity))
+            × StandsFor net (events ++ event.Capacity port capacity ∷ []) self.new }
+        ensures headline { (net : Topology) (events : List Event) → StandsFor net events self.old →
+            HeadlineHolds net (facts_after net (events ++ event.Capacity port capacity ∷ [])) }
+        ensures looks { self.new.looks ≤ 1 }
+        ensures counted { (net : Topology) (events : List Event) → StandsFor net events self.old →
+            self.new.looks ≡ looks_of net (facts_after net events) (event.Capacity port capacity) }
+    {
+        let place = usize::from(port);
+        let mut looked = Looks::new();
+        if place >= self.ports.len() {
+            self.looks = looked.count();
+            return Outcome::NotEnabled(Cause::Unknown);
+        }
+        let link = &mut self.ports[looked.counting(place)];
+        let was = Marks::of_port(link);
+        let outcome = set_capacity(link, capacity);
+        let is = Marks::of_port(link);
+        self.tally = self.tally.after(&was, &is);
+        self.looks = looked.count();
+        outcome
+    }
+
+    // An event of a connection. Where memory is refused nothing happens.
+    fn at_connection(&mut self, event: &Event) -> Result<Outcome, AllocError>
+        requires { IsSome (conn_of event.now) }
+        ensures outcome { (net : Topology) (events : List Event) → StandsFor net events self.old → MatchResult result
+            (λ outcome. (outcome ≡ outcome_of net (facts_after net events) event.now) × StandsFor net (events ++ event.now ∷ []) self.new)
+            (λ _. StandsFor net events self.new) }
+        ensures headline { (net : Topology) (events : List Event) → StandsFor net events self.old →
+            OnOk result (HeadlineHolds net (facts_after net (events ++ event.now ∷ []))) }
+        ensures looks { OnOk result (self.new.looks ≤ 128) }
+        ensures counted { (net : Topology) (events : List Event) → StandsFor net events self.old →
+            OnOk result (self.new.looks ≡ looks_of net (facts_after net events) event.now) }
+        ensures same { OnErr result (self.new ≡ self.old) }
+    {
         asks_rate(event);
         let net = self.net;
         let Some(place) = place_of(event, net.conns()) else {
@@ -110,25 +160,10 @@ impl<'net> World<'net> {
         let conn = &net.conns()[place];
         let course = &mut self.courses[looks.counting(place)];
         let port = visited(conn, event);
-        let before = counted_marks(
-            &self.tally,
-            conn,
-            course,
-            port,
-            net.capacities(),
-            &self.ports,
-            &mut looks,
-        );
+        let before = counted_marks(&self.tally, conn, course, port, &self.ports, &mut looks);
         match course.take(conn, &mut self.ports, event, &mut looks) {
             Ok(outcome) => {
-                let after = marks(
-                    conn,
-                    course,
-                    port,
-                    net.capacities(),
-                    &self.ports,
-                    &mut looks,
-                );
+                let after = marks(conn, course, port, &self.ports, &mut looks);
                 self.tally = self.tally.after(&before, &after);
                 self.looks = looks.count();
                 Ok(outcome)
@@ -185,8 +220,18 @@ impl<'net> World<'net> {
         Some(self.ports[place].total())
     }
 
-    /// Whether no source shapes at a rate above what a hop of its path holds for it, no port holds more than its capacity,
-    /// and each cell that arrived was found conforming (docs/GUARANTEES.md, "The headline"). It is counted anew at
+    /// The capacity of the link behind a port that is in force, in units of 1/512 cell/s: the last that was set, else the
+    /// net's (docs/RULES.md, "Node").
+    pub fn capacity(&self, port: u16) -> Option<u64>
+        ensures { (net : Topology) (events : List Event) → StandsFor net events self.now →
+            result ≡ capacity_in net (facts_after net events) port }
+    {
+        let port = self.ports.get(usize::from(port))?;
+        Some(port.capacity())
+    }
+
+    /// Whether no source shapes at a rate above what a hop of its path holds for it, no port holds more than the
+    /// capacity that it has then, and each cell that arrived was found conforming (docs/GUARANTEES.md, "The headline"). It is counted anew at
     /// each event.
     pub fn safe(&self) -> bool
         ensures state { (result ≡ true) ↔ IsSound self.now }
@@ -214,6 +259,7 @@ impl<'net> World<'net> {
             rates: rates_of(alloc, &self.courses)?,
             held: held_of(alloc, self.net.conns(), &self.ports)?,
             totals: totals_of(alloc, &self.ports)?,
+            capacities: capacities_of(alloc, &self.ports)?,
             safe: self.safe(),
         })
     }

@@ -3,11 +3,12 @@ use Rattle.std.proofs.Common.{◌≡◌, ℕ, inl, inr, refl, ap, List, ◌∷�
 use Rattle.std.proofs.lemmas.Bool.{cond-false, cond-true, cases_eq, eq-eqb, ne_eqb}
 use Rattle.abt_net.specs.Topology.{Topology}
 use Rattle.abt_model.specs.declared.event.Event.{Event}
+use Rattle.abt_model.specs.declared.event.Event.TheVariants.{Capacity}
 use Rattle.abt_model.specs.declared.outcome.Cause.{Cause}
 use Rattle.abt_model.specs.declared.outcome.Outcome.{Outcome}
 use Rattle.abt_model.specs.declared.outcome.Outcome.TheVariants.{NotEnabled}
 use Rattle.abt_facts.specs.declared.fact.Fact.{Fact}
-use Rattle.abt_model.specs.Outcomes.{conn_of, outcome_of, past_by, after_event}
+use Rattle.abt_model.specs.Outcomes.{conn_of, outcome_of, port_facts_added, past_by, after_event}
 use Rattle.abt_model.specs.Past.{Past, facts_of, with_facts}
 use Rattle.abt_model.proofs.Steps.{down_adds}
 use Rattle.abt_source_journal.specs.declared.entry.SourceEntry.{SourceEntry}
@@ -15,8 +16,12 @@ use Rattle.abt_woven.specs.Projections.{Step, Visit, past_of, visit, step_at, st
 use Rattle.abt_woven.specs.Stuck.{Journaled, port_journal, source_journal, next_step, next_entry, step_next, Fits, ArePlaced, IsBeginning}
 use Rattle.abt_woven.proofs.Beginnings.{beginning_more, beginning_nil}
 
+port_adds_nothing : (past : Past) (event : Event) (cause : Cause) → port_facts_added event (NotEnabled cause) ++ past ≡ past
+port_adds_nothing past (Capacity p u) cause = refl
+port_adds_nothing past other cause = refl
+
 adds_nothing : (past : Past) (event : Event) (cause : Cause) (o : Option ℕ) → past_by past event (NotEnabled cause) o ≡ past
-adds_nothing past event cause None = refl
+adds_nothing past event cause None = port_adds_nothing past event cause
 adds_nothing past event cause (Some c) = ap (λ (l : List Fact). with_facts c l past) (down_adds (facts_of c past) event cause)
 
 -- what isn't enabled leaves the past

@@ -1,10 +1,11 @@
 -- What Turns change: only whether a yes is sent to the last hop.
 use Rattle.std.proofs.Common.{◌≡◌, ◌≢◌, ℕ, ◌+◌, ◌⊎◌, inl, inr, refl, ap, Bool, true, false, List, [], ◌∷◌, ◌++◌, length, ◌∙◌, sym, subst, Option, None, Some}
-use Rattle.std.specs.Prelude.{◌==◌, ◌||◌, ◌-◌, not, if◌then◌else◌, slice_index}
+use Rattle.std.specs.Prelude.{◌==◌, ◌||◌, ◌-◌, not, if◌then◌else◌, nat_lt}
 use Rattle.std.proofs.lemmas.Bool.{false≢true, cond-false, cond-true, cond_both, cases_Bool, cases_eq, eq-eqb, ne_eqb, or_left}
 use Rattle.std.proofs.lemmas.List.{append-nil}
 use Rattle.abt_keep.specs.declared.plan.StorePlan.{StorePlan}
 use Rattle.abt_keep.specs.declared.plan.StorePlan.TheVariants.{Works, FailsBefore, FailsAfter}
+use Rattle.abt_ledger.specs.Capacity.{capacity_fault, capacity_answer}
 use Rattle.abt_net.specs.declared.conn.Conn.{Conn}
 use Rattle.abt_net.specs.Topology.{Topology, conn_at}
 use Rattle.abt_facts.specs.declared.fact.Fact.{Fact}
@@ -12,17 +13,18 @@ use Rattle.abt_facts.specs.declared.fact.Fact.TheVariants.{Turned as FactTurned}
 use Rattle.abt_facts.specs.Source.{SourceState, Down, Idle, Asking, state_of}
 use Rattle.abt_facts.specs.Sent.{answer_is_at, was_turned, was_back}
 use Rattle.abt_model.specs.declared.event.Event.{Event}
-use Rattle.abt_model.specs.declared.event.Event.TheVariants.{Start, Ask, Again, Turn, Answer}
+use Rattle.abt_model.specs.declared.event.Event.TheVariants.{Start, Ask, Again, Turn, Answer, Capacity}
+use Rattle.abt_model.specs.declared.net_fact.NetFact.TheVariants.{OfConn}
 use Rattle.abt_model.specs.declared.outcome.Cause.TheVariants.{NotSent, Unknown}
 use Rattle.abt_model.specs.declared.outcome.Outcome.{Outcome}
 use Rattle.abt_model.specs.declared.outcome.Outcome.TheVariants.{Answered, Turned, NotEnabled}
-use Rattle.abt_model.specs.Answers.{start_answer, ask_answer, again_answer, if_up, is_hop, answer_by}
+use Rattle.abt_model.specs.Answers.{start_answer, ask_answer, again_answer, if_up, is_hop, answer_by, capped}
 use Rattle.abt_model.specs.Decision.{answer_decision}
 use Rattle.abt_cell.specs.Message.{answer_to}
 use Rattle.abt_source.specs.SourceFacts.{request_of}
-use Rattle.abt_model.specs.Outcomes.{conn_of, port_of, outcome_at, outcome_by, outcome_of, facts_added, after_event}
+use Rattle.abt_model.specs.Outcomes.{conn_of, port_of, outcome_at, outcome_alone, outcome_by, outcome_of, facts_added, after_event}
 use Rattle.abt_model.specs.Past.{Past, facts_of, with_facts}
-use Rattle.abt_model.specs.Reserved.{held_on, reserved_on}
+use Rattle.abt_model.specs.Reserved.{held_on, reserved_on, capacity_of}
 use Rattle.abt_model.proofs.Sums.{numbered_same}
 use Rattle.abt_journal.specs.declared.input.PortReply.{PortReply}
 use Rattle.abt_woven.specs.Projections.{Visit, is_enabled, reply_of, past_of, visit_by, step_at, steps_on, entries_on}
@@ -73,7 +75,7 @@ answer_if-turned sent conn reserved capacity t facts other = refl
 
 -- the past with the fact of a Turn
 abbrev pub turned : (c t : ℕ) → Past → Past
-turned c t past = record { conn = c; fact = FactTurned t } ∷ past
+turned c t past = OfConn c (FactTurned t) ∷ past
 
 -- what doesn't see Turns
 blind : {A : Type 0} → (view : List Fact → A) → ((t : ℕ) (facts : List Fact) → view (FactTurned t ∷ facts) ≡ view facts) →
@@ -92,10 +94,10 @@ abbrev pub outcome_at_if : Bool → Topology → Past → (d : ℕ) → Option C
 outcome_at_if sent net past d None event = NotEnabled Unknown
 outcome_at_if sent net past d (Some conn) event =
     let port = port_of conn.path event in
-    answer_if sent conn (reserved_on net past port) (slice_index net.capacities port) (facts_of d past) event
+    answer_if sent conn (reserved_on net past port) (capacity_of net past port) (facts_of d past) event
 
 abbrev pub outcome_by_if : Bool → Topology → Past → Event → Option ℕ → Outcome
-outcome_by_if sent net past event None = NotEnabled Unknown
+outcome_by_if sent net past event None = outcome_alone net past event
 outcome_by_if sent net past event (Some d) = outcome_at_if sent net past d (conn_at net d) event
 
 abbrev pub outcome_if : Bool → Topology → Past → Event → Outcome
@@ -114,7 +116,7 @@ is_sent net past event = sent_by net past event (conn_of event)
 
 outcome_at-if : (net : Topology) (past : Past) (event : Event) (d : ℕ) (o : Option Conn) → outcome_at net past d o event ≡ outcome_at_if (sent_at past d o event) net past d o event
 outcome_at-if net past event d None = refl
-outcome_at-if net past event d (Some conn) = by_sent conn (reserved_on net past (port_of conn.path event)) (slice_index net.capacities (port_of conn.path event)) (facts_of d past) event
+outcome_at-if net past event d (Some conn) = by_sent conn (reserved_on net past (port_of conn.path event)) (capacity_of net past (port_of conn.path event)) (facts_of d past) event
 
 outcome_by-if : (net : Topology) (past : Past) (event : Event) (o : Option ℕ) → outcome_by net past event o ≡ outcome_by_if (sent_by net past event o) net past event o
 outcome_by-if net past event None = refl
@@ -128,12 +130,17 @@ outcome_at_if-turned : (sent : Bool) (net : Topology) (c t : ℕ) (past : Past) 
 outcome_at_if-turned sent net c t past event d None = refl
 outcome_at_if-turned sent net c t past event d (Some conn) =
     let port = port_of conn.path event in
-    ap (λ (r : ℕ). answer_if sent conn r (slice_index net.capacities port) (facts_of d (turned c t past)) event) (reserved_turned net c t past port)
-    ∙ blind (λ (facts : List Fact). answer_if sent conn (reserved_on net past port) (slice_index net.capacities port) facts event)
-    (λ s facts. answer_if-turned sent conn (reserved_on net past port) (slice_index net.capacities port) s facts event) d c t past
+    ap (λ (r : ℕ). answer_if sent conn r (capacity_of net past port) (facts_of d (turned c t past)) event) (reserved_turned net c t past port)
+    ∙ blind (λ (facts : List Fact). answer_if sent conn (reserved_on net past port) (capacity_of net past port) facts event)
+    (λ s facts. answer_if-turned sent conn (reserved_on net past port) (capacity_of net past port) s facts event) d c t past
+
+alone_turned : (net : Topology) (c t : ℕ) (past : Past) (event : Event) → outcome_alone net (turned c t past) event ≡ outcome_alone net past event
+alone_turned net c t past (Capacity p u) =
+    ap (λ (r : ℕ). if nat_lt p (length net.capacities) then capped (capacity_answer (capacity_fault r u)) else NotEnabled Unknown) (reserved_turned net c t past p)
+alone_turned net c t past other = refl
 
 outcome_by_if-turned : (sent : Bool) (net : Topology) (c t : ℕ) (past : Past) (event : Event) (o : Option ℕ) → outcome_by_if sent net (turned c t past) event o ≡ outcome_by_if sent net past event o
-outcome_by_if-turned sent net c t past event None = refl
+outcome_by_if-turned sent net c t past event None = alone_turned net c t past event
 outcome_by_if-turned sent net c t past event (Some d) = outcome_at_if-turned sent net c t past event d (conn_at net d)
 
 pub outcome_if-turned : (sent : Bool) (net : Topology) (c t : ℕ) (past : Past) (event : Event) → outcome_if sent net (turned c t past) event ≡ outcome_if sent net past event

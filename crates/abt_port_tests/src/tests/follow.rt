@@ -94,6 +94,9 @@ fn nothing_follows_a_drop_or_a_reply_that_does_not_fit(rt: HostRuntime) -> Resul
     follows(&rt, &net, 0, &yes, &dropped, Next::Nothing);
     follows(&rt, &net, 0, &asks, &PASSED_BACK, Next::Nothing);
     follows(&rt, &net, 0, &yes, &PASSED, Next::Nothing);
+    let capped = PortReply::Capped(Ok(()));
+    follows(&rt, &net, 0, &asks, &capped, Next::Nothing);
+    follows(&rt, &net, 0, &yes, &capped, Next::Nothing);
     let agreed = PortReply::Requested(Onward::Refuse(Answer::of(&first(100)?, true)));
     follows(&rt, &net, 0, &asks, &agreed, Next::Nothing);
     let others = PortReply::Requested(Onward::Refuse(Answer::of(&first(101)?, false)));

@@ -3,7 +3,7 @@ use super::fixture::{CAPACITY, TAU, port, request, says};
 use abt_cell::{Answer, Vc};
 use abt_gcra::Verdict;
 use abt_journal::{Entry, PortInput, PortReply, PortState, Seat, ServeFault};
-use abt_node::{ArriveFault, Back, DropCause, Onward};
+use abt_node::{ArriveFault, Back, CapacityFault, DropCause, Onward};
 use std::alloc::Global;
 use std::process::Abort;
 use std::test::Fail;
@@ -100,6 +100,43 @@ fn a_port_keeps_a_journal_of_all_that_it_replied(rt: HostRuntime) -> Result<(), 
         has_entry(&rt, &state, place, &entry);
     }
     assert_eq!(rt; state.into_entries().len(), 5);
+    Ok(())
+}
+
+// By docs/RULES.md, "Node": a capacity below the sum is refused, the sum itself is set, and then 1,000 cells per second don't fit, so that
+// nothing is held; the greatest capacity is 2^60. What the journal began with stays.
+#[test]
+fn a_port_goes_by_its_new_capacity_and_keeps_that_of_its_opening(
+    rt: HostRuntime,
+) -> Result<(), Fail> {
+    let (first, more) = (request(100, 1, 0x5258)?, request(100, 2, 0x53e8)?);
+    let rows = [
+        (
+            PortInput::Request(first),
+            PortReply::Requested(Onward::Pass),
+        ),
+        (
+            PortInput::Capacity(307_199),
+            PortReply::Capped(Err(CapacityFault::BelowSum)),
+        ),
+        (PortInput::Capacity(307_200), PortReply::Capped(Ok(()))),
+        (
+            PortInput::Request(more),
+            PortReply::Requested(Onward::Refuse(Answer::of(&more, false))),
+        ),
+        (
+            PortInput::Capacity(1_152_921_504_606_846_977),
+            PortReply::Capped(Err(CapacityFault::AboveLimit)),
+        ),
+        (PortInput::Capacity(0), PortReply::Capped(Ok(()))),
+    ];
+    let mut state = new_state(rt.alloc())?;
+    for (place, (input, reply)) in rows.iter().enumerate() {
+        let answer = step(&rt, &mut state, 9, input)?;
+        assert_eq!(rt; answer, (place as u64, *reply));
+    }
+    opened_as(&rt, &state, first.vc());
+    assert_eq!(rt; state.into_entries().len(), 6);
     Ok(())
 }
 

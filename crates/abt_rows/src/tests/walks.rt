@@ -1,6 +1,7 @@
 //! Lists of events, answered by a slow walk of the definitions and by the code. The walk shares nothing with the code but
 //! the types of what it is given and answers.
 mod answers;
+mod capped;
 mod crowd;
 mod failing;
 mod kept;
@@ -23,6 +24,10 @@ fn agrees(rt: &impl Abort, trace: &Trace, walked: &Walked) {
     }
     assert_eq!(rt; trace.rates.as_slice(), walked.end.rates.as_slice());
     assert_eq!(rt; trace.totals.as_slice(), walked.end.totals.as_slice());
+    assert_eq!(rt;
+        trace.capacities.as_slice(),
+        walked.end.capacities.as_slice()
+    );
     assert_eq!(rt; trace.safe, walked.end.safe);
     assert_eq!(rt; trace.held.len(), walked.end.held.len());
     for (path, held) in trace.held.as_slice().iter().zip(&walked.end.held) {
@@ -41,9 +46,13 @@ fn stands(rt: &impl Abort, world: &World<'_>, end: &Standing) {
     for (port, total) in end.totals.iter().enumerate() {
         assert_eq!(rt; world.total(number(port)), Some(*total));
     }
+    for (port, capacity) in end.capacities.iter().enumerate() {
+        assert_eq!(rt; world.capacity(number(port)), Some(*capacity));
+    }
     assert_eq!(rt; world.rate(number(end.rates.len())), None);
     assert_eq!(rt; world.held(number(end.held.len()), 1), None);
     assert_eq!(rt; world.total(number(end.totals.len())), None);
+    assert_eq!(rt; world.capacity(number(end.capacities.len())), None);
     assert_eq!(rt; world.safe(), end.safe);
 }
 

@@ -233,6 +233,50 @@ fn is_no_command(
     )
 }
 
+// Demands that the operation of this number says nothing.
+fn is_no_operation(
+    rt: &impl Abort,
+    alloc: Global,
+    pieces: &[&str],
+    number: u64,
+) -> Result<(), Fail> {
+    is_told(rt, alloc, pieces, ScenarioFault::OperatorText { number })
+}
+
+#[test]
+fn an_operation_that_says_nothing_is_named_by_its_number(rt: HostRuntime) -> Result<(), Fail> {
+    let alloc = rt.alloc();
+    let rows = [
+        ("[\"capacity 0\"]", 1),
+        ("[\"capacity 0 5\", \"capacity 65536 5\"]", 2),
+        ("[\"capacity 0 5 \"]", 1),
+        ("[\"start 0 0\"]", 1),
+    ];
+    for (operations, number) in rows {
+        is_no_operation(&rt, alloc, &["ports = []\noperator = ", operations], number)?;
+    }
+    // Scripts are read before it, and its key is looked for behind the events.
+    is_no_command(
+        &rt,
+        alloc,
+        &["operator = [\"\"]\n", ONE, "script = [\"\"]\n"],
+        0,
+        1,
+    )?;
+    is_told(
+        &rt,
+        alloc,
+        &["ports = []\noperator = 5\nevents = [5]"],
+        ScenarioFault::WrongType(Key::Events),
+    )?;
+    is_told(
+        &rt,
+        alloc,
+        &["ports = []\noperator = [5]"],
+        ScenarioFault::WrongType(Key::Operator),
+    )
+}
+
 #[test]
 fn a_text_that_says_nothing_is_named_by_its_number(rt: HostRuntime) -> Result<(), Fail> {
     let alloc = rt.alloc();

@@ -76,6 +76,16 @@ fn has_two_scripts(rt: &impl Abort, found: &[Sequence<Command>]) -> Result<(), F
 }
 
 #[test]
+fn a_scenario_has_its_operator(rt: HostRuntime) -> Result<(), Fail> {
+    let text =
+        "operator = [\"capacity 00 512000\", \"capacity 65535 9999999999999999999\"]\nports = []";
+    let read = scenario(rt.alloc(), text)?;
+    let operations = [(0, 512_000), (65535, 9_999_999_999_999_999_999)];
+    assert_eq!(rt; read.operator.as_slice(), operations.as_slice());
+    Ok(())
+}
+
+#[test]
 fn numbers_are_those_of_toml(rt: HostRuntime) -> Result<(), Fail> {
     let alloc = rt.alloc();
     let read = scenario(alloc, "ports = [-0, +5, 0x10, 1_000, 0b11]")?;
@@ -86,12 +96,16 @@ fn numbers_are_those_of_toml(rt: HostRuntime) -> Result<(), Fail> {
 #[test]
 fn a_net_may_be_empty_and_tables_may_stand_in_a_line(rt: HostRuntime) -> Result<(), Fail> {
     let alloc = rt.alloc();
-    for text in ["ports = []", "ports = []\nconnection = []\nevents = []"] {
+    for text in [
+        "ports = []",
+        "ports = []\nconnection = []\nevents = []\noperator = []",
+    ] {
         let read = scenario(alloc, text)?;
         assert_eq!(rt; read.net.capacities().len(), 0);
         assert_eq!(rt; read.net.conns().len(), 0);
         assert_eq!(rt; read.events.len(), 0);
         assert_eq!(rt; read.scripts.len(), 0);
+        assert_eq!(rt; read.operator.len(), 0);
     }
     let inline = "ports = [1]\nconnection = [{ vpi = 0, vci = 0, path = [0], delay = 0, tau = 0 }]";
     assert_eq!(rt; scenario(alloc, inline)?.net.conns().len(), 1);

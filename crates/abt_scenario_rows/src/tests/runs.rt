@@ -1,4 +1,5 @@
 //! Runs from text to report. Each row gives events and, beside each, what it has to answer, and then how the net has to stand.
+mod capacities;
 mod cells;
 mod requests;
 mod streams;

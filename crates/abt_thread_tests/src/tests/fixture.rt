@@ -15,7 +15,7 @@ use abt_node::Port;
 use abt_ports::{Gate, OpenGate, PortCell};
 use abt_rate::Rate;
 use abt_relay::{AnswerBox, ThreadPlan};
-use abt_script::{Command, Script};
+use abt_script::{Command, Operation, Script};
 use abt_source_journal::SourceEntry;
 use abt_threads::{Gathered, RunFault, run_threads};
 use std::alloc::Global;
@@ -119,10 +119,23 @@ pub(super) fn ran_at<R: Threads + Wait + Sync, G: Gate + Sync>(
     plan: ThreadPlan,
     gate: &G,
 ) -> Result<Gathered, RunFault> {
+    ran_beside(rt, alloc, net, all, &[], plan, gate)
+}
+
+/// The same beside an operator with this list.
+pub(super) fn ran_beside<R: Threads + Wait + Sync, G: Gate + Sync>(
+    rt: &R,
+    alloc: Global,
+    net: &Net,
+    all: &[&[Command]],
+    operations: &[Operation],
+    plan: ThreadPlan,
+    gate: &G,
+) -> Result<Gathered, RunFault> {
     let Some(scripts) = scripts(alloc, all) else {
         return Err(RunFault::Memory);
     };
-    run_threads(rt, alloc, net, &scripts, plan, gate)
+    run_threads(rt, alloc, net, &scripts, operations, plan, gate)
 }
 
 /// The first request that a source without a rate makes.

@@ -1,5 +1,5 @@
 //! The journals of a net, as lists that tests change, and those that events project to.
-use super::parts::{own, visited};
+use super::parts::{Visit, own, visited, visited_alone};
 use abt_journal::{Entry, PortInput, PortReply};
 use abt_list::Sequence;
 use abt_node::Onward;
@@ -8,6 +8,9 @@ use abt_source_journal::{SourceEntry, SourceJournal};
 use abt_walk::walk::Walk;
 use abt_world::{Event, Net, Outcome};
 use std::alloc::{AllocError, Global};
+
+/// Who has capacities set. (Callers aren't compared.)
+const OPERATOR: u16 = 64;
 
 /// The journals of all ports and of all sources of a net.
 #[derive(Debug, Drop)]
@@ -47,6 +50,19 @@ fn add_entry(ports: &mut Vec<Vec<Entry>>, port: u16, entry: Entry) -> Result<(),
     Ok(())
 }
 
+// The entry that a visit makes, and its place.
+fn add_visit(ports: &mut Vec<Vec<Entry>>, caller: u16, visit: &Visit) -> Result<u64, AllocError> {
+    let place = length_of(ports.as_slice(), visit.port);
+    let entry = Entry {
+        place,
+        caller,
+        input: visit.input,
+        reply: visit.reply,
+    };
+    add_entry(ports, visit.port, entry)?;
+    Ok(place)
+}
+
 fn add_own(
     sources: &mut Vec<Vec<SourceEntry>>,
     conn: u16,
@@ -70,6 +86,10 @@ pub fn project(alloc: Global, net: &Net, events: &[Event]) -> Result<Books, Allo
     let mut books = blank(alloc, net)?;
     for event in events {
         let Some(number) = event.conn() else {
+            let outcome = walk.step(alloc, event)?;
+            if let Some(visit) = visited_alone(event, &outcome) {
+                add_visit(&mut books.ports, OPERATOR, &visit)?;
+            }
             continue;
         };
         let facts = walk.facts_of(alloc, number)?;
@@ -78,14 +98,7 @@ pub fn project(alloc: Global, net: &Net, events: &[Event]) -> Result<Books, Allo
         let visit = conn.and_then(|conn| visited(conn, &facts, event, &outcome));
         let mut place = 0;
         if let Some(visit) = visit {
-            place = length_of(books.ports.as_slice(), visit.port);
-            let entry = Entry {
-                place,
-                caller: number,
-                input: visit.input,
-                reply: visit.reply,
-            };
-            add_entry(&mut books.ports, visit.port, entry)?;
+            place = add_visit(&mut books.ports, number, &visit)?;
         }
         if let Some(entry) = own(event, &outcome, place) {
             add_own(&mut books.sources, number, entry)?;

@@ -12,7 +12,7 @@ fn seq_of(entry: &Entry) -> Option<u32> {
     match entry.input {
         PortInput::Request(request) => Some(request.seq()),
         PortInput::Answer(answer) => Some(answer.seq()),
-        PortInput::Arrive { .. } => None,
+        PortInput::Arrive { .. } | PortInput::Capacity(_) => None,
     }
 }
 
@@ -37,11 +37,23 @@ fn coming(conn: u16, hop: u16, input: &PortInput) -> Option<Event> {
             seq: answer.seq(),
             granted: answer.granted(),
         }),
-        PortInput::Arrive { .. } => None,
+        PortInput::Arrive { .. } | PortInput::Capacity(_) => None,
     }
 }
 
+// A capacity that is named, at each port.
+fn add_capacity(events: &mut Vec<Event>, net: &Net, capacity: u64) -> Result<(), AllocError> {
+    for (place, _) in net.capacities().iter().enumerate() {
+        let port = number(place);
+        add(events, Event::Capacity { port, capacity })?;
+    }
+    Ok(())
+}
+
 fn add_coming(events: &mut Vec<Event>, net: &Net, entry: &Entry) -> Result<(), AllocError> {
+    if let PortInput::Capacity(capacity) = entry.input {
+        return add_capacity(events, net, capacity);
+    }
     for (place, conn) in net.conns().iter().enumerate() {
         for hop in 0..number(conn.path.len()) {
             let hop = hop.saturating_add(1);

@@ -3,7 +3,7 @@ use abt_cell::{Answer, Request, Vc};
 use abt_gcra::Verdict;
 use abt_journal::{Entry, PortInput, PortReply};
 use abt_keep::StorePlan;
-use abt_node::{ArriveFault, Back, DropCause, Onward};
+use abt_node::{ArriveFault, Back, CapacityFault, DropCause, Onward};
 use abt_rate::Rate;
 use abt_shaper::ShapeFault;
 use abt_source::{AskFault, StartFault};
@@ -75,6 +75,7 @@ fn input(draws: &mut Draws, same: &PortInput) -> PortInput {
             vc,
             at: nudged(draws, at),
         },
+        PortInput::Capacity(capacity) => PortInput::Capacity(nudged(draws, capacity)),
     }
 }
 
@@ -98,6 +99,14 @@ fn arrival(draws: &mut Draws) -> Result<Verdict, ArriveFault> {
     }
 }
 
+fn capping(draws: &mut Draws) -> Result<(), CapacityFault> {
+    match draws.below(3) {
+        0 => Ok(()),
+        1 => Err(CapacityFault::BelowSum),
+        _ => Err(CapacityFault::AboveLimit),
+    }
+}
+
 // Mostly a reply to an input of this kind.
 fn reply(draws: &mut Draws, given: &PortInput) -> PortReply {
     match *given {
@@ -113,6 +122,7 @@ fn reply(draws: &mut Draws, given: &PortInput) -> PortReply {
             _ => PortReply::Answered(Back::Drop(drop_cause(draws))),
         },
         PortInput::Arrive { .. } => PortReply::Arrived(arrival(draws)),
+        PortInput::Capacity(_) => PortReply::Capped(capping(draws)),
     }
 }
 

@@ -54,6 +54,23 @@ pub fn visited(conn: &Conn, facts: &[Fact], event: &Event, outcome: &Outcome) ->
     }
 }
 
+/// What an event of a port alone is to that port, if it happens.
+pub fn visited_alone(event: &Event, outcome: &Outcome) -> Option<Visit> {
+    let Event::Capacity { port, capacity } = *event else {
+        return None;
+    };
+    let answer = match *outcome {
+        Outcome::CapacitySet => Ok(()),
+        Outcome::CapacityRefused(fault) => Err(fault),
+        _ => return None,
+    };
+    Some(Visit {
+        port,
+        input: PortInput::Capacity(capacity),
+        reply: PortReply::Capped(answer),
+    })
+}
+
 /// What an event is to its source. The place is that of the entry that the same event makes at a port, if it makes one.
 pub fn own(event: &Event, outcome: &Outcome, place: u64) -> Option<SourceEntry> {
     let happens = !matches!(*outcome, Outcome::NotEnabled(_));

@@ -1,6 +1,6 @@
 //! Events that are placed before journals, one after the other, and what may come next (docs/THREADS.md).
 use super::books::{Books, length_of};
-use super::parts::{Visit, own, visited};
+use super::parts::{Visit, own, visited, visited_alone};
 use abt_journal::{Entry, PortInput, PortReply};
 use abt_node::Onward;
 use abt_source_journal::SourceEntry;
@@ -89,10 +89,7 @@ impl<'net> Placing<'net> {
         // Names a type within an outcome, without which the checker can't follow one.
         let _ = Onward::Pass;
         let Some(number) = event.conn() else {
-            return Ok(Parts {
-                visit: None,
-                own: None,
-            });
+            return self.parts_alone(alloc, event);
         };
         let facts = self.walk.facts_of(alloc, number)?;
         let before = self.walk.count();
@@ -109,6 +106,19 @@ impl<'net> Placing<'net> {
             None => None,
         };
         Ok(Parts { visit, own })
+    }
+
+    // The same of an event of a port alone.
+    fn parts_alone(&mut self, alloc: Global, event: &Event) -> Result<Parts, AllocError> {
+        // Names a type within an outcome, without which the checker can't follow one.
+        let _ = Onward::Pass;
+        let before = self.walk.count();
+        let outcome = self.walk.step(alloc, event)?;
+        self.walk.take_back(before);
+        Ok(Parts {
+            visit: visited_alone(event, &outcome),
+            own: None,
+        })
     }
 
     fn next_step(&self, books: &Books, port: u16) -> Option<Entry> {

@@ -6,14 +6,14 @@ use Rattle.abt_perform_threads.proofs.performing.carry_out.Goals as goal
 pub returns-in-Err-clause-err : goal.returns-in-Err-clause-err
 returns-in-Err-clause-err g c =
     let scenario = c.in_ok-unrun.unrun in
-    let exact : IsExact c.args.workers scenario c.show_run.result = record { by_workers = c.show_run.ensures.workers; by_scripts = c.show_run.ensures.scripts } in
+    let exact : IsExact c.args.workers scenario c.show_run.result = record { by_workers = c.show_run.ensures.workers; by_scripts = c.show_run.ensures.scripts; by_operator = c.show_run.ensures.operator } in
     let ends = ends_run c.args.workers scenario c.in-Err.fault (rw c.in-Err.is at exact) in
     inr (record { scenario = scenario; read = c.in_ok-unrun.ensures.ok; ends = inl (rw c.fault_of_run.ensures ends, c.in-Err.ensures.silent) })
 
 pub returns-in-Ok-judged-clause-shown : goal.returns-in-Ok-judged-clause-shown
 returns-in-Ok-judged-clause-shown g c =
     let scenario = c.in_ok-unrun.unrun in
-    let exact : IsExact c.args.workers scenario c.show_run.result = record { by_workers = c.show_run.ensures.workers; by_scripts = c.show_run.ensures.scripts } in
+    let exact : IsExact c.args.workers scenario c.show_run.result = record { by_workers = c.show_run.ensures.workers; by_scripts = c.show_run.ensures.scripts; by_operator = c.show_run.ensures.operator } in
     record {
       scenario = scenario;
       read = c.in_ok-unrun.ensures.ok;
@@ -27,7 +27,7 @@ returns-in-Ok-judged-clause-shown g c =
 pub returns-clause-err : goal.returns-clause-err
 returns-clause-err g c =
     let scenario = c.in_ok-unrun.unrun in
-    let exact : IsExact c.args.workers scenario c.show_run.result = record { by_workers = c.show_run.ensures.workers; by_scripts = c.show_run.ensures.scripts } in
+    let exact : IsExact c.args.workers scenario c.show_run.result = record { by_workers = c.show_run.ensures.workers; by_scripts = c.show_run.ensures.scripts; by_operator = c.show_run.ensures.operator } in
     inr (record {
       scenario = scenario;
       read = c.in_ok-unrun.ensures.ok;

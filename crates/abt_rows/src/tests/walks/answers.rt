@@ -1,7 +1,7 @@
 //! Which answers generated lists have: each that an event of a net can get is among them.
 use super::lists::EVENTS;
 use abt_gcra::Verdict;
-use abt_node::{Back, DropCause, Onward};
+use abt_node::{Back, CapacityFault, DropCause, Onward};
 use abt_shaper::ShapeFault;
 use abt_source::{AskFault, StartFault};
 use abt_walk::drawn::{Walked, generated};
@@ -12,7 +12,7 @@ use std::test::Fail;
 
 /// The answers that an event of a net can get, by docs/FORMATS.md, "Events and outcomes". Some are left out: 2^32 asks would be
 /// needed for `SeqExhausted`, and the headline rules out `Conflict`, `FloorAbove`, `TooEarly` and `NoRate`.
-const ANSWERS: [(&str, &str); 46] = [
+const ANSWERS: [(&str, &str); 50] = [
     ("start", "Started"),
     ("start", "TimeRange"),
     ("start", "Unknown"),
@@ -59,6 +59,10 @@ const ANSWERS: [(&str, &str); 46] = [
     ("told", "Ignored"),
     ("told", "Unknown"),
     ("told", "NotSent"),
+    ("capacity", "set"),
+    ("capacity", "BelowSum"),
+    ("capacity", "AboveLimit"),
+    ("capacity", "Unknown"),
 ];
 
 fn kind(event: &Event) -> &'static str {
@@ -73,6 +77,7 @@ fn kind(event: &Event) -> &'static str {
         Event::Turn { .. } => "turn",
         Event::Answer { .. } => "answer",
         Event::Told { .. } => "told",
+        Event::Capacity { .. } => "capacity",
     }
 }
 
@@ -99,6 +104,9 @@ fn name(outcome: &Outcome) -> &'static str {
         Outcome::Told(Heard::Raised) => "Raised",
         Outcome::Told(Heard::Refused) => "Refused",
         Outcome::Told(Heard::Ignored) => "Ignored",
+        Outcome::CapacitySet => "set",
+        Outcome::CapacityRefused(CapacityFault::BelowSum) => "BelowSum",
+        Outcome::CapacityRefused(CapacityFault::AboveLimit) => "AboveLimit",
         Outcome::NotEnabled(cause) => cause_name(*cause),
     }
 }

@@ -1,7 +1,7 @@
 //! Generated lists of 200 events.
 use super::{agrees, stands};
 use abt_walk::drawn::{Walked, generated};
-use abt_walk::nets::{lone, meshed, shared};
+use abt_walk::nets::{lone, meshed, shared, spare};
 use abt_walk::walk::Walk;
 use abt_world::{Net, Outcome, World, run};
 use std::alloc::Global;
@@ -93,6 +93,13 @@ fn more_runs_of_five_connections_answer_what_a_slow_walk_does(rt: HostRuntime) -
     follow(&rt, rt.alloc(), &meshed(rt.alloc())?, 5001)
 }
 
+#[test]
+fn runs_beside_a_port_without_a_path_answer_what_a_slow_walk_does(
+    rt: HostRuntime,
+) -> Result<(), Fail> {
+    follow(&rt, rt.alloc(), &spare(rt.alloc())?, 7001)
+}
+
 // Carries a world through a list, and looks at it after each event.
 fn looks(rt: &impl Abort, alloc: Global, net: &Net, seed: u64) -> Result<(), Fail> {
     let walked = generated(alloc, net, seed, EVENTS)?;
@@ -109,7 +116,12 @@ fn looks(rt: &impl Abort, alloc: Global, net: &Net, seed: u64) -> Result<(), Fai
 
 #[test]
 fn a_world_stands_after_each_event_as_a_slow_walk_does(rt: HostRuntime) -> Result<(), Fail> {
-    let nets = [lone(rt.alloc())?, shared(rt.alloc())?, meshed(rt.alloc())?];
+    let nets = [
+        lone(rt.alloc())?,
+        shared(rt.alloc())?,
+        meshed(rt.alloc())?,
+        spare(rt.alloc())?,
+    ];
     for net in &nets {
         for seed in 6001..=6005 {
             looks(&rt, rt.alloc(), net, seed)?;

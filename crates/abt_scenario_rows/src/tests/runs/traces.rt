@@ -19,7 +19,8 @@ fn held_alone(alloc: Global, rate: Rate) -> Result<Sequence<Sequence<Rate>>, All
     Ok(held)
 }
 
-/// The first event was behind a fence, and a source shapes at 600 cells per second where 400 are held for it.
+/// The first event was behind a fence, and a source shapes at 600 cells per second where 400 are held for it. In the end the link has
+/// another capacity than the net gives it.
 fn unsafe_trace(alloc: Global) -> Result<Trace, AllocError> {
     let low = Rate::at_most(204_800);
     let high = Rate::at_most(307_200);
@@ -29,6 +30,7 @@ fn unsafe_trace(alloc: Global) -> Result<Trace, AllocError> {
         rates: sequence(alloc, &[high])?,
         held: held_alone(alloc, low)?,
         totals: sequence(alloc, &[204_800])?,
+        capacities: sequence(alloc, &[409_600])?,
         safe: false,
     })
 }
@@ -48,7 +50,7 @@ fn a_trace_that_is_not_safe_is_reported_so(rt: HostRuntime) -> Result<(), Fail> 
     assert_eq!(rt;
         text.as_str(),
         "events 1\n1 not-enabled Fenced\nconnection 0 rate 5258 held 5120\n\
-        port 0 total 204800 capacity 512000\nunsafe\n"
+        port 0 total 204800 capacity 409600\nunsafe\n"
     );
     Ok(())
 }

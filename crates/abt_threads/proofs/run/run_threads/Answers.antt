@@ -1,4 +1,4 @@
-use Rattle.std.proofs.Common.{rules, ◌≡◌, ◌≤◌, ◌++◌, length, arith}
+use Rattle.std.proofs.Common.{rules, ◌≡◌, ◌≤◌, ◌++◌, ◌∷◌, [], length, arith}
 use Rattle.abt_threads.specs.Runs.{ScriptsFit}
 use Rattle.abt_threads.proofs.Fitting.{fits_length}
 use Rattle.abt_threads.proofs.Ended.{ended}
@@ -14,6 +14,7 @@ run_workers-requires-clause-callers g c κs within =
 pub returns-clause-ok : goal.returns-clause-ok
 returns-clause-ok g c =
     let fit : ScriptsFit c.args.net.now.conns c.args.scripts.now = search rules in
-    let joined : c.in_ok-seats.seats.items ≡ c.in_ok-accesses.field-0.accesses.items ++ c.in_ok-accesses.field-0.links.items = search rules in
-    ended c.args.net.now c.args.scripts.now c.args.plan.workers c.in_ok-accesses.field-0 c.in_ok-seats.seats.items c.in_ok-journals.journals fit c.in_ok-accesses.ensures.worked joined
+    let worked = c.in_ok-accesses.field-0 in
+    let joined : c.in_ok-seats.seats.items ≡ (worked.accesses.items ++ worked.links.items) ++ worked.operator ∷ [] = search rules in
+    ended c.args.net.now c.args.scripts.now c.args.operations.now c.args.plan.workers c.in_ok-accesses.field-0 c.in_ok-seats.seats.items c.in_ok-journals.journals fit c.in_ok-accesses.ensures.worked joined
     c.in_ok-journals.ensures.histories c.in_ok-journals.ensures.receipts

@@ -14,18 +14,18 @@ pub returns-in_err-stop-clause-only : goal.returns-in_err-stop-clause-only
 returns-in_err-stop-clause-only c = λ event comes.
     let net = c.args.given.now.net.now in
     let js = journaled c.args.given.now.ports.now c.args.given.now.sources.now in
-    let stop = comes_stop net js (reverse c.args.board.now.events.items) c.args.port c.args.entry.now.place c.args.entry.now.input c.channel_of.result event c.channel_of.ensures comes in
+    let stop = comes_stop net js (reverse c.args.board.now.events.items) c.args.port c.args.entry.now.place c.args.entry.now.input event comes in
     let clash = c.in_err-stop.ensures.only comes.c (hop_visited event) stop in
     absurd (cc)
 
 pub bounds-given-c : goal.bounds-given-c
 bounds-given-c c =
-    let low = stop_low c.args.given.now.net.now c.channel_of.result c.args.port c.in_ok-stop.stop.conn c.in_ok-stop.stop.hop c.in_ok-stop.ensures.some in
+    let low = stop_low c.args.given.now.net.now c.args.entry.now.input c.args.port c.in_ok-stop.stop.conn c.in_ok-stop.stop.hop c.in_ok-stop.ensures.some in
     subst (λ n. n < length c.args.given.now.sources.now) (sym c.from-c.ensures) (subst (λ n. c.in_ok-stop.stop.conn < n) (sym c.requires.conns) low)
 
 pub index-come-requires : goal.index-come-requires
 index-come-requires c =
-    let low = stop_low c.args.given.now.net.now c.channel_of.result c.args.port c.in_ok-stop.stop.conn c.in_ok-stop.stop.hop c.in_ok-stop.ensures.some in
+    let low = stop_low c.args.given.now.net.now c.args.entry.now.input c.args.port c.in_ok-stop.stop.conn c.in_ok-stop.stop.hop c.in_ok-stop.ensures.some in
     let here : c.from-c.result < length c.args.given.now.sources.now = subst (λ n. n < length c.args.given.now.sources.now) (sym c.from-c.ensures) (subst (λ n. c.in_ok-stop.stop.conn < n) (sym c.requires.conns) low) in
     let there : c.from-c.result < length c.args.board.now.source_places.items = subst (λ n. c.from-c.result < n) (sym c.requires.board.source_count) here in
     search rules
@@ -33,7 +33,7 @@ index-come-requires c =
 pub slice_bounds-event_of-end : goal.slice_bounds-event_of-end
 slice_bounds-event_of-end c =
     let net = c.args.given.now.net.now in
-    let low = stop_low net c.channel_of.result c.args.port c.in_ok-stop.stop.conn c.in_ok-stop.stop.hop c.in_ok-stop.ensures.some in
+    let low = stop_low net c.args.entry.now.input c.args.port c.in_ok-stop.stop.conn c.in_ok-stop.stop.hop c.in_ok-stop.ensures.some in
     let here : c.from-c.result < length c.args.given.now.sources.now = subst (λ n. n < length c.args.given.now.sources.now) (sym c.from-c.ensures) (subst (λ n. c.in_ok-stop.stop.conn < n) (sym c.requires.conns) low) in
     let beside = beside_read net c.args.given.now.ports.now c.args.given.now.sources.now c.args.board.now.events.items c.args.board.now.world c.args.board.now.source_places.items c.args.board.now.port_places.items
     c.from-c.result c.index-given-c.result c.as_slice-entries.result.now c.index-come.result.now c.requires.board here c.index-given-c.is c.as_slice-entries.ensures c.index-come.ensures in
@@ -43,24 +43,24 @@ pub returns-clause-some : goal.returns-clause-some
 returns-clause-some c =
     let net = c.args.given.now.net.now in
     let js = journaled c.args.given.now.ports.now c.args.given.now.sources.now in
-    let low = stop_low net c.channel_of.result c.args.port c.in_ok-stop.stop.conn c.in_ok-stop.stop.hop c.in_ok-stop.ensures.some in
+    let low = stop_low net c.args.entry.now.input c.args.port c.in_ok-stop.stop.conn c.in_ok-stop.stop.hop c.in_ok-stop.ensures.some in
     let here : c.from-c.result < length c.args.given.now.sources.now = subst (λ n. n < length c.args.given.now.sources.now) (sym c.from-c.ensures) (subst (λ n. c.in_ok-stop.stop.conn < n) (sym c.requires.conns) low) in
     let beside = beside_read net c.args.given.now.ports.now c.args.given.now.sources.now c.args.board.now.events.items c.args.board.now.world c.args.board.now.source_places.items c.args.board.now.port_places.items
     c.from-c.result c.index-given-c.result c.as_slice-entries.result.now c.index-come.result.now c.requires.board here c.index-given-c.is c.as_slice-entries.ensures c.index-come.ensures in
     let at = port_at net c.args.given.now.ports.now c.args.given.now.sources.now c.args.board.now.events.items c.args.board.now.world c.args.board.now.source_places.items c.args.board.now.port_places.items c.args.port c.requires.board c.requires.port in
-    coming_found net js (reverse c.args.board.now.events.items) c.args.port c.in_ok-stop.stop.conn c.in_ok-stop.stop.hop c.from-c.result c.args.entry.now.place c.args.entry.now.input c.channel_of.result
-    c.as_slice-entries.result.now c.index-come.result.now c.in_ok-event.event c.in_ok-stop.ensures.some c.channel_of.ensures c.from-c.ensures beside (c.if-entry-place.false ∙ c.requires.place ∙ at)
+    coming_found net js (reverse c.args.board.now.events.items) c.args.port c.in_ok-stop.stop.conn c.in_ok-stop.stop.hop c.from-c.result c.args.entry.now.place c.args.entry.now.input
+    c.as_slice-entries.result.now c.index-come.result.now c.in_ok-event.event c.in_ok-stop.ensures.some c.from-c.ensures beside (c.if-entry-place.false ∙ c.requires.place ∙ at)
     (c.in_ok-event.ensures ∙ ap (event_by c.in_ok-stop.stop.conn c.in_ok-stop.stop.hop c.args.entry.now.place c.args.entry.now.input (reverse (take c.index-come.result.now c.as_slice-entries.result.now))) c.entry_at.ensures)
 
 pub returns-clause-only : goal.returns-clause-only
 returns-clause-only c = λ event comes.
     let net = c.args.given.now.net.now in
     let js = journaled c.args.given.now.ports.now c.args.given.now.sources.now in
-    let low = stop_low net c.channel_of.result c.args.port c.in_ok-stop.stop.conn c.in_ok-stop.stop.hop c.in_ok-stop.ensures.some in
+    let low = stop_low net c.args.entry.now.input c.args.port c.in_ok-stop.stop.conn c.in_ok-stop.stop.hop c.in_ok-stop.ensures.some in
     let here : c.from-c.result < length c.args.given.now.sources.now = subst (λ n. n < length c.args.given.now.sources.now) (sym c.from-c.ensures) (subst (λ n. c.in_ok-stop.stop.conn < n) (sym c.requires.conns) low) in
     let beside = beside_read net c.args.given.now.ports.now c.args.given.now.sources.now c.args.board.now.events.items c.args.board.now.world c.args.board.now.source_places.items c.args.board.now.port_places.items
     c.from-c.result c.index-given-c.result c.as_slice-entries.result.now c.index-come.result.now c.requires.board here c.index-given-c.is c.as_slice-entries.ensures c.index-come.ensures in
-    let stop = comes_stop net js (reverse c.args.board.now.events.items) c.args.port c.args.entry.now.place c.args.entry.now.input c.channel_of.result event c.channel_of.ensures comes in
+    let stop = comes_stop net js (reverse c.args.board.now.events.items) c.args.port c.args.entry.now.place c.args.entry.now.input event comes in
     let same = c.in_ok-stop.ensures.only comes.c (hop_visited event) stop in
     let whose : c.in_ok-stop.stop.conn ≡ comes.c = ap (λ (s : Stop). s.conn) (some_same same) in
     let hops : c.in_ok-stop.stop.hop ≡ hop_visited event = ap (λ (s : Stop). s.hop) (some_same same) in
@@ -74,11 +74,11 @@ pub returns-in_err-event-clause-only : goal.returns-in_err-event-clause-only
 returns-in_err-event-clause-only c = λ event comes.
     let net = c.args.given.now.net.now in
     let js = journaled c.args.given.now.ports.now c.args.given.now.sources.now in
-    let low = stop_low net c.channel_of.result c.args.port c.in_ok-stop.stop.conn c.in_ok-stop.stop.hop c.in_ok-stop.ensures.some in
+    let low = stop_low net c.args.entry.now.input c.args.port c.in_ok-stop.stop.conn c.in_ok-stop.stop.hop c.in_ok-stop.ensures.some in
     let here : c.from-c.result < length c.args.given.now.sources.now = subst (λ n. n < length c.args.given.now.sources.now) (sym c.from-c.ensures) (subst (λ n. c.in_ok-stop.stop.conn < n) (sym c.requires.conns) low) in
     let beside = beside_read net c.args.given.now.ports.now c.args.given.now.sources.now c.args.board.now.events.items c.args.board.now.world c.args.board.now.source_places.items c.args.board.now.port_places.items
     c.from-c.result c.index-given-c.result c.as_slice-entries.result.now c.index-come.result.now c.requires.board here c.index-given-c.is c.as_slice-entries.ensures c.index-come.ensures in
-    let stop = comes_stop net js (reverse c.args.board.now.events.items) c.args.port c.args.entry.now.place c.args.entry.now.input c.channel_of.result event c.channel_of.ensures comes in
+    let stop = comes_stop net js (reverse c.args.board.now.events.items) c.args.port c.args.entry.now.place c.args.entry.now.input event comes in
     let same = c.in_ok-stop.ensures.only comes.c (hop_visited event) stop in
     let whose : c.in_ok-stop.stop.conn ≡ comes.c = ap (λ (s : Stop). s.conn) (some_same same) in
     let hops : c.in_ok-stop.stop.hop ≡ hop_visited event = ap (λ (s : Stop). s.hop) (some_same same) in

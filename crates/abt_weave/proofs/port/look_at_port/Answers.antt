@@ -41,8 +41,8 @@ expect_event-requires-clause-next c =
     let low : c.index-place.result.now < length c.as_slice-entries.result.now = omega arith in
     read.0 ∙ step_at_place c.as_slice-entries.result.now c.index-place.result.now c.index-entries-place.result low c.index-entries-place.is
 
-pub returns-in_default : goal.returns-in_default
-returns-in_default c =
+pub returns-in_default-expect_event : goal.returns-in_default-expect_event
+returns-in_default-expect_event c =
     let net = c.args.given.now.net.now in
     let ports = c.args.given.now.ports.now in
     let sources = c.args.given.now.sources.now in
@@ -54,7 +54,7 @@ returns-in_default c =
     c.from-p.ensures c.requires.port c.index-given-p.is c.as_slice-entries.ensures.value c.index-place.ensures in
     let low : c.index-place.result.now < length c.as_slice-entries.result.now = omega arith in
     let next = read.0 ∙ step_at_place c.as_slice-entries.result.now c.index-place.result.now c.index-entries-place.result low c.index-entries-place.is in
-    (c.requires.board, refl, refl, none_settled net js c.in_default.ensures.rules (reverse events) c.args.port c.index-entries-place.result next (c.in_default.ensures.none refl))
+    (c.requires.board, refl, refl, none_settled net js c.in_default-expect_event.ensures.rules (reverse events) c.args.port c.index-entries-place.result next c.in_default.not-Capacity (c.in_default-expect_event.ensures.none refl))
 
 pub returns-in_ok-push-in-Agrees : goal.returns-in_ok-push-in-Agrees
 returns-in_ok-push-in-Agrees c =
@@ -123,3 +123,16 @@ look_after_turn-requires-clause-absent c =
     let tried = subst (λ t. IsVisitTried net events c.in-Some.it.event c.index-entries-place.result.reply c.try_visit.new.world t) is (c.in_ok-try_visit.ensures net events c.requires.board.stands) in
     let same = c.in_ok-reserve.ensures.items in
     subst (λ l. is_enabled (outcome_of net (facts_after net l) c.in-Some.it.event) ≡ false) (sym same) tried.0
+
+pub look_at_capacity-requires-clause-next : goal.look_at_capacity-requires-clause-next
+look_at_capacity-requires-clause-next c =
+    let net = c.args.given.now.net.now in
+    let ports = c.args.given.now.ports.now in
+    let sources = c.args.given.now.sources.now in
+    let events = c.args.board.now.events.items in
+    let sp = c.args.board.now.source_places.items in
+    let pp = c.args.board.now.port_places.items in
+    let read = step_read net ports sources events c.args.board.now.world sp pp c.args.port c.from-p.result c.index-given-p.result c.as_slice-entries.result.now c.index-place.result.now c.requires.board
+    c.from-p.ensures c.requires.port c.index-given-p.is c.as_slice-entries.ensures.value c.index-place.ensures in
+    let low : c.index-place.result.now < length c.as_slice-entries.result.now = omega arith in
+    read.0 ∙ step_at_place c.as_slice-entries.result.now c.index-place.result.now c.index-entries-place.result low c.index-entries-place.is

@@ -8,7 +8,7 @@ use Rattle.abt_world.specs.Seen.{seen}
 use Rattle.abt_safety.specs.Holding.{held_by_port}
 use Rattle.abt_world.specs.Standing.{WorldView, StandsFor}
 use Rattle.abt_world.proofs.Standings.{headline_before}
-use Rattle.abt_world.proofs.Final.{AreOfPast, rates_read, held_read, totals_read}
+use Rattle.abt_world.proofs.Final.{AreOfPast, rates_read, held_read, totals_read, capacities_read}
 use Rattle.abt_world.proofs.world.World.end.Goals as goal
 
 pub returns-clause-trace : goal.returns-clause-trace
@@ -26,6 +26,7 @@ returns-clause-trace c net events stands said =
       rates = c.in_ok-rates_of.ensures ∙ ap (map (λ (course : Course). course.actor.source.rate)) c.deref.ensures.value ∙ rates_read net events courses ports are;
       held = c.in_ok-held_of.ensures ∙ ap (read c.conns.result.now) c.deref-2.ensures.value ∙ ap (λ ks. read ks ports) conns ∙ held_read net events courses ports are;
       totals = c.in_ok-totals_of.ensures ∙ ap (map sum_of) c.deref-3.ensures.value ∙ totals_read net events courses ports are;
+      capacities = c.in_ok-capacities_of.ensures ∙ ap (map (λ (table : Table). table.capacity)) c.deref-4.ensures.value ∙ capacities_read net events courses ports are;
       safe = c.safe.ensures.value net events stands;
     }
 

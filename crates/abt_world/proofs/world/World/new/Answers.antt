@@ -2,6 +2,7 @@ use Rattle.std.proofs.Common.{[], map, ap, ◌∙◌}
 use Rattle.abt_net.specs.declared.conn.Conn.{Conn}
 use Rattle.abt_world.specs.Courses.{course_of}
 use Rattle.abt_world.proofs.Beginning.{AreFresh, fresh_stands, fresh_number, fresh_tallied}
+use Rattle.abt_world.proofs.Standings.{port_count}
 use Rattle.abt_world.proofs.world.World.new.Goals as goal
 
 pub invariant_of-result : goal.invariant_of-result
@@ -13,7 +14,7 @@ invariant_of-result c =
       tables = c.in_ok-ports.ensures;
       fresh = c.in_ok-courses.ensures ∙ ap (map (λ (conn : Conn). course_of conn.vc [])) c.conns.ensures.value;
     } in
-    (fresh_number net ports courses fresh, c.conns.ensures.rules, fresh_tallied net ports courses c.none.result c.conns.ensures.rules fresh c.none.ensures.above c.none.ensures.over c.none.ensures.broken)
+    (fresh_number net ports courses fresh, c.conns.ensures.rules, fresh_tallied net ports courses c.none.result c.conns.ensures.rules fresh c.none.ensures.above c.none.ensures.over c.none.ensures.broken, port_count net [] ports c.in_ok-ports.ensures)
 
 pub returns-clause-value : goal.returns-clause-value
 returns-clause-value c =
