@@ -2,6 +2,7 @@
 //! threads come.
 mod faults;
 mod lines;
+mod losses;
 mod memory;
 mod once;
 mod parcels;

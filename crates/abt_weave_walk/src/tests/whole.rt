@@ -9,10 +9,10 @@ use std::process::Abort;
 use std::test::Fail;
 
 /// How many lists of events there are of a net.
-const LISTS: u64 = 67;
+const LISTS: u64 = 1000;
 
 /// The events of a list.
-const EVENTS: u64 = 100;
+const EVENTS: u64 = 200;
 
 fn is_enabled(outcome: &Outcome) -> bool {
     !matches!(*outcome, Outcome::NotEnabled(_))
