@@ -1,10 +1,15 @@
-use Rattle.std.proofs.Common.{rules, ◌≡◌}
-use Rattle.abt_ports.proofs.Counts.{same_caller}
+use Rattle.std.proofs.Common.{rules, ◌≡◌, ◌≤◌, length, sym, subst, ◌∙◌}
+use Rattle.abt_ports.proofs.Marks.{AreMarked, marks_begin, marks_stop, marks_go}
 use Rattle.abt_ports.proofs.looks.receipts.callers_differ.Goals as goal
 
-pub returns-then-caller : goal.returns-then-caller
-returns-then-caller c =
-    let same : c.index-seats-before.result.caller ≡ c.index-seats-place.result.caller = search rules in
-    let both = same_caller c.args.seats.now c.loop-before.before c.loop-place.place c.index-seats-before.result c.index-seats-place.result c.loop-before-test.true c.loop-place-test.true
-    c.index-seats-before.is c.index-seats-place.is same in
-    (search rules, λ distinct. absurd (both distinct))
+pub loop-seat-init : goal.loop-seat-init
+loop-seat-init c = ?
+
+pub returns-then-taken-caller : goal.returns-then-taken-caller
+returns-then-taken-caller c = ?
+
+pub loop-seat-preserved : goal.loop-seat-preserved
+loop-seat-preserved c = ?
+
+pub returns : goal.returns
+returns c = (λ yes i j d order below. c.loop-seat.invariant.distinct i j d order (omega (arith, below, c.loop-seat-test.false)), λ distinct. ?)
