@@ -14,6 +14,7 @@ DOCUMENTS = [
     "docs/READING.md",
     "docs/SCENARIOS.md",
     "docs/THREADS.md",
+    "docs/C.md",
     "docs/TESTING.md",
     "docs/DECISIONS.md",
 ]

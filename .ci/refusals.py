@@ -4,7 +4,7 @@ A run with an allocation refused has to end as one without (the C library can do
 `fault: memory` on standard error and nothing on standard output. Of `abt threads` the lines before may stay, and a thread that isn't
 started for want of memory is `fault: Thread`; its allocations come in no fixed order, so of these only some are tried.
 
-usage: refusals.py [PROGRAM]    of this program, else the one that `./abt` builds
+usage: refusals.py [PROGRAM]    of this program, else the one that `./abt --prove` makes
 """
 import os
 import shutil
@@ -117,7 +117,7 @@ def main(program):
 
 def built():
     """The program itself: `./abt` is a script, whose shell would be refused memory first."""
-    subprocess.run([ROOT / "abt", "rate", "0000"], stdout=subprocess.DEVNULL, check=True)
+    subprocess.run([ROOT / "abt", "--prove"], stdout=subprocess.DEVNULL, check=True)
     return ROOT / "crates" / "abt" / "out" / "abt"
 
 

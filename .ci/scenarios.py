@@ -6,7 +6,7 @@ has to print, NAME.toml.stderr what it has to tell (nothing, if the file isn't t
 scenarios/model has to say the same of each sample, and of stories that were worked out by hand. What no file can show is made here: a
 text that is too long, a file that isn't there, an output that takes nothing, and words that are refused.
 
-usage: scenarios.py [PROGRAM..]    as each of these programs prints it, else `./abt`, which proves and builds it where need be
+usage: scenarios.py [PROGRAM..]    as each of these programs prints it, else the proved program, which `./abt --prove` makes where need be
 """
 import subprocess
 import sys
@@ -114,7 +114,6 @@ def main(programs):
     found = [f"{INDEX.name} doesn't name {sample.name}" for sample in samples if f"scenarios/{sample.name}" not in index]
     found += of_model()
     for program in programs:
-        run(program, ["rate", "0000"])  # `./abt` builds the program, and says so
         told = [line for sample in samples for line in of_sample(program, sample)]
         told += of_files_and_outputs(program)
         told += of_words(program)
@@ -125,4 +124,9 @@ def main(programs):
     sys.exit(1 if found or not samples else 0)
 
 
-main([Path(word).resolve() for word in sys.argv[1:]] or [ROOT / "abt"])
+def proved():
+    subprocess.run([ROOT / "abt", "--prove"], check=True)
+    return ROOT / "crates" / "abt" / "out" / "abt"
+
+
+main([Path(word).resolve() for word in sys.argv[1:]] or [proved()])

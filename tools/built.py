@@ -7,6 +7,7 @@ FOLDER = ROOT / "crates" / "abt" / "out"
 
 
 def builds():
-    """The files of the program. `./abt` builds the first where need be; both are run past it, since it looks for newer sources each time."""
-    subprocess.run([ROOT / "abt", "rate", "0000"], stdout=subprocess.DEVNULL, check=True)
+    """The files of the proved program. `./abt --prove` makes the first where need be; both are run past the script, which looks for newer
+    sources each time."""
+    subprocess.run([ROOT / "abt", "--prove"], stdout=subprocess.DEVNULL, check=True)
     return [file for file in (FOLDER / "abt", FOLDER / "abt.by-rattle") if file.exists()]

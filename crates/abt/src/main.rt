@@ -2,15 +2,16 @@
 //! scenario, and what is shown of a run of it in threads.
 #![tactic(auto)]
 
-use abt_commands::{answer_words, carry_out, given_plan};
+use abt_commands::answer_words;
+use abt_tasks::{carry_out_task, given_task};
 use std::process::ExitCode;
 
 fn main(rt: HostRuntime) -> ExitCode {
     let mut input = rt.stdin();
     let mut out = rt.stdout();
     let mut errors = rt.stderr();
-    let status = match given_plan(&rt) {
-        Ok(plan) => carry_out(&rt, &plan, &mut input, &mut out, &mut errors),
+    let status = match given_task(&rt) {
+        Ok(task) => carry_out_task(&rt, &task, &mut input, &mut out, &mut errors),
         Err(fault) => answer_words(&fault, &mut out, &mut errors),
     };
     ExitCode::from(status)

@@ -1,5 +1,5 @@
 -- The actor that keeps a source, as contracts see it.
-use Rattle.std.specs.Prelude.{◌≡◌, ◌≢◌, ℕ, ◌+◌, ◌*◌, ◌≤◌, ◌++◌, Bool, true, false, List, IfSome}
+use Rattle.std.specs.Prelude.{◌≡◌, ◌≢◌, ℕ, ◌+◌, ◌*◌, ◌≤◌, ◌++◌, Bool, true, false, List, Option, None, Some, IfSome}
 use Rattle.abt_rate.specs.Limits.{spacing_min}
 use Rattle.abt_cell.specs.Channel.{Channel}
 use Rattle.abt_keep.specs.Record.{KeptRecord}
@@ -36,6 +36,12 @@ abbrev pub is_asking_in : SourceState → Bool
 is_asking_in Down = false
 is_asking_in Idle = false
 is_asking_in (Asking seq) = true
+
+-- the number whose answer a source waits for, if it waits for one
+abbrev pub awaited_in : SourceState → Option ℕ
+awaited_in Down = None
+awaited_in Idle = None
+awaited_in (Asking seq) = Some seq
 
 -- An actor carries out a command: after all facts that give it, it answers what the command does then, and becomes the actor of
 -- the facts with those that this adds.

@@ -1,7 +1,7 @@
 //! The actor that keeps a source.
 ghost use Rattle.std.specs.Prelude.{◌≡◌, []};
 ghost use Rattle.abt_model.specs.declared.command.SourceCommand.{SourceCommand};
-ghost use Rattle.abt_actor.specs.Actor.{actor_of, is_asking_in, CarriesOut};
+ghost use Rattle.abt_actor.specs.Actor.{actor_of, awaited_in, is_asking_in, CarriesOut};
 ghost use Rattle.abt_actor.specs.Carrying.{Carries};
 ghost use Rattle.abt_actor.specs.Facts.{facts_in};
 
@@ -97,6 +97,20 @@ impl SourceActor {
         ensures { result ≡ is_asking_in self.now.state }
     {
         matches!(self.running, Running::Asking(_))
+    }
+
+    /// The number of the request whose answer the source waits for, if it waits for one.
+    pub fn awaited(&self) -> Option<u32>
+        ensures { result ≡ awaited_in self.now.state }
+    {
+        self.running.awaited()
+    }
+
+    /// The greatest moment of a start or an emission, over restarts too, in picoseconds; 0 before the first.
+    pub fn clock(&self) -> u64
+        ensures { result ≡ self.now.clock }
+    {
+        self.clock
     }
 
     // An actor to which nothing more happened.

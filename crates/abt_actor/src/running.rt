@@ -6,6 +6,7 @@ ghost use Rattle.abt_facts.specs.declared.fact.Fact.TheVariants.{Asked, Crashed,
 ghost use Rattle.abt_rate.specs.Rate.{IsRate, spacing_of};
 ghost use Rattle.abt_source.specs.Calls.{crashed_source, has_to_write, record_to_write, result_of_emission};
 ghost use Rattle.abt_source.specs.SourceFacts.{StandsFor, stored_by};
+ghost use Rattle.abt_actor.specs.Actor.{awaited_in};
 ghost use Rattle.abt_actor.specs.Sources.{source_in, state_in, result_of_asking};
 
 use abt_cell::Request;
@@ -27,6 +28,16 @@ impl Running {
         ensures { IsTrue result ↔ (state_in self.now ≡ state.Down) }
     {
         matches!(self, Running::Down(_))
+    }
+
+    // The number whose answer it waits for, if it waits for one.
+    pub(crate) fn awaited(&self) -> Option<u32>
+        ensures { result ≡ awaited_in (state_in self.now) }
+    {
+        match self {
+            Running::Down(_) | Running::Idle(_) => None,
+            Running::Asking(source) => Some(source.last()),
+        }
     }
 
     // The rate at which it shapes, which is zero when it is down.

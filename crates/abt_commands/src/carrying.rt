@@ -40,14 +40,14 @@ where
     match File::open(rt, name) {
         Ok(mut file) => carry_out_over(rt, rt.alloc(), plan, &mut file, out, errors),
         Err(error) => {
-            tell_text(errors, line_of(&error));
+            tell_text(errors, line_of_unopened(&error));
             1
         }
     }
 }
 
-// What is told of a file that isn't opened.
-fn line_of(error: &Error) -> &'static str
+/// What is told of a file that isn't opened: that, or want of memory.
+pub fn line_of_unopened(error: &Error) -> &'static str
     ensures { (result.now ≡ open_line) ⊎ (result.now ≡ fault_line Memory) }
 {
     match error.kind() {

@@ -18,14 +18,20 @@ pub const FILE: &str = "FILE";
 /// How many link workers `abt threads` has.
 pub const WORKERS: &str = "workers";
 
-/// The command line behind the program's name.
-pub fn command<'a>(alloc: Global) -> Result<Command<'a>, AllocError> {
-    Command::new(alloc, "abt")
+/// The command line behind the program's name, without a command yet.
+pub fn program<'a>(alloc: Global) -> Result<Command<'a>, AllocError> {
+    let program = Command::new(alloc, "abt")
         .bin_name("abt")?
         .about("A bandwidth controller for ATM block transfer with delayed transmission")
         .no_binary_name(true)
         .subcommand_required(true)
-        .after_help(EXAMPLES)
+        .after_help(EXAMPLES);
+    Ok(program)
+}
+
+/// A command line with the commands of this crate.
+pub fn add_commands<'a>(alloc: Global, program: Command<'a>) -> Result<Command<'a>, AllocError> {
+    program
         .subcommand(rate_command(alloc)?)?
         .subcommand(cell_command(alloc)?)?
         .subcommand(port_command(alloc)?)?

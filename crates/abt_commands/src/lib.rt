@@ -3,9 +3,10 @@
 
 mod carrying;
 mod command;
-mod environment;
+mod telling;
 mod words;
 
-pub use carrying::{carry_out, carry_out_over};
-pub use environment::{answer_words, given_plan};
-pub use words::plan_words;
+pub use carrying::{carry_out, carry_out_over, line_of_unopened};
+pub use command::{add_commands, program};
+pub use telling::answer_words;
+pub use words::{no_plan, plan_of, plan_words, refusal};

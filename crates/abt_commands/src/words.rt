@@ -1,8 +1,8 @@
 //! The words of a command line, and the plans that they ask for.
-ghost use Rattle.std.specs.Prelude.{IfOk};
+ghost use Rattle.std.specs.Prelude.{IfOk, IfSome};
 ghost use Rattle.abt_perform.specs.Plans.{IsWithinLimits};
 
-use crate::command::{CAPACITY, CODE, FILE, HEX, WORKERS, command};
+use crate::command::{CAPACITY, CODE, FILE, HEX, WORKERS, add_commands, program};
 use abt_perform::{Plan, WordsFault};
 use abt_rate::{CAPACITY_MAX, WORKERS_MAX};
 use clap::ArgMatches;
@@ -15,24 +15,43 @@ const CAPACITY_RULE: &str = "a capacity is a decimal number of at most 2^60, dig
 // What a count of link workers has to be.
 const WORKERS_RULE: &str = "there are 1 to 64 link workers, a decimal number, digits alone";
 
-/// The plan that the words behind the program's name ask for.
+/// The plan that the words behind the program's name ask for, where they name one of the commands of this crate.
 ///
 /// `clap` decides which words are refused, and writes what is told then, and the help; a number is digits alone.
 pub fn plan_words<'a>(alloc: Global, words: &'a [&'a str]) -> Result<Plan, WordsFault>
     ensures limits { IfOk result IsWithinLimits }
 {
-    let matches = match command(alloc)?.try_get_matches_from(words) {
+    let program = add_commands(alloc, program(alloc)?)?;
+    let matches = match program.try_get_matches_from(words) {
         Ok(matches) => matches,
         Err(error) => return Err(refusal(alloc, &error)),
     };
-    match matches.subcommand() {
-        Some(("rate", found)) => Ok(Plan::Rate(text_of(alloc, found, CODE)?)),
-        Some(("cell", found)) => Ok(Plan::Cell(text_of(alloc, found, HEX)?)),
-        Some(("port", found)) => port_plan(alloc, found),
-        Some(("run", found)) => Ok(Plan::Run(file_of(alloc, found)?)),
-        Some(("threads", found)) => threads_plan(alloc, found),
-        _ => no_plan(alloc, "no such command"),
+    let Some((name, found)) = matches.subcommand() else {
+        return no_plan(alloc, "no such command");
+    };
+    match plan_of(alloc, name, found)? {
+        Some(plan) => Ok(plan),
+        None => no_plan(alloc, "no such command"),
     }
+}
+
+/// The plan of a command of this crate, by what `clap` found behind its name; None if the name is no such command's.
+pub fn plan_of(
+    alloc: Global,
+    name: &str,
+    found: &ArgMatches<'_>,
+) -> Result<Option<Plan>, WordsFault>
+    ensures limits { IfOk result (λ plan. IfSome plan IsWithinLimits) }
+{
+    let plan = match name {
+        "rate" => Plan::Rate(text_of(alloc, found, CODE)?),
+        "cell" => Plan::Cell(text_of(alloc, found, HEX)?),
+        "port" => port_plan(alloc, found)?,
+        "run" => Plan::Run(file_of(alloc, found)?),
+        "threads" => threads_plan(alloc, found)?,
+        _ => return Ok(None),
+    };
+    Ok(Some(plan))
 }
 
 fn port_plan(alloc: Global, found: &ArgMatches<'_>) -> Result<Plan, WordsFault>
@@ -83,15 +102,16 @@ fn file_of(alloc: Global, found: &ArgMatches<'_>) -> Result<Option<String>, Allo
     }
 }
 
-fn no_plan(alloc: Global, why: &str) -> Result<Plan, WordsFault>
+/// The refusal of words for a reason of the program's own.
+pub fn no_plan(alloc: Global, why: &str) -> Result<Plan, WordsFault>
     ensures { IfOk result IsWithinLimits }
 {
     let text = format!(in alloc; "error: {why}\n\nFor more information, try '--help'.\n")?;
     Err(WordsFault::Words(text))
 }
 
-// What `clap` refuses, as it says so.
-fn refusal(alloc: Global, error: &clap::Error) -> WordsFault {
+/// What `clap` refuses, as it says so; the help that was asked for; or want of memory.
+pub fn refusal(alloc: Global, error: &clap::Error) -> WordsFault {
     let Ok(text) = format!(in alloc; "{error}") else {
         return WordsFault::Memory;
     };

@@ -1,7 +1,8 @@
 -- What a policer keeps, and what one cell does to it: the virtual scheduling of I.371 (docs/RULES.md,
 -- "GCRA"). The verdicts that this gives are those of `Windows`.
-use Rattle.std.specs.Prelude.{ℕ, ◌+◌, ◌==◌, Option, Some, None, nat_lt, max, unwrap_or, if◌then◌else◌, refl}
+use Rattle.std.specs.Prelude.{ℕ, ◌+◌, ◌≤◌, ◌==◌, Option, Some, None, IfSome, nat_lt, max, unwrap_or, if◌then◌else◌, refl}
 use Rattle.std.specs.Coded.{Coded, code_by, coded×, coded_ℕ, coded_option}
+use Rattle.abt_rate.specs.Limits.{arrive_max, spacing_max, tau_max}
 use Rattle.abt_rate.specs.Rate.{spacing_of}
 use Rattle.abt_gcra.specs.declared.verdict.Verdict.{Verdict}
 use Rattle.abt_gcra.specs.declared.verdict.Verdict.TheVariants.{Conforming, TooEarly, NoRate}
@@ -22,6 +23,14 @@ policing_code =
     (λ p. (p.tau, (p.tat, p.clock)))
     (λ q. record { tau = q.0; tat = q.1.0; clock = q.1.1 })
     (λ _. refl)
+
+-- What a policer can keep: a tolerance within its limit, and a theoretical arrival time that some cell leaves.
+abbrev pub IsKept : Policing → Type 0
+IsKept p = (p.tau ≤ tau_max) × IfSome p.tat (λ t. t ≤ arrive_max + (tau_max + spacing_max))
+
+-- What a bucket can keep beside its tolerance, at a clock: when it took its last cell, and its level after that one.
+abbrev pub IsLevelAt : (clock last level : ℕ) → Type 0
+IsLevelAt clock last level = (last ≤ clock) × (level ≤ tau_max + spacing_max)
 
 -- before the first cell
 abbrev pub fresh_policing : ℕ → Policing

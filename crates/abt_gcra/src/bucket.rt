@@ -1,12 +1,15 @@
 //! The generic cell rate algorithm as a leaky bucket.
-ghost use Rattle.std.specs.Prelude.{◌≡◌, ◌<◌, ◌≤◌, ◌↔◌, List, [], IfOk, OnErr, IsErrOf};
+ghost use Rattle.std.specs.Prelude.{◌≡◌, ◌<◌, ◌≤◌, ◌+◌, ◌↔◌, List, [], IfOk, OnErr, IsErrOf, IsSome, IfSome};
 ghost use Rattle.abt_rate.specs.Limits.{arrive_max, spacing_max, tau_max};
-ghost use Rattle.abt_gcra.specs.Policing.{fresh_policing, checked};
+ghost use Rattle.std.specs.Option.{option_map};
+ghost use Rattle.abt_gcra.specs.Policing.{IsLevelAt, fresh_policing, checked};
 ghost use Rattle.abt_gcra.specs.Standing.{StandsFor};
 ghost use Rattle.abt_gcra.specs.Windows.{Arrival, arrival, IsVerdict, taken_after};
 
 use crate::fault::{GcraFault, may_arrive};
+use crate::limits::LEVEL_MAX;
 use crate::verdict::Verdict;
+use abt_rate::TAU_MAX;
 use std::marker::Model;
 
 /// The generic cell rate algorithm as a leaky bucket (I.371; docs/RULES.md, "GCRA"): it gives the
@@ -54,6 +57,54 @@ impl Bucket {
             last_taken: None,
             clock: 0,
         }
+    }
+
+    /// The bucket that keeps these, as [`Bucket::tau`], [`Bucket::level`] and [`Bucket::clock`] gave them, or `None` where
+    /// the tolerance or the level is above its limit, or a cell was taken after the clock.
+    pub fn of_parts(tau: u64, level: Option<(u64, u64)>, clock: u64) -> Option<Bucket>
+        ensures some { IsSome result ↔ ((tau ≤ tau_max) × IfSome level (λ after. IsLevelAt clock after.0 after.1)) }
+        ensures value { IfSome result (λ bucket. bucket ≡
+            record { tau = tau; tat = option_map (λ after. after.0 + after.1) level; clock = clock }) }
+    {
+        let (last_taken, level) = match level {
+            Some((last, level)) => (Some(last), level),
+            None => (None, 0),
+        };
+        if tau > TAU_MAX || level > LEVEL_MAX || last_taken.is_some_and(|last| last > clock) {
+            return None;
+        }
+        let mut bucket = Bucket::new(tau);
+        bucket.level = level;
+        bucket.last_taken = last_taken;
+        bucket.clock = clock;
+        Some(bucket)
+    }
+
+    /// The tolerance, in picoseconds.
+    pub fn tau(&self) -> u64
+        ensures value { result ≡ self.now.tau }
+        ensures limit { result ≤ tau_max }
+    {
+        self.tau
+    }
+
+    /// The last conformance time, which is the arrival of the last cell that was taken, and the level after it, both in
+    /// picoseconds.
+    pub fn level(&self) -> Option<(u64, u64)>
+        ensures value { option_map (λ after. after.0 + after.1) result ≡ self.now.tat }
+        ensures kept { IfSome result (λ after. IsLevelAt self.now.clock after.0 after.1) }
+    {
+        match self.last_taken {
+            Some(last) => Some((last, self.level)),
+            None => None,
+        }
+    }
+
+    /// The arrival of the last cell that was given a verdict, in picoseconds, and 0 at first.
+    pub fn clock(&self) -> u64
+        ensures { result ≡ self.now.clock }
+    {
+        self.clock
     }
 
     /// The verdict on a cell that arrives at a moment, with the spacing from it to the next one. It is

@@ -1,12 +1,14 @@
 //! The generic cell rate algorithm by virtual scheduling.
-ghost use Rattle.std.specs.Prelude.{◌≡◌, ◌<◌, ◌≤◌, ◌↔◌, List, [], IfOk, OnErr, IsErrOf};
+ghost use Rattle.std.specs.Prelude.{◌≡◌, ◌<◌, ◌≤◌, ◌↔◌, List, [], IfOk, OnErr, IsErrOf, IsSome, IfSome};
 ghost use Rattle.abt_rate.specs.Limits.{arrive_max, spacing_max, tau_max};
-ghost use Rattle.abt_gcra.specs.Policing.{fresh_policing, checked};
+ghost use Rattle.abt_gcra.specs.Policing.{IsKept, fresh_policing, checked};
 ghost use Rattle.abt_gcra.specs.Standing.{StandsFor};
 ghost use Rattle.abt_gcra.specs.Windows.{Arrival, arrival, IsVerdict, taken_after};
 
 use crate::fault::{GcraFault, may_arrive};
+use crate::limits::TAT_MAX;
 use crate::verdict::Verdict;
+use abt_rate::TAU_MAX;
 use std::marker::Model;
 
 /// The generic cell rate algorithm by virtual scheduling (I.371; docs/RULES.md, "GCRA").
@@ -46,6 +48,18 @@ impl Gcra {
             tat: None,
             clock: 0,
         }
+    }
+
+    /// The algorithm that keeps these, as [`Gcra::tau`], [`Gcra::tat`] and [`Gcra::clock`] gave them, or `None` where the
+    /// tolerance is above its limit, or the theoretical arrival time is one that no cell leaves.
+    pub fn of_parts(tau: u64, tat: Option<u64>, clock: u64) -> Option<Gcra>
+        ensures some { IsSome result ↔ IsKept (record { tau = tau; tat = tat; clock = clock }) }
+        ensures value { IfSome result (λ gcra. gcra ≡ record { tau = tau; tat = tat; clock = clock }) }
+    {
+        if tau > TAU_MAX || tat.is_some_and(|t| t > TAT_MAX) {
+            return None;
+        }
+        Some(Gcra { tau, tat, clock })
     }
 
     /// The verdict on a cell that arrives at a moment, with the spacing from it to the next one. It is
@@ -99,9 +113,25 @@ impl Gcra {
         Ok(())
     }
 
-    pub(crate) fn tau(&self) -> u64
+    /// The tolerance, in picoseconds.
+    pub fn tau(&self) -> u64
         ensures { result ≡ self.now.tau }
     {
         self.tau
+    }
+
+    /// The theoretical arrival time, in picoseconds, which is absent until a cell was taken.
+    pub fn tat(&self) -> Option<u64>
+        ensures value { result ≡ self.now.tat }
+        ensures kept { IsKept self.now }
+    {
+        self.tat
+    }
+
+    /// The arrival of the last cell that was given a verdict, in picoseconds, and 0 at first.
+    pub fn clock(&self) -> u64
+        ensures { result ≡ self.now.clock }
+    {
+        self.clock
     }
 }

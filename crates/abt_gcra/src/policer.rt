@@ -1,8 +1,8 @@
 //! A policer that follows the rate that is held.
-ghost use Rattle.std.specs.Prelude.{◌≡◌, ◌<◌, ◌≤◌, ◌↔◌, List, [], IfOk, OnErr, IsErrOf};
+ghost use Rattle.std.specs.Prelude.{◌≡◌, ◌<◌, ◌≤◌, ◌↔◌, List, [], IfOk, OnErr, IsErrOf, IsSome, IfSome};
 ghost use Rattle.abt_rate.specs.Limits.{arrive_max, tau_max};
 ghost use Rattle.abt_rate.specs.Rate.{spacing_of};
-ghost use Rattle.abt_gcra.specs.Policing.{fresh_policing, policed};
+ghost use Rattle.abt_gcra.specs.Policing.{IsKept, fresh_policing, policed};
 ghost use Rattle.abt_gcra.specs.Standing.{StandsFor};
 ghost use Rattle.abt_gcra.specs.Windows.{Arrival, arrival, IsVerdictAt, taken_after};
 
@@ -45,6 +45,18 @@ impl Policer {
         }
     }
 
+    /// The policer that keeps these, as [`Policer::tau`], [`Policer::tat`] and [`Policer::clock`] gave them, or `None` where
+    /// the tolerance is above its limit, or the theoretical arrival time is one that no cell leaves.
+    pub fn of_parts(tau: u64, tat: Option<u64>, clock: u64) -> Option<Policer>
+        ensures some { IsSome result ↔ IsKept (record { tau = tau; tat = tat; clock = clock }) }
+        ensures value { IfSome result (λ policer. policer ≡ record { tau = tau; tat = tat; clock = clock }) }
+    {
+        match Gcra::of_parts(tau, tat, clock) {
+            Some(gcra) => Some(Policer { gcra }),
+            None => None,
+        }
+    }
+
     /// The verdict on a cell that arrives at a moment, where a rate is held for its connection. It is
     /// [`Verdict::NoRate`](crate::Verdict::NoRate) where that rate is zero.
     ///
@@ -74,5 +86,20 @@ impl Policer {
         ensures { result ≡ self.now.tau }
     {
         self.gcra.tau()
+    }
+
+    /// The theoretical arrival time, in picoseconds, which is absent until a cell was taken.
+    pub fn tat(&self) -> Option<u64>
+        ensures value { result ≡ self.now.tat }
+        ensures kept { IsKept self.now }
+    {
+        self.gcra.tat()
+    }
+
+    /// The arrival of the last cell that was given a verdict, in picoseconds, and 0 at first.
+    pub fn clock(&self) -> u64
+        ensures { result ≡ self.now.clock }
+    {
+        self.gcra.clock()
     }
 }

@@ -5,6 +5,7 @@ mod entry;
 mod fault;
 mod input;
 mod seat;
+mod seen_counts;
 mod state;
 
 pub use entry::{Entry, Receipt};

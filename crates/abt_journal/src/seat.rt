@@ -6,6 +6,7 @@ ghost use Rattle.abt_journal.specs.Receipts.{seen_at};
 use crate::entry::{Entry, Receipt};
 use crate::fault::ServeFault;
 use crate::input::{PortInput, PortReply};
+use crate::seen_counts::SeenCounts;
 use crate::state::PortState;
 use std::alloc::Global;
 use std::marker::Model;
@@ -15,17 +16,19 @@ use std::marker::Model;
 pub struct Seat {
     caller: u16,
     receipts: Vec<Receipt>,
+    // What the receipts say was seen of each port.
+    seen: SeenCounts,
 }
 
 impl Model for Seat {
-    ghost use Rattle.std.specs.Prelude.{◌+◌, ◌<◌, ◌^◌, All};
+    ghost use Rattle.abt_journal.specs.Counts.{AreCounted};
     ghost use Rattle.abt_journal.specs.Receipts.{Seated};
 
     ghost Value = { Seated };
 
     ghost view = { λ s. record { caller = s.caller; receipts = s.receipts.items } };
 
-    ghost invariant = { λ s. All (λ r. r.entry.place + 1 < 2 ^ 64) s.receipts.items };
+    ghost invariant = { λ s. AreCounted s.receipts.items s.seen };
 }
 
 impl Seat {
@@ -36,6 +39,7 @@ impl Seat {
         Seat {
             caller,
             receipts: Vec::new(alloc),
+            seen: SeenCounts::new(alloc),
         }
     }
 
@@ -59,13 +63,7 @@ impl Seat {
     pub fn seen(&self, port: u16) -> u64
         ensures { result ≡ seen_at port self.now.receipts }
     {
-        let mut seen = 0;
-        for receipt in &self.receipts {
-            if receipt.port == port {
-                seen = receipt.entry.place + 1;
-            }
-        }
-        seen
+        self.seen.of(port)
     }
 
     /// Has one step done by the port of this number, and keeps the receipt for it. A journal that is shorter than what
@@ -101,6 +99,7 @@ impl Seat {
             return Err(ServeFault::Wound { seen, found });
         }
         self.receipts.reserve(1)?;
+        self.seen.make_room(port)?;
         let caller = self.caller;
         let given = &input;
         let (place, reply) = state.step(caller, *given)?;
@@ -111,6 +110,7 @@ impl Seat {
             reply,
         };
         self.receipts.push_reserved(Receipt { port, entry });
+        self.seen.note(port, place + 1);
         Ok(entry.answer())
     }
 }

@@ -77,7 +77,7 @@ abbrev pub CanFollow : Index → Fact → Type 0
 CanFollow index (Emitted cell at rate) = cell ≡ length index.emissions
 CanFollow index fact = HasFewHops fact
 
--- whether a fact is one of a message, to note which the message is looked up twice: what is known of it, and where that stands
+-- whether a fact is one of a message, to note which the message is looked up
 abbrev pub is_of_message : Fact → Bool
 is_of_message (Asked seq floor ask mark) = true
 is_of_message (Delivered seq) = true

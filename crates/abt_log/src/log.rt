@@ -6,7 +6,7 @@ ghost use Rattle.abt_log.specs.Kept.{asked_in, conforms_if_arrived};
 ghost use Rattle.abt_log.specs.Log.{IsLogOf};
 ghost use Rattle.abt_facts.specs.declared.fact.Fact.{Fact as FactSpec};
 ghost use Rattle.abt_facts.specs.Sent as sent;
-ghost use Rattle.abt_facts.specs.Cells.{moment_of, after_last_of, last_arrival_of, delivered_mark_of};
+ghost use Rattle.abt_facts.specs.Cells.{moment_of, after_last_of, last_arrival_of, delivered_mark_of, fence_of};
 
 use crate::emissions::Emissions;
 use crate::looks::Looks;
@@ -87,8 +87,8 @@ impl Log {
         requires { 1 ≤ self.old.room }
         ensures index { CanFollow self.old.index fact → self.new.index ≡ noted fact self.old.index }
         ensures room { self.old.room ≤ self.new.room + 1 }
-        ensures looks { looks.new ≤ looks.old + 2 }
-        ensures counted { looks.new ≡ (if is_of_message fact then min (looks.old + 2) u64.MAX else looks.old) }
+        ensures looks { looks.new ≤ looks.old + 1 }
+        ensures counted { looks.new ≡ (if is_of_message fact then min (looks.old + 1) u64.MAX else looks.old) }
     {
         match fact {
             Fact::Asked { seq, .. }
@@ -202,6 +202,23 @@ impl Log {
             Some(arrival) => cell <= arrival.cell,
             None => false,
         }
+    }
+
+    // The number behind the last cell that arrived, 0 where none did.
+    fn after_last(&self) -> u64
+        ensures { (facts : List FactSpec) → IsLogOf facts self.now → after_last_of facts ≤ u64.MAX → result ≡ after_last_of facts }
+    {
+        match self.last_arrival {
+            Some(arrival) => arrival.cell.saturating_add(1),
+            None => 0,
+        }
+    }
+
+    /// The number below which no cell can arrive any more (docs/RULES.md, "Cells").
+    pub fn fence(&self) -> u64
+        ensures { (facts : List FactSpec) → IsLogOf facts self.now → after_last_of facts ≤ u64.MAX → result ≡ fence_of facts }
+    {
+        self.after_last().max(self.delivered_mark())
     }
 
     /// Whether each cell that arrived was found conforming.

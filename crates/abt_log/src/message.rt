@@ -47,11 +47,10 @@ impl Message {
         }
     }
 
-    // The message after one more fact of it.
-    pub(crate) fn after(&self, fact: &Fact) -> Message
-        ensures { HasFewHops fact.now → result ≡ changed fact.now self.now }
+    // Notes one more fact of it.
+    pub(crate) fn note(&mut self, fact: &Fact)
+        ensures { HasFewHops fact.now → self.new ≡ changed fact.now self.old }
     {
-        let mut message = *self;
         match *fact {
             Fact::Asked {
                 floor,
@@ -59,18 +58,17 @@ impl Message {
                 mark,
                 ..
             } => {
-                message.asked = true;
-                message.floor = floor;
-                message.ask = ask;
-                message.mark = mark;
+                self.asked = true;
+                self.floor = floor;
+                self.ask = ask;
+                self.mark = mark;
             }
-            Fact::Delivered { .. } => message.delivered = true,
-            Fact::Passed { hop, .. } => message.passed = message.passed.with(hop),
-            Fact::Shut { hop, .. } => message.shut = message.shut.with(hop),
-            Fact::Turned { .. } => message.turned = true,
-            Fact::Back { hop, .. } => message.back = message.back.with(hop),
+            Fact::Delivered { .. } => self.delivered = true,
+            Fact::Passed { hop, .. } => self.passed = self.passed.with(hop),
+            Fact::Shut { hop, .. } => self.shut = self.shut.with(hop),
+            Fact::Turned { .. } => self.turned = true,
+            Fact::Back { hop, .. } => self.back = self.back.with(hop),
             _ => {}
         }
-        message
     }
 }

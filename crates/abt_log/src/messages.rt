@@ -61,14 +61,16 @@ impl Messages {
         ensures mark { result ≡ (message_in self.old.entries seq).mark }
         ensures entries { HasFewHops fact.now → self.new.entries ≡ with_change (changed fact.now) seq self.old.entries }
         ensures room { self.old.room ≤ self.new.room + 1 }
-        ensures looks { looks.new ≤ looks.old + 2 }
-        ensures counted { looks.new ≡ min (looks.old + 2) u64.MAX }
+        ensures looks { looks.new ≤ looks.old + 1 }
+        ensures counted { looks.new ≡ min (looks.old + 1) u64.MAX }
     {
-        let message = self.of(seq, looks);
-        let after = message.after(fact);
-        let key = looks.counting(seq);
-        match self.entries.insert(key, after) {
-            Ok(_) => message.mark,
+        match self.entries.entry(looks.counting(seq)) {
+            Ok(entry) => {
+                let message = entry.or_insert(Message::blank());
+                let mark = message.mark;
+                message.note(fact);
+                mark
+            }
             Err(_) => unreachable!(),
         }
     }

@@ -3,3 +3,4 @@ pub mod FaultLemmas
 pub mod RuleLemmas
 pub mod BuildLemmas
 pub mod PathLemmas
+pub mod IndexLemmas

@@ -106,7 +106,7 @@ no_fault net kept Memory = λ wrong. wrong
 
 -- ---- one connection has a channel
 
-channel_within : (conns : List Conn) (c : ℕ) (q : Channel) → channel_at conns c ≡ Some q → c < length conns
+pub channel_within : (conns : List Conn) (c : ℕ) (q : Channel) → channel_at conns c ≡ Some q → c < length conns
 channel_within conns c q has = elim (slice_get_cases conns c).1 [
   | inl (x, within, at, read) ↦ within
   | inr (past, at) ↦ absurd (none_some (sym (ap (option_map (λ (conn : Conn). conn.vc)) at) ∙ has))

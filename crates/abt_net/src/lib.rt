@@ -7,6 +7,7 @@ mod fault;
 mod limits;
 mod net;
 mod path;
+mod places;
 mod rules;
 
 pub use conn::Conn;

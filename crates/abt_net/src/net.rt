@@ -2,14 +2,15 @@
 
 ghost use Rattle.std.specs.Prelude.{◌≡◌, ◌≢◌, ◌<◌, ◌↔◌, ◌⊎◌, ℕ, Some, IfOk, IfSome, IsOk, IsErrOf, length};
 ghost use Rattle.abt_net.specs.Faults.{IsFirstFault};
-ghost use Rattle.abt_net.specs.Search.{NamesLeast};
 ghost use Rattle.abt_net.specs.Topology.{IsWithinRules, channel_at};
 ghost use Rattle.abt_net.specs.declared.fault.NetFault.{NetFault};
 
 use crate::conn::Conn;
 use crate::fault::NetFault;
+use crate::places::{number_of, places_of};
 use crate::rules::first_fault;
 use abt_cell::Vc;
+use indexmap::IndexMap;
 use std::alloc::Global;
 use std::marker::Model;
 
@@ -19,16 +20,19 @@ use std::marker::Model;
 pub struct Net {
     capacities: Vec<u64>,
     conns: Vec<Conn>,
+    // The number of each connection, by its channel.
+    places: IndexMap<Vc, u16>,
 }
 
 impl Model for Net {
-    ghost use Rattle.abt_net.specs.Topology.{Topology, IsWithinRules};
+    ghost use Rattle.abt_net.specs.Places.{IsIndexed};
+    ghost use Rattle.abt_net.specs.Topology.{Topology};
 
     ghost Value = { Topology };
 
     ghost view = { λ n. record { capacities = n.capacities.items; conns = n.conns.items } };
 
-    ghost invariant = { λ n. IsWithinRules (record { capacities = n.capacities.items; conns = n.conns.items }) };
+    ghost invariant = { λ n. IsIndexed (record { capacities = n.capacities.items; conns = n.conns.items }) n.places };
 }
 
 impl Net {
@@ -47,7 +51,14 @@ impl Net {
         if let Some(fault) = first_fault(alloc, &capacities, &conns) {
             return Err(fault);
         }
-        Ok(Net { capacities, conns })
+        let Ok(places) = places_of(alloc, &conns) else {
+            return Err(NetFault::Memory);
+        };
+        Ok(Net {
+            capacities,
+            conns,
+            places,
+        })
     }
 
     /// The capacities of the ports, in units of 1/512 cell/s.
@@ -73,14 +84,6 @@ impl Net {
         ensures only { (c : ℕ) → channel_at self.now.conns c ≡ Some vc → result ≡ Some c }
         ensures rules { IsWithinRules self.now }
     {
-        let place = place_of(&self.conns, vc)?;
-        Some(place as u16)
+        number_of(&self.places, vc)
     }
-}
-
-// The place of the first connection that has the channel.
-fn place_of(conns: &[Conn], vc: Vc) -> Option<usize>
-    ensures { NamesLeast (λ c. channel_at conns.now c ≡ Some vc) result }
-{
-    conns.iter().position(|conn| conn.vc == vc)
 }

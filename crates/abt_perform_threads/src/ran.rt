@@ -4,7 +4,7 @@ ghost use Rattle.abt_text.specs.Streams.{ConsumesAtMost, text_max};
 ghost use Rattle.abt_scenario.specs.Engine.{Explains};
 ghost use Rattle.abt_scenario.specs.Scenarios.{Reads};
 ghost use Rattle.abt_threads.specs.declared.fault.RunFault.{RunFault};
-ghost use Rattle.abt_threads.specs.Runs.{ScriptsFit};
+ghost use Rattle.abt_threads.specs.Runs.{IsRun, ScriptsFit};
 ghost use Rattle.abt_operator.specs.Operations.{AreForPorts};
 ghost use Rattle.abt_perform_threads.specs.Shown.{IsRanFrom};
 ghost use Rattle.abt_rate.specs.Limits.{AreWorkers};
@@ -72,24 +72,39 @@ impl Unrun {
             ↔ (AreWorkers workers × ScriptsFit self.net.conns self.scripts × ¬ AreForPorts self.net self.operator) }
         ensures wound { (seen found : ℕ) → IsErrOf result (RunFault.Wound seen found) → found < seen }
     {
+        let gathered = run_scripts(rt, alloc, &self.scenario, workers, gate)?;
         let Unrun { scenario } = self;
-        let Scenario {
-            net,
-            events: _,
-            scripts,
-            operator,
-        } = scenario;
-        let gathered = run_threads(
-            rt,
-            alloc,
-            &net,
-            scripts.as_slice(),
-            operator.as_slice(),
-            faithful(workers),
-            gate,
-        )?;
+        let Scenario { net, .. } = scenario;
         Ok(Ran { net, gathered })
     }
+}
+
+// Runs a scenario's scripts and its operator's list in threads, as [`Unrun::run`] says.
+fn run_scripts<T: Threads + Wait + Sync, G: Gate + Sync>(
+    rt: &T,
+    alloc: Global,
+    scenario: &Scenario,
+    workers: u16,
+    gate: &G,
+) -> Result<Gathered, RunFault>
+    ensures ok { IfOk result (IsRun scenario.now.net scenario.now.scripts scenario.now.operator workers) }
+    ensures workers { IsErrOf result RunFault.Workers ↔ ¬ AreWorkers workers }
+    ensures scripts { IsErrOf result RunFault.Scripts
+        ↔ (AreWorkers workers × ¬ ScriptsFit scenario.now.net.conns scenario.now.scripts) }
+    ensures operator { IsErrOf result RunFault.Operator
+        ↔ (AreWorkers workers × ScriptsFit scenario.now.net.conns scenario.now.scripts
+        × ¬ AreForPorts scenario.now.net scenario.now.operator) }
+    ensures wound { (seen found : ℕ) → IsErrOf result (RunFault.Wound seen found) → found < seen }
+{
+    run_threads(
+        rt,
+        alloc,
+        &scenario.net,
+        scenario.scripts.as_slice(),
+        scenario.operator.as_slice(),
+        faithful(workers),
+        gate,
+    )
 }
 
 // The plan of so many workers, of which none loses or repeats anything.

@@ -5,3 +5,4 @@ pub mod Through
 pub mod Histories
 pub mod Rising
 pub mod Pigeon
+pub mod Marks

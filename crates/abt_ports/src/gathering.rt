@@ -12,6 +12,9 @@ use abt_journal::{Entry, PortState, Seat};
 use abt_net::Net;
 use std::alloc::Global;
 
+// The numbers of callers have 16 bits.
+const CALLERS: usize = 65_536;
+
 /// Takes the journals out of the states of all ports of a net, by the numbers of the ports, where the receipts of the
 /// seats are just their entries: each is for one entry, each entry has one, and each caller's are in its order
 /// (docs/RULES.md, "Journals"). Memory is looked for first. Otherwise the fault is the first that applies, and all is
@@ -29,7 +32,7 @@ pub fn gather(
     ensures receipts { IfOk result (λ journals. AreReceipts journals seats.items) }
     ensures err { IfErr result (IsFirstFault net.now states.items seats.items) }
 {
-    let mut room = Room::for_ports(alloc, states.len())?;
+    let mut room = Room::for_run(alloc, states.len(), CALLERS)?;
     if let Some(fault) = first_fault(&mut room, net, &states, &seats) {
         return Err(fault);
     }

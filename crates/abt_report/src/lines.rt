@@ -3,6 +3,7 @@ ghost use Rattle.std.specs.Prelude.{◌≡◌, ◌++◌, IfOk, OnOk, string_byte
 ghost use Rattle.abt_report.specs.Report.{count_line, outcome_line, rates_text, conn_line, port_line, safe_line};
 
 use crate::outcome::push_outcome;
+use crate::pieces::push_number;
 use abt_model::Outcome;
 use abt_rate::Rate;
 use abt_text::HexCode;
@@ -23,7 +24,8 @@ pub(crate) fn push_outcome_line(
 ) -> Result<(), AllocError>
     ensures { OnOk result (string_bytes text.new ≡ string_bytes text.old ++ outcome_line number outcome.now) }
 {
-    write!(text, "{number} ")?;
+    push_number(text, number)?;
+    text.push_str(" ")?;
     push_outcome(text, outcome)?;
     text.push_str("\n")
 }

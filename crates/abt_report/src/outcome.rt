@@ -5,6 +5,7 @@ ghost use Rattle.abt_report.specs.OutcomeText.{outcome_text, refused_text, reque
 use crate::names::{
     ask_fault_name, capacity_fault_name, cause_name, heard_name, start_fault_name, verdict_name,
 };
+use crate::pieces::push_number;
 use abt_cell::Request;
 use abt_model::Outcome;
 use abt_node::{Back, Onward};
@@ -12,8 +13,8 @@ use abt_shaper::ShapeFault;
 use abt_text::HexCode;
 use std::alloc::AllocError;
 
-// What an event answered, as reports say it (docs/FORMATS.md, "Report").
-pub(crate) fn push_outcome(text: &mut String, outcome: &Outcome) -> Result<(), AllocError>
+/// Adds what an event answered, as reports say it (docs/FORMATS.md, "Report").
+pub fn push_outcome(text: &mut String, outcome: &Outcome) -> Result<(), AllocError>
     ensures { OnOk result (string_bytes text.new ≡ string_bytes text.old ++ outcome_text outcome.now) }
 {
     match outcome {
@@ -23,7 +24,7 @@ pub(crate) fn push_outcome(text: &mut String, outcome: &Outcome) -> Result<(), A
         Outcome::AskRefused(fault) => push_refused(text, ask_fault_name(*fault)),
         Outcome::Repeated(request) => push_request(text, "again", request),
         Outcome::Crashed => text.push_str("crashed"),
-        Outcome::Emitted { cell, next } => write!(text, "emitted {cell} {next}"),
+        Outcome::Emitted { cell, next } => push_emitted(text, *cell, *next),
         Outcome::EmitRefused(fault) => push_shape_fault(text, *fault),
         Outcome::Arrived(verdict) => push_both(text, "arrived ", verdict_name(*verdict)),
         Outcome::Requested(reply) => push_onward(text, *reply),
@@ -53,10 +54,23 @@ fn push_refused(text: &mut String, name: &str) -> Result<(), AllocError>
 fn push_request(text: &mut String, word: &str, request: &Request) -> Result<(), AllocError>
     ensures { OnOk result (string_bytes text.new ≡ string_bytes text.old ++ request_text word.now request.now) }
 {
-    let seq = request.seq();
-    let floor = HexCode(request.floor().code());
-    let ask = HexCode(request.ask().code());
-    write!(text, "{word} {seq} {floor} {ask}")
+    text.push_str(word)?;
+    text.push_str(" ")?;
+    push_number(text, u64::from(request.seq()))?;
+    text.push_str(" ")?;
+    HexCode(request.floor().code()).push_to(text)?;
+    text.push_str(" ")?;
+    HexCode(request.ask().code()).push_to(text)
+}
+
+// The number of a cell, and when the next one may leave.
+fn push_emitted(text: &mut String, cell: u64, next: u64) -> Result<(), AllocError>
+    ensures { OnOk result (string_bytes text.new ≡ string_bytes text.old ++ outcome_text (Outcome.Emitted cell next)) }
+{
+    text.push_str("emitted ")?;
+    push_number(text, cell)?;
+    text.push_str(" ")?;
+    push_number(text, next)
 }
 
 fn push_shape_fault(text: &mut String, fault: ShapeFault) -> Result<(), AllocError>

@@ -1,6 +1,7 @@
 //! What ports hold for a channel.
-ghost use Rattle.std.specs.Prelude.{◌≡◌, ◌+◌, ◌≤◌, IfOk, length, map};
-ghost use Rattle.abt_safety.specs.Holding.{held_by_port, is_held_along, looked_at};
+ghost use Rattle.std.specs.Prelude.{◌≡◌, ◌+◌, ◌≤◌, if◌then◌else◌, is_some, min, IfOk, List, length, map};
+ghost use Rattle.abt_node.specs.Table.{Table};
+ghost use Rattle.abt_safety.specs.Holding.{held_by_port, is_held_along, is_held_at as is_held_there, looked_at, looked_after, ChangesOne};
 
 use abt_cell::Vc;
 use abt_list::Sequence;
@@ -47,4 +48,49 @@ pub fn is_held(rate: Rate, vc: Vc, path: &[u16], ports: &[Port], looks: &mut Loo
         return true;
     };
     rate <= held_by_port(vc, ports, looks.counting(*first)) && is_held(rate, vc, rest, ports, looks)
+}
+
+/// Whether a rate is at most what the port of a number holds for a channel. No port is none that holds less.
+pub fn is_held_at(rate: Rate, vc: Vc, port: Option<u16>, ports: &[Port], looks: &mut Looks) -> bool
+    ensures value { result ≡ is_held_there rate vc ports.now port }
+    ensures looks { looks.new ≤ looks.old + 1 }
+    ensures counted { looks.new ≡ (if is_some port then min (looks.old + 1) u64.MAX else looks.old) }
+{
+    let Some(port) = port else {
+        return true;
+    };
+    rate <= held_by_port(vc, ports, looks.counting(port))
+}
+
+/// A rate of a source, and whether it was at most what each port of the source's path held.
+#[derive(Clone, Copy, Debug, PartialEq, Eq)]
+pub struct Shaped {
+    /// The rate.
+    pub rate: Rate,
+    /// Whether it was.
+    pub is_held: bool,
+}
+
+/// Whether a rate is at most what each port of a path holds for a channel, after only what one of them holds may have changed: that
+/// of a number, or none. Where an earlier rate was held, and this one isn't above it, that port alone is asked.
+pub fn is_held_after(
+    before: Shaped,
+    rate: Rate,
+    vc: Vc,
+    path: &[u16],
+    port: Option<u16>,
+    ports: &[Port],
+    looks: &mut Looks,
+) -> bool
+    ensures value { (tables : List Table) → ChangesOne port vc path.now tables ports.now →
+        before.is_held ≡ is_held_along before.rate vc tables path.now → result ≡ is_held_along rate vc ports.now path.now }
+    ensures looks { looks.new ≤ looks.old + length path.now + 1 }
+    ensures counted { let looked = looked_after before rate vc ports.now path.now port in
+        looks.old + looked ≤ u64.MAX → looks.new ≡ looks.old + looked }
+{
+    if before.is_held && rate <= before.rate {
+        is_held_at(rate, vc, port, ports, looks)
+    } else {
+        is_held(rate, vc, path, ports, looks)
+    }
 }

@@ -5,6 +5,6 @@ mod holding;
 mod sums;
 mod tally;
 
-pub use holding::{held_along, is_held};
+pub use holding::{Shaped, held_along, is_held, is_held_after, is_held_at};
 pub use sums::{fits, is_above, is_over};
 pub use tally::{Marks, Tally, recount};

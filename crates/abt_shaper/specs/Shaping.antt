@@ -18,6 +18,10 @@ shaping_code =
     (λ p. record { next = p.0; emitted = p.1 })
     (λ _. refl)
 
+-- What a shaper can keep: the last cell left no later than the next one may.
+abbrev pub IsKept : Shaping → Type 0
+IsKept s = IfSome s.emitted (λ last. last ≤ s.next)
+
 -- a moment is before that of the last cell that left
 abbrev pub IsBehind : Shaping → ℕ → Type 0
 IsBehind s now = IsSomeAnd s.emitted (λ last. now < last)

@@ -1,8 +1,8 @@
 //! A shaper.
-ghost use Rattle.std.specs.Prelude.{◌≡◌, ◌≢◌, ℕ, ◌+◌, ◌<◌, ◌≤◌, ◌↔◌, IsOk, IsErrOf, MatchResult};
+ghost use Rattle.std.specs.Prelude.{◌≡◌, ◌≢◌, ℕ, ◌+◌, ◌<◌, ◌≤◌, ◌↔◌, IsOk, IsSome, IfSome, IsErrOf, MatchResult};
 ghost use Rattle.abt_rate.specs.Limits.{emit_max};
 ghost use Rattle.abt_rate.specs.Rate.{spacing_of};
-ghost use Rattle.abt_shaper.specs.Shaping.{IsBehind, IsOnward};
+ghost use Rattle.abt_shaper.specs.Shaping.{IsKept, IsBehind, IsOnward};
 
 use crate::fault::ShapeFault;
 use crate::limits::EMIT_MAX;
@@ -45,6 +45,33 @@ impl Shaper {
             next: not_before,
             emitted: None,
         }
+    }
+
+    /// The shaper that keeps these, as [`Shaper::next`] and [`Shaper::emitted`] gave them, or `None` where the last cell left
+    /// after the moment from which the next one may.
+    pub fn of_parts(next: u64, emitted: Option<u64>) -> Option<Shaper>
+        ensures some { IsSome result ↔ IsKept (record { next = next; emitted = emitted }) }
+        ensures value { IfSome result (λ shaper. shaper ≡ record { next = next; emitted = emitted }) }
+    {
+        if emitted.is_some_and(|last| last > next) {
+            return None;
+        }
+        Some(Shaper { next, emitted })
+    }
+
+    /// The earliest moment of the next cell, in picoseconds.
+    pub fn next(&self) -> u64
+        ensures { result ≡ self.now.next }
+    {
+        self.next
+    }
+
+    /// When the last cell left, in picoseconds, which is absent until one did.
+    pub fn emitted(&self) -> Option<u64>
+        ensures value { result ≡ self.now.emitted }
+        ensures kept { IsKept self.now }
+    {
+        self.emitted
     }
 
     /// Lets a cell leave now, at a rate, and gives the earliest moment of the next one.

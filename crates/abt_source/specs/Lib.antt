@@ -1,3 +1,4 @@
 pub mod SourceView
 pub mod Calls
 pub mod SourceFacts
+pub mod Parts

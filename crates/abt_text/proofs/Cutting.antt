@@ -1,12 +1,9 @@
 -- The words of a text, cut at its first space.
-use Rattle.std.proofs.Common.{◌≡◌, ◌==◌, inl, inr, ap, ◌∙◌, ◌≢◌, ℕ, ◌<◌, ◌++◌, List, [], ◌∷◌, length, get_or, refl, arith, suc, map, Bor, append_assoc, ◌≤◌, take}
+use Rattle.std.proofs.Common.{◌≡◌, ◌==◌, inl, inr, ap, ◌∙◌, ℕ, ◌<◌, ◌++◌, List, [], ◌∷◌, length, refl, arith, suc, map, Bor, append_assoc, ◌≤◌, take}
 use Rattle.std.proofs.lemmas.List.{map-append, length-take-le, length-map, length-append}
 use Rattle.std.proofs.Math.Seq.{take-length}
 use Rattle.std.proofs.lemmas.Bool.{ne_eqb, cases_Bool, eqb-true}
-use Rattle.abt_text.specs.Words.{spaced, words_of, with_octet}
-
-abbrev pub Lacks : ℕ → List ℕ → Type 0
-Lacks octet text = (i : ℕ) → i < length text → get_or text i 0 ≢ octet
+use Rattle.abt_text.specs.Words.{Lacks, spaced, words_of, with_octet}
 
 lacks_more : (c : ℕ) (cs : List ℕ) → Lacks 32 (c ∷ cs) → Lacks 32 cs
 lacks_more c cs free = λ i l. free (suc i) (omega arith)

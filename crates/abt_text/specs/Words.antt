@@ -1,5 +1,5 @@
 -- Words between single spaces, and the numbers that words can be.
-use Rattle.std.specs.Prelude.{ℕ, ◌==◌, ◌&&◌, nat_le, nat_lt, Bool, if◌then◌else◌, List, [], ◌∷◌, length, Option, Some, None}
+use Rattle.std.specs.Prelude.{ℕ, ◌<◌, ◌==◌, ◌≢◌, ◌&&◌, nat_le, nat_lt, Bool, if◌then◌else◌, List, [], ◌∷◌, length, slice_index, Option, Some, None}
 use Rattle.std.specs.Char.{is_ascii_digit}
 use Rattle.std.specs.List.{list_all}
 use Rattle.std.specs.Str.Parse.{digits_value}
@@ -8,6 +8,10 @@ use Rattle.abt_text.specs.Text.{Text, ◌⋅◌}
 -- the octet of a space
 abbrev pub space : ℕ
 space = 32
+
+-- A text has no such octet.
+abbrev pub Lacks : ℕ → Text → Type 0
+Lacks octet text = (i : ℕ) → i < length text → slice_index text i ≢ octet
 
 -- some words as one text, a single space between each two
 abbrev pub spaced : List Text → Text

@@ -1,6 +1,6 @@
 //! Words between single spaces.
-ghost use Rattle.std.specs.Prelude.{◌≡◌, ◌<◌, ◌≤◌, ◌↔◌, IsNone, IfSome, length, map, take};
-ghost use Rattle.abt_text.specs.Words.{spaced, words_of};
+ghost use Rattle.std.specs.Prelude.{◌≡◌, ◌<◌, ◌≤◌, ◌↔◌, ◌++◌, ◌∷◌, IsNone, IfSome, length, map, take};
+ghost use Rattle.abt_text.specs.Words.{space, spaced, words_of, Lacks};
 
 /// Puts the words of a text into a room of the caller's, from its first place on, and says how many there are, or `None` where the
 /// room has fewer places; what the room then has isn't said.
@@ -16,7 +16,7 @@ pub fn words_of<'a>(text: &'a str, room: &mut [&'a str]) -> Option<usize>
 {
     let mut count = 0;
     let mut rest = text;
-    while let Some((word, more)) = rest.split_once(' ') {
+    while let Some((word, more)) = first_word(rest) {
         if count == room.len() {
             return None;
         }
@@ -29,4 +29,17 @@ pub fn words_of<'a>(text: &'a str, room: &mut [&'a str]) -> Option<usize>
     }
     room[count] = rest;
     Some(count + 1)
+}
+
+// The first word of a text and what stands behind the space after it, or `None` where the text has no space.
+fn first_word(text: &str) -> Option<(&str, &str)>
+    ensures some { IfSome result (λ cut. (text.now ≡ cut.0.now ++ (space ∷ cut.1.now)) × Lacks space cut.0.now) }
+    ensures none { IsNone result → Lacks space text.now }
+{
+    for (place, octet) in text.as_bytes().iter().enumerate() {
+        if *octet == b' ' {
+            return Some((&text[..place], &text[place + 1..]));
+        }
+    }
+    None
 }

@@ -29,7 +29,7 @@ use Rattle.abt_weave.specs.Candidates.{is_told}
 use Rattle.abt_weave.proofs.Again.{own_again}
 use Rattle.abt_weave.proofs.Ends.{own_or_visit}
 use Rattle.abt_weave.proofs.Leavings.{all_reversed}
-use Rattle.abt_weave.proofs.NoneWoven.{AreBegun, begun_before, HaveEnded, cases_less, step_due, entry_due, PortHas, ConnHas, below_on, visit_low, fits_again, again_at, ArrivesAlone}
+use Rattle.abt_weave.proofs.NoneWoven.{AreBegun, begun_before, HaveEnded, cases_less, step_due, entry_due, PortHas, ConnHas, below_on, visit_low, fits_again, run_of, again_at, ArrivesAlone}
 use Rattle.abt_weave.proofs.OwnEvents.{own_here, made_own, own_fits}
 use Rattle.abt_weave.specs.OneFault.{AreJournalsOf}
 use Rattle.abt_weave.proofs.Places.{less_if, Names, IsFirstStep, named_now, named_low, step_named}
@@ -95,7 +95,7 @@ made_visit net earlier event v x is made = elim (visit_cases net (past_of net ea
 ]
 
 -- an entry that stands beside a step names its place
-visit_entry : (net : Topology) → IsWithinRules net → (earlier : List Event) (event : Event) (v : Visit) (x : SourceEntry) → visit net (past_of net earlier) event ≡ Some v → entry_made net earlier event ≡ Some x → Names x (length (steps_on net v.port earlier))
+pub visit_entry : (net : Topology) → IsWithinRules net → (earlier : List Event) (event : Event) (v : Visit) (x : SourceEntry) → visit net (past_of net earlier) event ≡ Some v → entry_made net earlier event ≡ Some x → Names x (length (steps_on net v.port earlier))
 visit_entry net rules earlier event v x is made =
     let parts = made_visit net earlier event v x is made in
     let beside = made_beside net earlier event v.port (length (steps_on net v.port earlier)) parts.c parts.conn (outcome_of net (past_of net earlier) event) v.input (facts_of parts.c (past_of net earlier)) parts.whose parts.known parts.port refl parts.input
@@ -120,7 +120,7 @@ step_first net earlier event v x parts made =
     first_step parts.conn.vc (facts_of parts.c (past_of net earlier)) event v.input parts.input (length (steps_on net v.port earlier)) x (sym beside ∙ made)
 
 -- a cell that comes leaves an entry
-silent : (net : Topology) (earlier ended : List Event) (event : Event) (v : Visit) → visit net (past_of net earlier) event ≡ Some v → entry_made net earlier event ≡ None → ArrivesAlone net earlier ended event
+pub silent : (net : Topology) (earlier ended : List Event) (event : Event) (v : Visit) → visit net (past_of net earlier) event ≡ Some v → entry_made net earlier event ≡ None → ArrivesAlone net earlier ended event
 silent net earlier ended (Arrive c cell at) v is none =
     let event = Arrive c cell at in
     let parts = visit_is net (past_of net earlier) event v c refl is in
@@ -148,7 +148,7 @@ alone_has net js ended earlier event v end rates begun below is none =
     elim (cases_less (steps_on net p earlier) (steps_on net p ended) (below.ports p (visit_low net end.rules (past_of net earlier) event v is))) [
       | inl less ↦ below_on net js ended earlier event below (port_has net js ended earlier event v end begun is less) (λ d x whose made low. (let clash = sym none ∙ made in absurd (cc)))
       | inr same ↦ absurd (fits_again net js ended earlier event v end begun
-          (again_at net js ended earlier end rates below event v is same (silent net earlier ended event v is none)) is same (λ d x whose made. (let clash = sym none ∙ made in absurd (cc))))
+          (again_at net ended earlier (run_of net js ended end) rates below event v is same (silent net earlier ended event v is none)) is same (λ d x whose made. (let clash = sym none ∙ made in absurd (cc))))
     ]
 
 -- what comes to a port of a connection, by the port and by the source beside it
@@ -187,7 +187,7 @@ beside_has net js ended earlier event v x end rates begun below is made =
             let before = named_low net end.rules c conn parts.known ended (length (entries_on net c earlier)) (length (steps_on net p earlier)) x had names in
             let there : length (steps_on net (slice_index conn.path 0) ended) ≡ length (steps_on net p earlier) = ap (λ q. length (steps_on net q ended)) (sym first) ∙ ap (λ l. length l) (sym same) in
             omega (arith, before, there))
-        | inr level ↦ absurd (fits_again net js ended earlier event v end begun (again_at net js ended earlier end rates below event v is same (alone_if net earlier ended event c parts.whose level)) is same
+        | inr level ↦ absurd (fits_again net js ended earlier event v end begun (again_at net ended earlier (run_of net js ended end) rates below event v is same (alone_if net earlier ended event c parts.whose level)) is same
             (λ d y whose also. subst (λ n. entries_on net n earlier ≡ entries_on net n ended) (some_same (sym parts.whose ∙ whose)) level))
       ])
     ]

@@ -75,7 +75,7 @@ capacity_turns net earlier turns all p u = elim (outcome_turns net earlier turns
 ]
 
 -- the visit that brings this capacity is that of its event
-capacity_only : (net : Topology) (earlier turns : List Event) → AreTurns net earlier turns → (p u : ℕ) (event : Event) (v : Visit) → visit net (past_of net (turns ++ earlier)) event ≡ Some v → v.port ≡ p → v.input ≡ CapacityIn u →
+pub capacity_only : (net : Topology) (earlier turns : List Event) → AreTurns net earlier turns → (p u : ℕ) (event : Event) (v : Visit) → visit net (past_of net (turns ++ earlier)) event ≡ Some v → v.port ≡ p → v.input ≡ CapacityIn u →
     reply_of (outcome_of net (past_of net earlier) (Capacity p u)) ≡ Some v.reply
 capacity_only net earlier turns all p u event v is here input = elim (visit_cases net (past_of net (turns ++ earlier)) event v is) [
   | inl parts ↦ absurd (facts_none parts.conn.vc (facts_of parts.c (past_of net (turns ++ earlier))) event v.input parts.input u input)

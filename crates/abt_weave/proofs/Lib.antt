@@ -12,7 +12,6 @@ pub mod Comings
 pub mod PortLooks
 pub mod PortPlaces
 pub mod Capped
-pub mod Passes
 pub mod Ends
 pub mod Whole
 pub mod Lefts
@@ -21,7 +20,6 @@ pub mod OwnFacts
 pub mod Replays
 pub mod OwnReplays
 pub mod Leavings
-pub mod Sweeps
 pub mod Prefixes
 pub mod Places
 pub mod SentBelow
@@ -33,5 +31,12 @@ pub mod VisitAgain
 pub mod NoneWoven
 pub mod AllBelow
 pub mod OneFault
+pub mod OneLaw
 pub mod Needed
 pub mod Stopping
+pub mod Alike
+pub mod Unmoved
+pub mod Remains
+pub mod Rates
+pub mod Queues
+pub mod Settling

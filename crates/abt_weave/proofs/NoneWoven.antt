@@ -163,11 +163,19 @@ fits_again net js ended earlier event v end begun at is same beside =
           ∙ entry_due net js event earlier c x begun whose c_low made);
     })
 
-pub both_are : (net : Topology) (js : Journaled) (ended earlier : List Event) → HaveEnded net js ended → All AsksRate earlier → IsBelow net earlier ended → AreBoth net earlier ended
-both_are net js ended earlier end rates below = record { rules = end.rules; one = rates; other = end.rates; below = below }
+-- A list of events over a net, each of whose rates a code can name.
+pub record IsRun (net : Topology) (ended : List Event) : Type 0 where
+  pub rules : IsWithinRules net
+  pub rates : All AsksRate ended
 
-both_turned : (net : Topology) (js : Journaled) (ended earlier : List Event) → HaveEnded net js ended → All AsksRate earlier → IsBelow net earlier ended → (c seq : ℕ) → AreBoth net earlier (Turn c seq ∷ ended)
-both_turned net js ended earlier end rates below c seq = record {
+pub run_of : (net : Topology) (js : Journaled) (ended : List Event) → HaveEnded net js ended → IsRun net ended
+run_of net js ended end = record { rules = end.rules; rates = end.rates }
+
+pub both_are : (net : Topology) (ended earlier : List Event) → IsRun net ended → All AsksRate earlier → IsBelow net earlier ended → AreBoth net earlier ended
+both_are net ended earlier end rates below = record { rules = end.rules; one = rates; other = end.rates; below = below }
+
+both_turned : (net : Topology) (ended earlier : List Event) → IsRun net ended → All AsksRate earlier → IsBelow net earlier ended → (c seq : ℕ) → AreBoth net earlier (Turn c seq ∷ ended)
+both_turned net ended earlier end rates below c seq = record {
   rules = end.rules;
   one = rates;
   other = All-cons AsksRate (Turn c seq) ended tt end.rates;
@@ -188,9 +196,9 @@ turn_on : (b : Bool) → b ≡ true → (if not b then NotEnabled NotSent else T
 turn_on true h = refl
 turn_on false h = absurd (false≢true h)
 
-can_turn : (net : Topology) (js : Journaled) (ended earlier : List Event) → HaveEnded net js ended → All AsksRate earlier → IsBelow net earlier ended → (c seq : ℕ) (conn : Conn) → conn_at net c ≡ Some conn →
+can_turn : (net : Topology) (ended earlier : List Event) → IsRun net ended → All AsksRate earlier → IsBelow net earlier ended → (c seq : ℕ) (conn : Conn) → conn_at net c ≡ Some conn →
     was_turned (facts_of c (past_of net earlier)) seq ≡ true → CanTurn net ended c seq
-can_turn net js ended earlier end rates below c seq conn known turned =
+can_turn net ended earlier end rates below c seq conn known turned =
     let past = past_of net ended in
     let facts = facts_of c past in
     elim (cases_Bool (was_turned facts seq)) [
@@ -209,9 +217,9 @@ can_turn net js ended earlier end rates below c seq conn known turned =
           })
     ]
 
-both_by : (net : Topology) (js : Journaled) (ended earlier : List Event) → HaveEnded net js ended → All AsksRate earlier → IsBelow net earlier ended → (c seq : ℕ) (turns : List Event) → (turns ≡ []) ⊎ (turns ≡ Turn c seq ∷ []) → AreBoth net earlier (turns ++ ended)
-both_by net js ended earlier end rates below c seq turns (inl none) = subst (λ l. AreBoth net earlier (l ++ ended)) (sym none) (both_are net js ended earlier end rates below)
-both_by net js ended earlier end rates below c seq turns (inr one) = subst (λ l. AreBoth net earlier (l ++ ended)) (sym one) (both_turned net js ended earlier end rates below c seq)
+both_by : (net : Topology) (ended earlier : List Event) → IsRun net ended → All AsksRate earlier → IsBelow net earlier ended → (c seq : ℕ) (turns : List Event) → (turns ≡ []) ⊎ (turns ≡ Turn c seq ∷ []) → AreBoth net earlier (turns ++ ended)
+both_by net ended earlier end rates below c seq turns (inl none) = subst (λ l. AreBoth net earlier (l ++ ended)) (sym none) (both_are net ended earlier end rates below)
+both_by net ended earlier end rates below c seq turns (inr one) = subst (λ l. AreBoth net earlier (l ++ ended)) (sym one) (both_turned net ended earlier end rates below c seq)
 
 -- an answer comes again
 yes_sent : (hops hop seq : ℕ) (facts : List Fact) → (hop ≡ hops → was_turned facts seq ≡ true) → (hop ≢ hops → was_back facts seq (hop + 1) ≡ true) → answer_is_at hops facts seq hop true ≡ true
@@ -223,9 +231,9 @@ yes_sent hops hop seq facts last other = elim (cases_eq hop hops) [
 yes_was : (hops hop seq : ℕ) (facts : List Fact) → answer_is_at hops facts seq hop true ≡ true → (hop ≡ hops → was_turned facts seq ≡ true) × (hop ≢ hops → was_back facts seq (hop + 1) ≡ true)
 yes_was hops hop seq facts h = (λ same. sym (cond-true _ _ _ (eq-eqb hop hops same)) ∙ h, λ differ. sym (cond-false _ _ _ (ne_eqb hop hops differ)) ∙ h)
 
-yes_again : (net : Topology) (js : Journaled) (ended earlier : List Event) → HaveEnded net js ended → All AsksRate earlier → IsBelow net earlier ended → (c hop seq : ℕ) (v : Visit) → visit net (past_of net earlier) (Answer c hop seq true) ≡ Some v →
+yes_again : (net : Topology) (ended earlier : List Event) → IsRun net ended → All AsksRate earlier → IsBelow net earlier ended → (c hop seq : ℕ) (v : Visit) → visit net (past_of net earlier) (Answer c hop seq true) ≡ Some v →
     steps_on net v.port earlier ≡ steps_on net v.port ended → AgainAt net ended earlier (Answer c hop seq true) v
-yes_again net js ended earlier end rates below c hop seq v is same =
+yes_again net ended earlier end rates below c hop seq v is same =
     let back = came_back net earlier c hop seq true v is in
     let conn = back.conn in
     let hops = length conn.path in
@@ -234,7 +242,7 @@ yes_again net js ended earlier end rates below c hop seq v is same =
     elim (cases_eq hop hops) [
       | inr differ ↦ (
           let behind = back_below net c conn seq (hop + 1) (record { rules = end.rules; known = back.known; low = omega arith; high = omega (arith, within.1, differ) }) earlier ended below (was.1 differ) in
-          let both = both_are net js ended earlier end rates below in
+          let both = both_are net ended earlier end rates below in
           record {
             turns = [];
             all = tt;
@@ -244,9 +252,9 @@ yes_again net js ended earlier end rates below c hop seq v is same =
                 (yes_sent hops hop seq (facts_of c (past_of net ended)) (λ e. absurd (differ e)) (λ e. behind))));
           })
       | inl last ↦ (
-          let turn = can_turn net js ended earlier end rates below c seq conn back.known (was.0 last) in
+          let turn = can_turn net ended earlier end rates below c seq conn back.known (was.0 last) in
           let more = turn.turns ++ ended in
-          let both = both_by net js ended earlier end rates below c seq turn.turns turn.is in
+          let both = both_by net ended earlier end rates below c seq turn.turns turn.is in
           record {
             turns = turn.turns;
             all = turn.all;
@@ -257,9 +265,9 @@ yes_again net js ended earlier end rates below c hop seq v is same =
           })
     ]
 
-no_again : (net : Topology) (js : Journaled) (ended earlier : List Event) → HaveEnded net js ended → All AsksRate earlier → IsBelow net earlier ended → (c hop seq : ℕ) (v : Visit) → visit net (past_of net earlier) (Answer c hop seq false) ≡ Some v →
+no_again : (net : Topology) (ended earlier : List Event) → IsRun net ended → All AsksRate earlier → IsBelow net earlier ended → (c hop seq : ℕ) (v : Visit) → visit net (past_of net earlier) (Answer c hop seq false) ≡ Some v →
     steps_on net v.port earlier ≡ steps_on net v.port ended → AgainAt net ended earlier (Answer c hop seq false) v
-no_again net js ended earlier end rates below c hop seq v is same =
+no_again net ended earlier end rates below c hop seq v is same =
     let back = came_back net earlier c hop seq false v is in
     let conn = back.conn in
     let hops = length conn.path in
@@ -269,7 +277,7 @@ no_again net js ended earlier end rates below c hop seq v is same =
     record {
       turns = [];
       all = tt;
-      again = answer_again net earlier ended (both_are net js ended earlier end rates below) c hop seq false v is same (λ k known. (
+      again = answer_again net earlier ended (both_are net ended earlier end rates below) c hop seq false v is same (λ k known. (
           let its : conn ≡ k = some_same (sym back.known ∙ known) in
           subst (λ (w : Conn). answer_is_at (length w.path) (facts_of c (past_of net ended)) seq hop false ≡ true) its
           (ap (λ b. b && was_shut (facts_of c (past_of net ended)) seq (hop + 1)) was.0 ∙ shut)));
@@ -280,14 +288,14 @@ abbrev pub ArrivesAlone : Topology → List Event → List Event → Event → T
 ArrivesAlone net earlier ended (Arrive c cell at) = entries_on net c earlier ≡ entries_on net c ended
 ArrivesAlone net earlier ended event = Unit {0}
 
-pub again_at : (net : Topology) (js : Journaled) (ended earlier : List Event) → HaveEnded net js ended → All AsksRate earlier → IsBelow net earlier ended → (event : Event) (v : Visit) → visit net (past_of net earlier) event ≡ Some v →
+pub again_at : (net : Topology) (ended earlier : List Event) → IsRun net ended → All AsksRate earlier → IsBelow net earlier ended → (event : Event) (v : Visit) → visit net (past_of net earlier) event ≡ Some v →
     steps_on net v.port earlier ≡ steps_on net v.port ended → ArrivesAlone net earlier ended event → AgainAt net ended earlier event v
-again_at net js ended earlier end rates below (Request c hop seq) v is same alone =
-    record { turns = []; all = tt; again = request_again net earlier ended (both_are net js ended earlier end rates below) c hop seq v is same }
-again_at net js ended earlier end rates below (Arrive c cell at) v is same alone =
-    record { turns = []; all = tt; again = arrival_again net earlier ended (both_are net js ended earlier end rates below) c cell at v is same alone }
-again_at net js ended earlier end rates below (Answer c hop seq true) v is same alone = yes_again net js ended earlier end rates below c hop seq v is same
-again_at net js ended earlier end rates below (Answer c hop seq false) v is same alone = no_again net js ended earlier end rates below c hop seq v is same
-again_at net js ended earlier end rates below (Capacity p u) v is same alone =
-    record { turns = []; all = tt; again = capacity_again net earlier ended (both_are net js ended earlier end rates below) p u v is same }
-again_at net js ended earlier end rates below other v is same alone = (let none = no_visit net (past_of net earlier) other _ refl (λ vc facts. refl) in absurd (cc))
+again_at net ended earlier end rates below (Request c hop seq) v is same alone =
+    record { turns = []; all = tt; again = request_again net earlier ended (both_are net ended earlier end rates below) c hop seq v is same }
+again_at net ended earlier end rates below (Arrive c cell at) v is same alone =
+    record { turns = []; all = tt; again = arrival_again net earlier ended (both_are net ended earlier end rates below) c cell at v is same alone }
+again_at net ended earlier end rates below (Answer c hop seq true) v is same alone = yes_again net ended earlier end rates below c hop seq v is same
+again_at net ended earlier end rates below (Answer c hop seq false) v is same alone = no_again net ended earlier end rates below c hop seq v is same
+again_at net ended earlier end rates below (Capacity p u) v is same alone =
+    record { turns = []; all = tt; again = capacity_again net earlier ended (both_are net ended earlier end rates below) p u v is same }
+again_at net ended earlier end rates below other v is same alone = (let none = no_visit net (past_of net earlier) other _ refl (λ vc facts. refl) in absurd (cc))

@@ -26,7 +26,7 @@ use Rattle.abt_weave.proofs.Again.{own_again}
 use Rattle.abt_weave.proofs.AllBelow.{all_below, conn_there, alone_if, entries_there}
 use Rattle.abt_weave.proofs.Ends.{whole_beginning}
 use Rattle.abt_weave.proofs.Leavings.{all_reversed}
-use Rattle.abt_weave.proofs.NoneWoven.{AreBegun, HaveEnded, visit_low, again_at, ArrivesAlone}
+use Rattle.abt_weave.proofs.NoneWoven.{AreBegun, HaveEnded, visit_low, run_of, again_at, ArrivesAlone}
 use Rattle.abt_weave.proofs.OwnEvents.{own_here, made_own, own_made}
 use Rattle.abt_weave.proofs.PortEvents.{some_same, visit_cases, visit_is}
 use Rattle.abt_weave.proofs.SentBelow.{IsBelow}
@@ -43,7 +43,7 @@ swapped net js one other ends = record { journals = ends.journals; here = ends.t
 begins_both : {A : Type 0} → (xs ys : List A) → IsBeginning xs ys → IsBeginning ys xs → xs ≡ ys
 begins_both xs ys a b = whole_beginning xs ys a (let e = ap (λ l. length l) b.1 ∙ length-append ys b.0 in omega (arith, e))
 
-turns_ask : (net : Topology) (earlier turns : List Event) → AreTurns net earlier turns → All AsksRate earlier → All AsksRate (turns ++ earlier)
+pub turns_ask : (net : Topology) (earlier turns : List Event) → AreTurns net earlier turns → All AsksRate earlier → All AsksRate (turns ++ earlier)
 turns_ask net earlier [] all rates = rates
 turns_ask net earlier (turn ∷ turns) all rates = All-cons AsksRate turn (turns ++ earlier) (subst AsksRate (sym all.0.is) tt) (turns_ask net earlier turns all.1 rates)
 
@@ -117,7 +117,7 @@ port_again net js one other ends p m =
     let event = m.event in
     let low_v = visit_low net ends.here.rules (past_of net more) event m.visits m.comes in
     let low : p < length net.capacities = subst (λ q. q < length net.capacities) m.here low_v in
-    let at = again_at net js other more ends.there (turns_ask net one m.turns m.turned ends.here.rates) (ends_below net js one other ends m.turns m.turned) event m.visits m.comes
+    let at = again_at net other more (run_of net js other ends.there) (turns_ask net one m.turns m.turned ends.here.rates) (ends_below net js one other ends m.turns m.turned) event m.visits m.comes
     (steps_there_too net js one other m.turns [] ends m.turned tt m.visits.port low_v) (alone_where net js one other ends m.turns m.turned event m.visits m.comes) in
     let level = steps_there_too net js one other m.turns at.turns ends m.turned at.all p low in
     record {

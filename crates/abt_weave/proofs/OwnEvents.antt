@@ -42,7 +42,7 @@ unvisited_by net past event c whose none =
     ap (visit_of net past event (reply_of (outcome_of net past event))) whose
     ∙ unvisited_at event none (reply_of (outcome_of net past event)) (facts_of c past) (conn_at net c)
 
-own_input : (c : ℕ) (t : Target) → is_at_source c t ≡ true → (vc : Channel) (request : ℕ → Terms) → input_in vc request t ≡ None
+pub own_input : (c : ℕ) (t : Target) → is_at_source c t ≡ true → (vc : Channel) (request : ℕ → Terms) → input_in vc request t ≡ None
 own_input c (Source d x) h vc request = refl
 own_input c other h vc request = absurd (false≢true h)
 

@@ -107,7 +107,7 @@ would_fit net js rules earlier turns p step event v next none all is here fits =
       sym (ap (λ (s : Step). s.reply) same),
     )
 
-would_mismatch : (net : Topology) (js : Journaled) → IsWithinRules net → (earlier : List Event) (p : ℕ) (step : Step) → next_step net js earlier p ≡ Some step → IsNoCapacity step.input → (m : PortMismatches net js earlier p) →
+pub would_mismatch : (net : Topology) (js : Journaled) → IsWithinRules net → (earlier : List Event) (p : ℕ) (step : Step) → next_step net js earlier p ≡ Some step → IsNoCapacity step.input → (m : PortMismatches net js earlier p) →
     Would net js earlier m.turns p step m.event m.visits.reply
 would_mismatch net js rules earlier p step next none m =
     let after = m.turns ++ earlier in
@@ -154,7 +154,7 @@ port_absent net js rules earlier p step event next none one off no_turn =
     ]))
 
 -- an event that comes and answers something else than the next step says
-mismatch_at : (net : Topology) (js : Journaled) → IsWithinRules net → (earlier turns : List Event) (p : ℕ) (step : Step) (event : Event) → next_step net js earlier p ≡ Some step → AreTurns net earlier turns →
+pub mismatch_at : (net : Topology) (js : Journaled) → IsWithinRules net → (earlier turns : List Event) (p : ℕ) (step : Step) (event : Event) → next_step net js earlier p ≡ Some step → AreTurns net earlier turns →
     Comes net js earlier p step.place step.input event → is_enabled (outcome_of net (past_of net (turns ++ earlier)) event) ≡ true → PortMismatches net js earlier p
 mismatch_at net js rules earlier turns p step event next all before on =
     let after = turns ++ earlier in
@@ -347,10 +347,3 @@ expected_after net js events sp p place input reply c reached event turn it its 
       low = it.low;
       reached_is = it.reached_is;
     })
-
--- a look is one also from a board that has the same
-pub look_same : (net : Topology) (js : Journaled) (settled : List Event → Bool → Type 0) (old also new : Board) (look : Look) → old.events.items ≡ also.events.items → count old ≡ count also →
-    IsAfterLook net js settled also new look → IsAfterLook net js settled old new look
-look_same net js settled old also new Placed same counts h = (h.0, subst (λ n. n < count new) (sym counts) h.1)
-look_same net js settled old also new Waits same counts h = (h.0, h.1 ∙ sym same, h.2 ∙ sym counts, subst (λ l. settled (reverse l) false) (sym same) h.3)
-look_same net js settled old also new Mismatches same counts h = (h.0, h.1 ∙ sym same, h.2 ∙ sym counts, subst (λ l. settled (reverse l) true) (sym same) h.3)

@@ -32,7 +32,7 @@ stop_found net vc input p c hop conn about low is has at high some =
     }
 
 -- a port at a hop of a net's path has that hop
-at_own_hop : (net : Topology) → IsWithinRules net → (c hop p : ℕ) (conn : Conn) → conn_at net c ≡ Some conn → is_hop (length conn.path) hop ≡ true →
+pub at_own_hop : (net : Topology) → IsWithinRules net → (c hop p : ℕ) (conn : Conn) → conn_at net c ≡ Some conn → is_hop (length conn.path) hop ≡ true →
     p ≡ slice_index conn.path (hop - 1) → hop_of conn.path p ≡ hop
 at_own_hop net rules c hop p conn known is port =
     let bounds = is_hop_tells (length conn.path) hop is in

@@ -15,6 +15,7 @@ use Rattle.abt_woven.specs.Projections.{Visit, past_of, visit, steps_on, entry_m
 use Rattle.abt_woven.specs.Stuck.{Journaled, ArePlaced, AreTurns, Fits, PortMismatches, SourceMismatches}
 use Rattle.abt_weave.specs.Actors.{actor_at}
 use Rattle.abt_weave.specs.Shown.{AreShown}
+use Rattle.abt_weave.specs.Waking.{HasPlaced}
 use Rattle.abt_weave.specs.declared.board.Board.{Board}
 use Rattle.abt_weave.specs.declared.look.Look.{Look}
 use Rattle.abt_weave.specs.declared.look.Look.TheVariants.{Placed, Waits, Mismatches}
@@ -65,32 +66,17 @@ IsActorSettled net journals earlier (Port p) mismatches = IsPortSettled net jour
 
 -- what a look at an actor does, where settled says whether its entry is stuck, and mismatches
 abbrev pub IsAfterLook : Topology → Journaled → (List Event → Bool → Type 0) → (old new : Board) → Look → Type 0
-IsAfterLook net journals settled old new Placed = IsBoard net journals new × (count old < count new)
+IsAfterLook net journals settled old new (Placed event) = IsBoard net journals new × (count old < count new) × HasPlaced net event old.events.items new.events.items
 IsAfterLook net journals settled old new Waits = IsBoard net journals new × (new.events.items ≡ old.events.items) × (count new ≡ count old) × settled (reverse old.events.items) false
 IsAfterLook net journals settled old new Mismatches = IsBoard net journals new × (new.events.items ≡ old.events.items) × (count new ≡ count old) × settled (reverse old.events.items) true
 
--- whether a look saw a mismatch, and whether something has been placed after it
+-- whether a look saw a mismatch
 abbrev pub is_mismatch : Look → Bool
-is_mismatch Placed = false
+is_mismatch (Placed event) = false
 is_mismatch Waits = false
 is_mismatch Mismatches = true
-
-abbrev pub has_moved : Bool → Look → Bool
-has_moved moved Placed = true
-has_moved moved Waits = moved
-has_moved moved Mismatches = moved
 
 -- each actor with a number below this one is settled, and its mark says whether its entry mismatches
 pub record AreSettled (net : Topology) (journals : Journaled) (earlier : List Event) (n : ℕ) (marks : List Bool) : Type 0 where
   pub count_is : length marks ≡ n
   pub each : (i : ℕ) (b : Bool) → slice_get marks i ≡ Some b → IsActorSettled net journals earlier (actor_at net i) b
-
--- what a pass has done after so many actors: it has placed something, or these are settled
-pub record IsPassing (net : Topology) (journals : Journaled) (old new : Board) (n : ℕ) (moved : Bool) (marks : List Bool) : Type 0 where
-  pub board : IsBoard net journals new
-  pub progress : MatchBool moved (count old < count new) ((new.events.items ≡ old.events.items) × (count new ≡ count old) × AreSettled net journals (reverse old.events.items) n marks)
-
--- the board after some looks, at least as far, and further where something was placed
-pub record IsFurther (net : Topology) (journals : Journaled) (old new : Board) (moved : Bool) : Type 0 where
-  pub board : IsBoard net journals new
-  pub progress : MatchBool moved (count old < count new) (count old ≡ count new)

@@ -1,5 +1,5 @@
 -- The event that the next entry of a port can be, by journals alone. Entries of sources are listed with the newest first.
-use Rattle.std.specs.Prelude.{ℕ, ◌==◌, ◌&&◌, ◌||◌, not, Bool, true, false, List, if◌then◌else◌, Option, None, Some, option_map}
+use Rattle.std.specs.Prelude.{◌≡◌, ℕ, ◌==◌, ◌&&◌, ◌||◌, not, Bool, true, false, List, if◌then◌else◌, Option, None, Some, option_map}
 use Rattle.abt_cell.specs.Channel.{Channel}
 use Rattle.abt_model.specs.declared.event.Event.{Event}
 use Rattle.abt_model.specs.declared.event.Event.TheVariants.{Arrive, Request, Answer}
@@ -35,6 +35,12 @@ event_by conn hop place (AnswerIn answer) placed next =
 event_by conn hop place (ArriveIn vc at) placed next =
     if hop == 1 then option_map (λ cell. Arrive conn cell at) (cell_arrived_at place next) else None
 event_by conn hop place (CapacityIn capacity) placed next = None
+
+-- these are the rates that were asked for under the number of a message
+abbrev pub AreTermsOf : PortInput → (floor ask : ℕ) → List SourceEntry → Type 0
+AreTermsOf (RequestIn request) floor ask placed = (floor ≡ floor_in placed request.seq) × (ask ≡ ask_in placed request.seq)
+AreTermsOf (AnswerIn answer) floor ask placed = (floor ≡ floor_in placed answer.terms.seq) × (ask ≡ ask_in placed answer.terms.seq)
+AreTermsOf other floor ask placed = Unit {0}
 
 -- the channel that an input is about, if it is about one
 abbrev pub channel_of : PortInput → Option Channel

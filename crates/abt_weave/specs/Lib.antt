@@ -9,3 +9,7 @@ pub mod Faults
 pub mod Leaving
 pub mod Shown
 pub mod OneFault
+pub mod Waking
+pub mod Queue
+pub mod Rounds
+pub mod OneLaw

@@ -1,5 +1,5 @@
 //! The sources and ports of a net in one order.
-ghost use Rattle.std.specs.Prelude.{◌≡◌, ◌<◌, length};
+ghost use Rattle.std.specs.Prelude.{◌≡◌, ◌+◌, ◌<◌, length};
 ghost use Rattle.abt_net.specs.Topology.{IsWithinRules};
 ghost use Rattle.abt_weave.specs.Actors as actors;
 
@@ -26,4 +26,12 @@ pub(crate) fn actor_at(net: &Net, number: u16) -> Actor
     } else {
         Actor::Port(number - conns)
     }
+}
+
+// The number of a port, which comes after all sources.
+pub(crate) fn port_number(net: &Net, port: u16) -> u16
+    requires { port < length net.now.capacities }
+    ensures { result ≡ length net.now.conns + port }
+{
+    net.conns().len() as u16 + port
 }

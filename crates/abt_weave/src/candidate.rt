@@ -1,12 +1,13 @@
 //! The event that the next entry of a port can be.
-ghost use Rattle.std.specs.Prelude.{◌≡◌, ◌==◌, ◌&&◌, ℕ, reverse, Some, IfSome, IsNone};
+ghost use Rattle.std.specs.Prelude.{◌≡◌, ◌==◌, ◌&&◌, ℕ, List, Some, IfSome, IsNone};
 ghost use Rattle.abt_net.specs.Topology.{IsWithinRules};
 ghost use Rattle.abt_weave.specs.Comes.{IsYes, IsTurnOf};
 ghost use Rattle.abt_weave.specs.Candidates as candidates;
-ghost use Rattle.abt_weave.specs.Candidates.{event_by, is_sent_at, cell_arrived_at};
+ghost use Rattle.abt_source_journal.specs.declared.entry.SourceEntry.{SourceEntry as SourceEntrySpec};
+ghost use Rattle.abt_weave.specs.Candidates.{AreTermsOf, event_by, is_sent_at, cell_arrived_at};
 ghost use Rattle.abt_weave.specs.Stops.{IsStop};
 
-use crate::asked::{Rates, rates_asked};
+use crate::asked::Rates;
 use abt_cell::Vc;
 use abt_journal::PortInput;
 use abt_model::Event;
@@ -22,7 +23,7 @@ pub(crate) struct Stop {
 }
 
 // The channel that an input is about, if it is about one.
-fn channel_of(input: &PortInput) -> Option<Vc>
+pub(crate) fn channel_of(input: &PortInput) -> Option<Vc>
     ensures { result ≡ candidates.channel_of input.now }
 {
     match input {
@@ -75,21 +76,23 @@ fn has_rates(rates: Rates, floor: Rate, ask: Rate) -> bool
     floor == rates.floor && ask == rates.ask
 }
 
-// The event of a connection that brings this to a port, where its step takes this place in the port's journal.
+// The event of a connection that brings this to a port, where its step takes this place in the port's journal. The rates are
+// those that were asked for under the number of a message.
 pub(crate) fn event_of(
     stop: Stop,
     place: u64,
     input: &PortInput,
-    placed: &[SourceEntry],
+    rates: Rates,
     next: Option<SourceEntry>,
 ) -> Option<Event>
-    ensures { result ≡ event_by stop.conn stop.hop place input.now (reverse placed.now) next }
+    ensures { (placed : List SourceEntrySpec) → AreTermsOf input.now rates.floor rates.ask placed →
+        result ≡ event_by stop.conn stop.hop place input.now placed next }
 {
     let Stop { conn, hop } = stop;
     match input {
         PortInput::Request(request) => {
             let seq = request.seq();
-            if !has_rates(rates_asked(placed, seq), request.floor(), request.ask()) {
+            if !has_rates(rates, request.floor(), request.ask()) {
                 return None;
             }
             if hop == 1 && !is_sent_at(next, place) {
@@ -99,7 +102,7 @@ pub(crate) fn event_of(
         }
         PortInput::Answer(answer) => {
             let seq = answer.seq();
-            if !has_rates(rates_asked(placed, seq), answer.floor(), answer.ask()) {
+            if !has_rates(rates, answer.floor(), answer.ask()) {
                 return None;
             }
             let granted = answer.granted();

@@ -1,12 +1,54 @@
-//! What a look at an actor's next entry shows.
+//! Looks at the next entries of actors.
+ghost use Rattle.std.specs.Prelude.{◌≡◌, length, IfOk};
+ghost use Rattle.abt_weave.specs.Actors as actors;
+ghost use Rattle.abt_weave.specs.Board as seen;
+ghost use Rattle.abt_weave.specs.Board.{journaled, IsBoard, IsActorSettled, IsAfterLook};
+
+use crate::board::Board;
+use crate::given::Given;
+use crate::port::look_at_port;
+use crate::source::look_at_source;
+use abt_model::Event;
+use abt_woven::Actor;
+use std::alloc::{AllocError, Global};
 
 /// What became of an actor's next entry.
 #[derive(Clone, Copy, Debug, PartialEq, Eq)]
 pub(crate) enum Look {
-    /// It is placed.
-    Placed,
+    /// It is placed, as this event.
+    Placed(Event),
     /// No event can be it, or there is none left.
     Waits,
     /// The event that could be it answers something else.
     Mismatches,
+}
+
+pub(crate) fn is_mismatch(look: Look) -> bool
+    ensures { result ≡ seen.is_mismatch look }
+{
+    match look {
+        Look::Mismatches => true,
+        Look::Placed(_) | Look::Waits => false,
+    }
+}
+
+/// Places the next entry of a source or a port, if it can have happened now.
+pub(crate) fn look_at<'run>(
+    alloc: Global,
+    given: &Given<'run>,
+    board: &mut Board<'run>,
+    actor: Actor,
+) -> Result<Look, AllocError>
+    requires conns { length given.now.sources.now ≡ length given.now.net.now.conns }
+    requires ports { length given.now.ports.now ≡ length given.now.net.now.capacities }
+    requires actor { actors.IsAmong (length given.now.net.now.conns) (length given.now.net.now.capacities) actor }
+    requires board { IsBoard given.now.net.now (journaled given.now.ports.now given.now.sources.now) board.old }
+    ensures { let journals = journaled given.now.ports.now given.now.sources.now in
+        IfOk result (IsAfterLook given.now.net.now journals
+        (λ earlier mismatches. IsActorSettled given.now.net.now journals earlier actor mismatches) board.old board.new) }
+{
+    match actor {
+        Actor::Source(conn) => look_at_source(alloc, given, board, conn),
+        Actor::Port(port) => look_at_port(alloc, given, board, port),
+    }
 }

@@ -12,6 +12,7 @@ ghost use Rattle.abt_woven.specs.Stuck.{next_step};
 ghost use Rattle.abt_model.specs.Run.{facts_after};
 ghost use Rattle.abt_weave.specs.Board.{journaled, IsBoard, IsAfterLook, IsPortSettled};
 
+use crate::asked::rates_for;
 use crate::board::{Board, world_after};
 use crate::candidate::{event_of, own_turn, stop_of};
 use crate::given::Given;
@@ -56,13 +57,9 @@ fn candidate(given: &Given, board: &Board, port: u16, place: usize, entry: &Entr
     let c = usize::from(stop.conn);
     let entries = given.sources[c].entries.as_slice();
     let come = board.source_places[c];
-    let event = event_of(
-        stop,
-        entry.place,
-        &entry.input,
-        &entries[..come],
-        entry_at(entries, come),
-    )?;
+    let rates = rates_for(&board.world, stop.conn, &entry.input);
+    let next = entry_at(entries, come);
+    let event = event_of(stop, entry.place, &entry.input, rates, next)?;
     Some(Coming {
         conn: stop.conn,
         event,
@@ -174,7 +171,7 @@ pub(crate) fn look_at_port<'run>(
             board.events.push(it.event)?;
             board.source_places[usize::from(it.conn)] = it.reached;
             board.port_places[p] = place + 1;
-            Ok(Look::Placed)
+            Ok(Look::Placed(it.event))
         }
         Tried::Differs => {
             board.world = world_after(alloc, given, &board.events)?;
@@ -216,7 +213,7 @@ fn look_after_turn<'run>(
             board.events.push(it.event)?;
             board.source_places[usize::from(it.conn)] = it.reached;
             board.port_places[usize::from(port)] += 1;
-            Ok(Look::Placed)
+            Ok(Look::Placed(it.event))
         }
         _ => {
             board.world = world_after(alloc, given, &board.events)?;
@@ -254,7 +251,7 @@ fn look_at_capacity<'run>(
         Tried::Agrees => {
             board.events.push(event)?;
             board.port_places[p] = placed + 1;
-            Ok(Look::Placed)
+            Ok(Look::Placed(event))
         }
         Tried::Differs => {
             board.world = world_after(alloc, given, &board.events)?;

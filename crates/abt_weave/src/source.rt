@@ -48,7 +48,7 @@ pub(crate) fn look_at_source<'run>(
         Tried::Agrees => {
             board.events.push(event)?;
             board.source_places[c] = place + 1;
-            Ok(Look::Placed)
+            Ok(Look::Placed(event))
         }
         Tried::Differs => {
             board.world = world_after(alloc, given, &board.events)?;

@@ -14,7 +14,7 @@ use crate::fault::WeaveFault;
 use crate::given::Given;
 use crate::left::actors_left;
 use crate::mismatch::first_mismatch;
-use crate::pass::settle;
+use crate::settle::settle;
 use abt_list::Sequence;
 use abt_model::Event;
 use abt_net::Net;

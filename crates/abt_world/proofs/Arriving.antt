@@ -8,7 +8,7 @@ use Rattle.abt_net.specs.Topology.{Topology}
 use Rattle.abt_node.specs.Table.{Table, held_at, connection_at, arrival_at, table_after_arrival}
 use Rattle.abt_facts.specs.declared.fact.Fact.{Fact}
 use Rattle.abt_facts.specs.declared.fact.Fact.TheVariants.{Arrived as FactArrived}
-use Rattle.abt_facts.specs.Hop.{held_of}
+use Rattle.abt_facts.specs.Hop.{held_of, newest_of}
 use Rattle.abt_facts.specs.Cells.{emitted_of, fence_of, is_in_time, last_arrival_of, verdict_at}
 use Rattle.abt_model.specs.declared.event.Event.TheVariants.{Arrive}
 use Rattle.abt_model.specs.declared.outcome.Cause.TheVariants.{NotSent, Fenced, Delay, ClockBack}
@@ -75,6 +75,23 @@ rate_there net past c conn facts hop port ports table is are has low table_at =
     ∙ ap (λ h. Some (held_at (kept_at conn (facts_of c past) h))) at_hop
     ∙ ap Some (held_by-held (route_of conn) (facts_of c past) lawful hop)
     ∙ ap (λ fs. Some (held_of fs hop)) (sym is.facts_are)
+
+-- the newest number at the port is that of the facts
+pub newest_there :
+    (net : Topology) (past : Past) (c : ℕ) (conn : Conn) (facts : List Fact) (hop port : ℕ) (ports : List Table) (table : Table) → IsConnAt net past c conn facts →
+    ArePorts net past ports → port_at conn.path hop ≡ Some port → port < length ports → slice_get ports port ≡ Some table →
+    option_map (λ r. r.reservation.newest) (connection_at table conn.vc) ≡ Some (newest_of facts hop)
+newest_there net past c conn facts hop port ports table is are has low table_at =
+    let tells = port_tells conn.path hop port has in
+    let at_hop = at_its_hop net past c conn facts hop port is tells.0 tells.1 in
+    let low_hop = (is_hop_tells (length conn.path) hop tells.0).0 in
+    let some : Rattle.abt_net.specs.Paths.hop_of conn.path port ≢ 0 = λ none. omega arith in
+    let table_is : table ≡ port_table net past port = (let e = sym table_at ∙ port_has net past ports port are low in cc) in
+    let row = tables_have_rows net past is.rules c port conn is.known some in
+    ap (λ t. option_map (λ r. r.reservation.newest) (connection_at t conn.vc)) table_is
+    ∙ ap (option_map (λ r. r.reservation.newest)) row
+    ∙ ap (λ h. Some (newest_of (facts_of c past) h)) at_hop
+    ∙ ap (λ fs. Some (newest_of fs hop)) (sym is.facts_are)
 
 -- the verdict of the port, and its table then
 pub record IsJudged (net : Topology) (past : Past) (c : ℕ) (conn : Conn) (facts : List Fact) (cell at port : ℕ) (table : Table) : Type 0 where

@@ -15,3 +15,4 @@ mod Stepping
 pub mod Admitting
 mod Sounding
 mod Looking
+mod Judging

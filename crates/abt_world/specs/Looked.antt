@@ -1,8 +1,9 @@
 -- How many entries of its own maps and lists a world looks up for an event.
-use Rattle.std.specs.Prelude.{ℕ, ◌+◌, ◌*◌, List, length, Option, None, Some, is_some, nat_lt, Bool, true, false}
+use Rattle.std.specs.Prelude.{ℕ, ◌+◌, List, length, Option, None, Some, is_some, if◌then◌else◌, nat_le, nat_lt, Bool, true, false}
 use Rattle.abt_net.specs.declared.conn.Conn.{Conn}
 use Rattle.abt_net.specs.Topology.{Topology, conn_at}
 use Rattle.abt_facts.specs.declared.fact.Fact.{Fact}
+use Rattle.abt_facts.specs.Source.{rate_of}
 use Rattle.abt_log.specs.Index.{is_of_message}
 use Rattle.abt_safety.specs.Tallies.{one_if, count_of}
 use Rattle.abt_model.specs.declared.event.Event.{Event}
@@ -13,7 +14,7 @@ use Rattle.abt_model.specs.declared.outcome.Cause.{Cause}
 use Rattle.abt_model.specs.declared.outcome.Cause.TheVariants.{NotSent, Fenced}
 use Rattle.abt_model.specs.declared.outcome.Outcome.{Outcome}
 use Rattle.abt_model.specs.declared.outcome.Outcome.TheVariants.{Requested, Answered, Told as HasTold, NotEnabled}
-use Rattle.abt_model.specs.Outcomes.{conn_of, outcome_of, facts_added}
+use Rattle.abt_model.specs.Outcomes.{conn_of, outcome_of, facts_added, after_event}
 use Rattle.abt_model.specs.Past.{Past, facts_of}
 use Rattle.abt_model.specs.Targets.{target_of}
 use Rattle.abt_world.specs.Touches.{visited}
@@ -43,20 +44,27 @@ looks_to_take hops (Told c seq granted) (HasTold heard) = 2
 looks_to_take hops (Told c seq granted) outcome = 1
 looks_to_take hops event outcome = 0
 
--- what noting facts looks up: each that is one of a message twice
+-- what noting facts looks up: for each that is one of a message that message
 abbrev pub looks_to_note : List Fact → ℕ
-looks_to_note added = 2 * count_of is_of_message added
+looks_to_note added = count_of is_of_message added
 
 -- what an event of a connection with such facts looks up that answers so, to be taken and noted
 abbrev pub looks_to_happen : Conn → List Fact → Event → Outcome → ℕ
 looks_to_happen conn facts event outcome = looks_to_take (length conn.path) event outcome + looks_to_note (facts_added facts event outcome)
 
+-- the hops of a path that are asked whether they hold what a source sends, which came to another rate: the one that an event came to, and
+-- each where the rate was raised
+abbrev pub hops_asked : (hops before after : ℕ) → Option ℕ → ℕ
+hops_asked hops before after port = if nat_le after before then one_if (is_some port) else hops
+
 -- What an event of a connection looks up after a past: the connection, what it needs to happen, and, to see whether all is still safe,
--- each hop of the path and the port that it came to. An event of a connection that the net doesn't have looks nothing up.
+-- hops of the path and the port that it came to. An event of a connection that the net doesn't have looks nothing up.
 abbrev pub looks_at : Topology → Past → Event → (c : ℕ) → Option Conn → ℕ
 looks_at net past event c None = 0
 looks_at net past event c (Some conn) =
-    1 + looks_to_happen conn (facts_of c past) event (outcome_of net past event) + length conn.path + one_if (is_some (visited conn event))
+    1 + looks_to_happen conn (facts_of c past) event (outcome_of net past event)
+    + hops_asked (length conn.path) (rate_of (facts_of c past)) (rate_of (facts_of c (after_event net past event))) (visited conn event)
+    + one_if (is_some (visited conn event))
 
 -- An event of a port alone looks that up, if the net has it.
 abbrev pub looks_alone : Topology → Target → ℕ

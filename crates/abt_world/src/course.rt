@@ -32,8 +32,8 @@ pub(crate) struct Course {
 fn note(log: &mut Log, added: Added, looks: &mut Looks)
     requires { 2 ≤ log.old.room }
     ensures index { CanAllFollow (facts_in added) log.old.index → log.new.index ≡ all_noted (facts_in added) log.old.index }
-    ensures looks { looks.new ≤ looks.old + 4 }
-    ensures counted { looks.old + 4 ≤ u64.MAX → looks.new ≡ looks.old + looks_to_note (facts_in added) }
+    ensures looks { looks.new ≤ looks.old + 2 }
+    ensures counted { looks.old + 2 ≤ u64.MAX → looks.new ≡ looks.old + looks_to_note (facts_in added) }
 {
     match added {
         Added::Nothing => {}
@@ -61,10 +61,10 @@ impl Course {
             (λ _. (self.new.actor ≡ self.old.actor) × (self.new.log.index ≡ self.old.log.index) × (ports.new ≡ ports.old)) }
         ensures memory { OnErr result ((self.new.actor ≡ self.old.actor) × (self.new.log.index ≡ self.old.log.index) × (ports.new ≡ ports.old)) }
         ensures touches { OnOk result (Touches (visited conn.now event.now) conn.now.vc ports.old ports.new) }
-        ensures looks { looks.new ≤ looks.old + 7 }
+        ensures looks { looks.new ≤ looks.old + 5 }
         ensures counted { (net : Topology) (past : Past) (c : ℕ) (facts : List FactSpec) → IsLogOf facts self.old.log →
             AsksRate event.now → conn_of event.now ≡ Some c → IsConnAt net past c conn.now facts → ArePorts net past ports.old →
-            self.old.actor ≡ actor_of conn.now.vc facts → looks.old + 7 ≤ u64.MAX → OnOk result (looks.new
+            self.old.actor ≡ actor_of conn.now.vc facts → looks.old + 5 ≤ u64.MAX → OnOk result (looks.new
             ≡ looks.old + looks_to_happen conn.now (facts_of c past) event.now (outcome_of net past event.now)) }
     {
         self.log.reserve()?;

@@ -1,6 +1,7 @@
 //! Whether what is reserved covers what is sent.
-ghost use Rattle.std.specs.Prelude.{◌≡◌, ◌+◌, ◌≤◌, is_some, length};
-ghost use Rattle.abt_safety.specs.Holding.{looked_at};
+ghost use Rattle.std.specs.Prelude.{◌≡◌, ◌+◌, ◌≤◌, false, is_some, List, length};
+ghost use Rattle.abt_node.specs.Table.{Table};
+ghost use Rattle.abt_safety.specs.Holding.{is_held_along, looked_at, looked_after, ChangesOne};
 ghost use Rattle.abt_safety.specs.Tallies.{one_if, over_at};
 ghost use Rattle.abt_world.specs.Seen.{seen};
 ghost use Rattle.abt_world.specs.Tallied.{shapes_above, is_broken};
@@ -9,7 +10,30 @@ use crate::course::Course;
 use abt_log::Looks;
 use abt_net::Conn;
 use abt_node::Port;
-use abt_safety::{Marks, Tally, is_held, is_over};
+use abt_safety::{Marks, Shaped, Tally, is_held, is_held_after, is_over};
+
+// What isn't safe of a connection, of which it is known whether its source shapes above what a hop holds, and of a port.
+fn marks_of(
+    above: bool,
+    course: &Course,
+    port: Option<u16>,
+    ports: &[Port],
+    looks: &mut Looks,
+) -> Marks
+    ensures above { result.above ≡ above }
+    ensures over { result.over ≡ over_at port ports.now }
+    ensures broken { result.broken ≡ is_broken (seen course.now) }
+    ensures looks { looks.new ≤ looks.old + 1 }
+    ensures counted { looks.old + 1 ≤ u64.MAX → looks.new ≡ looks.old + one_if (is_some port) }
+{
+    let over = is_over(port, ports, looks);
+    let broken = !course.log.all_conform();
+    Marks {
+        above,
+        over,
+        broken,
+    }
+}
 
 // What isn't safe of a connection, and of the port that its event comes to.
 pub(crate) fn marks(
@@ -28,13 +52,7 @@ pub(crate) fn marks(
 {
     let path = conn.path.as_slice();
     let above = !is_held(course.actor.rate(), conn.vc, path, ports, looks);
-    let over = is_over(port, ports, looks);
-    let broken = !course.log.all_conform();
-    Marks {
-        above,
-        over,
-        broken,
-    }
+    marks_of(above, course, port, ports, looks)
 }
 
 // The same of a connection and a port that a tally counts. Where it counts nothing, nothing is looked up.
@@ -52,10 +70,36 @@ pub(crate) fn counted_marks(
         result.over ≡ over_at port ports.now }
     ensures broken { one_if (is_broken (seen course.now)) ≤ tally.now.broken → result.broken ≡ is_broken (seen course.now) }
     ensures looks { looks.new ≤ looks.old + length conn.now.path + 1 }
+    ensures safe { tally.now.above ≡ 0 → tally.now.over ≡ 0 → tally.now.broken ≡ 0 → result.above ≡ false }
     ensures counted { tally.now.above ≡ 0 → tally.now.over ≡ 0 → tally.now.broken ≡ 0 → looks.new ≡ looks.old }
 {
     if tally.is_safe() {
         return Marks::none();
     }
     marks(conn, course, port, ports, looks)
+}
+
+// The same after an event of the connection, which changed at most the port that it came to, where it is known at which rate the
+// source shaped before, and whether each hop held it.
+pub(crate) fn marks_after(
+    before: Shaped,
+    conn: &Conn,
+    course: &Course,
+    port: Option<u16>,
+    ports: &[Port],
+    looks: &mut Looks,
+) -> Marks
+    ensures above { (tables : List Table) → ChangesOne port conn.now.vc conn.now.path tables ports.now →
+        before.is_held ≡ is_held_along before.rate conn.now.vc tables conn.now.path →
+        result.above ≡ shapes_above ports.now (conn.now, seen course.now) }
+    ensures over { result.over ≡ over_at port ports.now }
+    ensures broken { result.broken ≡ is_broken (seen course.now) }
+    ensures looks { looks.new ≤ looks.old + length conn.now.path + 2 }
+    ensures counted { let looked = looked_after before course.now.actor.source.rate conn.now.vc ports.now conn.now.path port in
+        looks.old + looked + 1 ≤ u64.MAX → looks.new ≡ looks.old + looked + one_if (is_some port) }
+{
+    let path = conn.path.as_slice();
+    let rate = course.actor.rate();
+    let above = !is_held_after(before, rate, conn.vc, path, port, ports, looks);
+    marks_of(above, course, port, ports, looks)
 }

@@ -9,7 +9,7 @@ ghost use Rattle.abt_model.specs.declared.event.Event.{Event};
 ghost use Rattle.abt_model.specs.declared.event.Event.TheVariants as event;
 ghost use Rattle.abt_world.specs.Headline.{HeadlineHolds};
 ghost use Rattle.abt_world.specs.Looked.{looks_of};
-ghost use Rattle.abt_world.specs.Readings.{rate_in, held_in, total_in, capacity_in};
+ghost use Rattle.abt_world.specs.Readings.{rate_in, asked_for, held_in, total_in, capacity_in, newest_in, moment_in, progress_in};
 ghost use Rattle.abt_world.specs.Sound.{IsSound};
 ghost use Rattle.abt_world.specs.Standing.{StandsFor};
 
@@ -19,14 +19,15 @@ use crate::fresh::{fresh_courses, opening_ports};
 use crate::happen::{asks_rate, place_of, visited};
 use crate::hops::port_at;
 use crate::links::set_capacity;
-use crate::safety::{counted_marks, marks};
+use crate::progress::{Progress, progress_of};
+use crate::safety::{counted_marks, marks_after};
 use abt_list::Sequence;
 use abt_log::Looks;
 use abt_model::{Cause, Event, Outcome, Target};
 use abt_net::Net;
 use abt_node::Port;
 use abt_rate::Rate;
-use abt_safety::{Marks, Tally};
+use abt_safety::{Marks, Shaped, Tally};
 use abt_trace::Trace;
 use std::alloc::{AllocError, Global};
 use std::marker::Model;
@@ -161,9 +162,13 @@ impl<'net> World<'net> {
         let course = &mut self.courses[looks.counting(place)];
         let port = visited(conn, event);
         let before = counted_marks(&self.tally, conn, course, port, &self.ports, &mut looks);
+        let shaped = Shaped {
+            rate: course.actor.rate(),
+            is_held: !before.above,
+        };
         match course.take(conn, &mut self.ports, event, &mut looks) {
             Ok(outcome) => {
-                let after = marks(conn, course, port, &self.ports, &mut looks);
+                let after = marks_after(shaped, conn, course, port, &self.ports, &mut looks);
                 self.tally = self.tally.after(&before, &after);
                 self.looks = looks.count();
                 Ok(outcome)
@@ -191,6 +196,20 @@ impl<'net> World<'net> {
         Some(self.courses[place].actor.rate())
     }
 
+    /// The floor and the asked rate of a request of a connection, if its source asked it. Finding it costs the same, however many
+    /// requests there were.
+    pub fn asked(&self, conn: u16, seq: u32) -> Option<(Rate, Rate)>
+        ensures { (net : Topology) (events : List Event) → StandsFor net events self.now →
+            result ≡ asked_for net (facts_after net events) conn seq }
+    {
+        let place = usize::from(conn);
+        if place >= self.courses.len() {
+            return None;
+        }
+        let mut looks = Looks::new();
+        self.courses[place].log.asked(seq, &mut looks)
+    }
+
     /// What a hop of its path, counted from 1, holds for a connection.
     pub fn held(&self, conn: u16, hop: u16) -> Option<Rate>
         ensures { (net : Topology) (events : List Event) → StandsFor net events self.now →
@@ -206,6 +225,47 @@ impl<'net> World<'net> {
             return None;
         }
         self.ports[port].held(conns[place].vc)
+    }
+
+    /// The newest number that a hop of its path, counted from 1, decided for a connection, 0 before the first.
+    pub fn newest(&self, conn: u16, hop: u16) -> Option<u32>
+        ensures { (net : Topology) (events : List Event) → StandsFor net events self.now →
+            result ≡ newest_in net (facts_after net events) conn hop }
+    {
+        let conns = self.net.conns();
+        let place = usize::from(conn);
+        if place >= conns.len() {
+            return None;
+        }
+        let port = usize::from(port_at(&conns[place], hop)?);
+        if port >= self.ports.len() {
+            return None;
+        }
+        self.ports[port].newest(conns[place].vc)
+    }
+
+    /// The moment at which a cell of a connection left, in picoseconds, 0 if it didn't.
+    pub fn moment(&self, conn: u16, cell: u64) -> Option<u64>
+        ensures { (net : Topology) (events : List Event) → StandsFor net events self.now →
+            result ≡ moment_in net (facts_after net events) conn cell }
+    {
+        let place = usize::from(conn);
+        if place >= self.courses.len() {
+            return None;
+        }
+        Some(self.courses[place].log.emission(cell, &mut Looks::new()))
+    }
+
+    /// How far a connection has come.
+    pub fn progress(&self, conn: u16) -> Option<Progress>
+        ensures { (net : Topology) (events : List Event) → StandsFor net events self.now →
+            result ≡ progress_in net (facts_after net events) conn }
+    {
+        let place = usize::from(conn);
+        if place >= self.courses.len() {
+            return None;
+        }
+        Some(progress_of(&self.courses[place]))
     }
 
     /// The sum of what a port holds, in units of 1/512 cell/s.
@@ -243,12 +303,8 @@ impl<'net> World<'net> {
         self.tally.is_safe()
     }
 
-    // What is left in the end, beside what the events answered.
-    pub(crate) fn end(
-        &self,
-        alloc: Global,
-        outcomes: Sequence<Outcome>,
-    ) -> Result<Trace, AllocError>
+    /// What is left in the end, beside what the events answered.
+    pub fn end(&self, alloc: Global, outcomes: Sequence<Outcome>) -> Result<Trace, AllocError>
         ensures trace { (net : Topology) (events : List Event) → StandsFor net events self.now →
             outcomes ≡ outcomes_of net events → IfOk result (IsTrace net events) }
         ensures headline { (net : Topology) (events : List Event) → StandsFor net events self.now →

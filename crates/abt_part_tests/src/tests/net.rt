@@ -32,6 +32,18 @@ fn fault_at_one_port(alloc: Global, conns: Vec<Conn>) -> Result<Option<NetFault>
     Ok(Net::build(alloc, capacities, conns).err())
 }
 
+// The same of connections of these VCIs and paths; where memory was refused, it is asked for again.
+fn fault_of_paths(alloc: Global, given: &[(u16, &[u16])]) -> Result<Option<NetFault>, AllocError> {
+    match fault_once(alloc, given) {
+        Err(_) | Ok(Some(NetFault::Memory)) => fault_once(alloc, given),
+        answer => answer,
+    }
+}
+
+fn fault_once(alloc: Global, given: &[(u16, &[u16])]) -> Result<Option<NetFault>, AllocError> {
+    fault_at_one_port(alloc, listed(alloc, given)?)
+}
+
 // The expected fault of each row is the first rule of docs/RULES.md, "Limits", that it breaks.
 #[test]
 fn each_broken_rule_has_its_fault_and_the_earliest_is_named(rt: HostRuntime) -> Result<(), Fail> {
@@ -66,8 +78,7 @@ fn each_broken_rule_has_its_fault_and_the_earliest_is_named(rt: HostRuntime) -> 
         ),
     ];
     for (given, expected) in rows {
-        let conns = listed(alloc, given)?;
-        assert_eq!(rt; fault_at_one_port(alloc, conns)?, expected);
+        assert_eq!(rt; fault_of_paths(alloc, given)?, expected);
     }
     Ok(())
 }
@@ -93,7 +104,15 @@ const SMALL: Sizes = Sizes {
     capacity: 512000,
 };
 
+// What is answered to a net of these sizes; where memory was refused, it is asked for again.
 fn fault_at(alloc: Global, sizes: &Sizes) -> Result<Option<NetFault>, AllocError> {
+    match fault_at_once(alloc, sizes) {
+        Err(_) | Ok(Some(NetFault::Memory)) => fault_at_once(alloc, sizes),
+        answer => answer,
+    }
+}
+
+fn fault_at_once(alloc: Global, sizes: &Sizes) -> Result<Option<NetFault>, AllocError> {
     let capacities = vec![in alloc; sizes.capacity; sizes.ports]?;
     let mut conns = Vec::new(alloc);
     for vci in 0..sizes.conns {
@@ -221,14 +240,23 @@ fn a_repeat_is_found_at_the_end_of_200_000_connections(rt: HostRuntime) -> Resul
         (199999, NetFault::Limit),
         (0, NetFault::VcRepeat { connection: 199999 }),
     ] {
-        let mut conns = Vec::new(alloc);
-        for number in 0..199999u32 {
-            conns.push(numbered(alloc, number)?)?;
-        }
-        conns.push(numbered(alloc, last)?)?;
-        assert_eq!(rt; fault_at_one_port(alloc, conns)?, Some(expected));
+        let fault = match fault_of_many(alloc, last) {
+            Err(_) | Ok(Some(NetFault::Memory)) => fault_of_many(alloc, last)?,
+            answer => answer?,
+        };
+        assert_eq!(rt; fault, Some(expected));
     }
     Ok(())
+}
+
+// What is answered to 200,000 connections, the last of which has this channel.
+fn fault_of_many(alloc: Global, last: u32) -> Result<Option<NetFault>, AllocError> {
+    let mut conns = Vec::new(alloc);
+    for number in 0..199999u32 {
+        conns.push(numbered(alloc, number)?)?;
+    }
+    conns.push(numbered(alloc, last)?)?;
+    fault_at_one_port(alloc, conns)
 }
 
 // A connection whose channel has this number, counted through the VCIs of each VPI.

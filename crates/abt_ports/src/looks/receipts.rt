@@ -6,8 +6,9 @@ ghost use Rattle.abt_ports.specs.Missing.{AreInOrder, AllInOrder, IsFirstMissing
 
 use abt_journal::{PortState, Receipt, Seat};
 
-// Whether there are as many receipts as entries, of callers that differ.
-pub(super) fn counts_fit(states: &[PortState], seats: &[Seat]) -> bool
+// Whether there are as many receipts as entries, of callers that differ. `taken` has a mark for each caller.
+pub(super) fn counts_fit(states: &[PortState], seats: &[Seat], taken: &mut [bool]) -> bool
+    requires { length taken.old ≡ 2 ^ 16 }
     ensures { IsTrue result ↔ CountsFit (journals_of states.now) seats.now }
 {
     let mut entries: u128 = 0;
@@ -18,20 +19,21 @@ pub(super) fn counts_fit(states: &[PortState], seats: &[Seat]) -> bool
     for seat in seats {
         receipts += seat.receipts().len() as u128;
     }
-    receipts == entries && callers_differ(seats)
+    receipts == entries && callers_differ(seats, taken)
 }
 
-// Whether no two seats are of one caller.
-fn callers_differ(seats: &[Seat]) -> bool
+// Whether no two seats are of one caller. `taken` has a mark for each caller.
+fn callers_differ(seats: &[Seat], taken: &mut [bool]) -> bool
+    requires { length taken.old ≡ 2 ^ 16 }
     ensures { IsTrue result ↔ AreDistinct seats.now }
 {
-    for place in 0..seats.len() {
-        let caller = seats[place].caller();
-        for before in 0..place {
-            if seats[before].caller() == caller {
-                return false;
-            }
+    taken.fill(false);
+    for seat in seats {
+        let caller = usize::from(seat.caller());
+        if taken[caller] {
+            return false;
         }
+        taken[caller] = true;
     }
     true
 }

@@ -40,7 +40,8 @@ pub fn length_of(ports: &[Vec<Entry>], port: u16) -> u64 {
     }
 }
 
-fn add_entry(ports: &mut Vec<Vec<Entry>>, port: u16, entry: Entry) -> Result<(), AllocError> {
+/// Adds an entry to a port's journal.
+pub fn add_entry(ports: &mut Vec<Vec<Entry>>, port: u16, entry: Entry) -> Result<(), AllocError> {
     // Names the types within an entry, without which the checker can't follow one.
     let _ = matches!(entry.input, PortInput::Arrive { .. });
     let _ = PortReply::Requested(Onward::Pass);
@@ -63,7 +64,8 @@ fn add_visit(ports: &mut Vec<Vec<Entry>>, caller: u16, visit: &Visit) -> Result<
     Ok(place)
 }
 
-fn add_own(
+/// Adds an entry to a source's journal.
+pub fn add_own(
     sources: &mut Vec<Vec<SourceEntry>>,
     conn: u16,
     entry: SourceEntry,

@@ -1,8 +1,8 @@
 //! Ten thousand cells through both forms and a slow walk of the windows.
 ghost use Rattle.std.specs.Prelude.{◌≡◌, ◌<◌, ◌≤◌, All, IfOk};
 
-use super::judged;
-use abt_gcra::{Bucket, Gcra, SPACING_MAX, Verdict, police};
+use super::{judged, listed};
+use abt_gcra::{Bucket, Gcra, SPACING_MAX, Verdict};
 use abt_rate::TAU_MAX;
 use std::alloc::{AllocError, Global};
 use std::process::Abort;
@@ -63,7 +63,7 @@ fn ten_thousand_cells_get_the_verdicts_of_their_windows(rt: HostRuntime) -> Resu
     for _ in 0..100 {
         let cells = generated(rt.alloc(), &mut numbers)?;
         let tau = numbers.below(40);
-        let verdicts = police(rt.alloc(), tau, &cells)?;
+        let verdicts = listed(rt.alloc(), tau, &cells)?;
         assert_eq!(rt; verdicts.len(), cells.len());
         early = early.saturating_add(walk(&rt, rt.alloc(), tau, &cells, &verdicts)?);
     }

@@ -1,4 +1,4 @@
-use Rattle.std.proofs.Common.{◌≡◌, ◌≢◌, ◌∙◌, ◌++◌, ◌∷◌, [], refl, ap, subst, Some}
+use Rattle.std.proofs.Common.{inr, ◌≡◌, ◌≢◌, ◌∙◌, ◌++◌, ◌∷◌, [], refl, ap, subst, Some}
 use Rattle.abt_model.specs.Outcomes.{outcome_of}
 use Rattle.abt_model.specs.Run.{facts_after}
 use Rattle.abt_world.specs.Standing.{StandsFor}
@@ -66,8 +66,9 @@ returns-in_ok-push-in-Agrees-2 c =
     let later = turn_placed net js events c.args.board.now.world c.try_turn.new.world sp pp c.args.it.event c.in-Some.turn c.requires.board its went.1 needed in
     let pushed = c.in_ok-push-in-Agrees-2.ensures.items ∙ ap (λ l. l ++ c.args.it.event ∷ []) (c.in_ok-push-in-Agrees.ensures.items ∙ ap (λ l. l ++ c.in-Some.turn ∷ []) same) in
     let at = place_is pp c.from-in-Agrees.result c.args.port c.index_mut-in-Agrees.result.now c.from-in-Agrees.ensures c.requires.port c.index_mut-in-Agrees.ensures.value in
-    expected_placed net js (events ++ c.in-Some.turn ∷ []) c.push-in-Agrees.new.self.items c.try_turn.new.world c.try_visit.new.world sp pp c.args.port c.from-in-Agrees.result c.index_mut-in-Agrees.result.now c.args.entry.now.place c.args.it.conn c.from.result
-    c.args.it.reached c.args.it.event c.args.entry.now.input c.args.entry.now.reply later it tried.0 tried.1 c.from-in-Agrees.ensures c.from.ensures c.requires.port at pushed
+    let placed = expected_placed net js (events ++ c.in-Some.turn ∷ []) c.push-in-Agrees.new.self.items c.try_turn.new.world c.try_visit.new.world sp pp c.args.port c.from-in-Agrees.result c.index_mut-in-Agrees.result.now c.args.entry.now.place c.args.it.conn c.from.result
+    c.args.it.reached c.args.it.event c.args.entry.now.input c.args.entry.now.reply later it tried.0 tried.1 c.from-in-Agrees.ensures c.from.ensures c.requires.port at pushed in
+    (placed.0, placed.1, inr (c.in-Some.turn, its, pushed))
 
 pub returns-in_ok-board-in_default-2 : goal.returns-in_ok-board-in_default-2
 returns-in_ok-board-in_default-2 c =

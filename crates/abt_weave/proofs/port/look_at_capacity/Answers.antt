@@ -1,4 +1,4 @@
-use Rattle.std.proofs.Common.{◌≡◌, ◌≢◌, ◌∙◌, ◌++◌, ◌∷◌, [], ℕ, refl, ap, sym, subst, length, reverse, false, true, Some}
+use Rattle.std.proofs.Common.{inl, ◌≡◌, ◌≢◌, ◌∙◌, ◌++◌, ◌∷◌, [], ℕ, refl, ap, sym, subst, length, reverse, false, true, Some}
 use Rattle.std.specs.Prelude.{slice_index}
 use Rattle.abt_model.specs.declared.event.Event.TheVariants.{Capacity}
 use Rattle.abt_model.specs.Outcomes.{outcome_of}
@@ -35,8 +35,9 @@ returns-in_ok-push-in-Agrees c =
     let is : c.in_ok-try_visit.field-0 ≡ Agrees = c.in-Agrees.is in
     let tried = subst (λ t. IsVisitTried net events event c.args.entry.now.reply c.try_visit.new.world t) is (c.in_ok-try_visit.ensures net events c.requires.board.stands) in
     let pushed = c.in_ok-push-in-Agrees.ensures.items ∙ ap (λ l. l ++ event ∷ []) c.in_ok-reserve.ensures.items in
-    capacity_board net js events c.push.new.self.items c.args.board.now.world c.try_visit.new.world sp pp c.args.port c.from-p.result c.index-placed.result.now c.args.capacity (step_of c.args.entry.now)
-    c.requires.board c.requires.port c.requires.next (c.if-entry-placed.false ∙ at) c.requires.input tried.0 tried.1 pushed c.from-p.ensures here
+    let placed = capacity_board net js events c.push.new.self.items c.args.board.now.world c.try_visit.new.world sp pp c.args.port c.from-p.result c.index-placed.result.now c.args.capacity (step_of c.args.entry.now)
+    c.requires.board c.requires.port c.requires.next (c.if-entry-placed.false ∙ at) c.requires.input tried.0 tried.1 pushed c.from-p.ensures here in
+    (placed.0, placed.1, inl pushed)
 
 pub returns-in_ok-board-in-Differs : goal.returns-in_ok-board-in-Differs
 returns-in_ok-board-in-Differs c =

@@ -1,4 +1,4 @@
-use Rattle.std.proofs.Common.{◌≡◌, ◌∙◌, ◌<◌, ◌+◌, ◌++◌, ◌∷◌, [], ℕ, refl, ap, sym, subst, length, reverse, rules, arith, Some, None, false}
+use Rattle.std.proofs.Common.{inl, ◌≡◌, ◌∙◌, ◌<◌, ◌+◌, ◌++◌, ◌∷◌, [], ℕ, refl, ap, sym, subst, length, reverse, rules, arith, Some, None, false}
 use Rattle.std.specs.Prelude.{slice_index}
 use Rattle.std.proofs.lemmas.List.{length-map}
 use Rattle.abt_world.specs.Standing.{StandsFor}
@@ -10,7 +10,7 @@ use Rattle.abt_weave.specs.Tried.{IsVisitTried}
 use Rattle.abt_weave.specs.Board.{journaled, IsPlacing, IsPortSettled}
 use Rattle.abt_weave.specs.Comes.{IsExpected}
 use Rattle.abt_weave.proofs.SourceLooks.{board_kept}
-use Rattle.abt_weave.proofs.PortLooks.{step_read, step_at_place, no_step, port_done, none_settled, expected_differs, look_same}
+use Rattle.abt_weave.proofs.PortLooks.{step_read, step_at_place, no_step, port_done, none_settled, expected_differs}
 use Rattle.abt_weave.proofs.PortPlaces.{expected_placed}
 use Rattle.abt_weave.proofs.port.look_at_port.Goals as goal
 
@@ -71,8 +71,9 @@ returns-in_ok-push-in-Agrees c =
     let tried = subst (λ t. IsVisitTried net events c.in-Some.it.event c.index-entries-place.result.reply c.try_visit.new.world t) is (c.in_ok-try_visit.ensures net events c.requires.board.stands) in
     let pushed = c.in_ok-push-in-Agrees.ensures.items ∙ ap (λ l. l ++ c.in-Some.it.event ∷ []) c.in_ok-reserve.ensures.items in
     let lowp : c.args.port < length pp = subst (λ n. c.args.port < n) (sym (c.requires.board.port_count ∙ length-map ports _)) c.requires.port in
-    expected_placed net js events c.push.new.self.items c.args.board.now.world c.try_visit.new.world sp pp c.args.port c.from-p.result c.index-place.result.now c.index-entries-place.result.place c.in-Some.it.conn c.from.result
-    c.in-Some.it.reached c.in-Some.it.event c.index-entries-place.result.input c.index-entries-place.result.reply c.requires.board c.in-Some.ensures.some tried.0 tried.1 c.from-p.ensures c.from.ensures lowp read.1 pushed
+    let placed = expected_placed net js events c.push.new.self.items c.args.board.now.world c.try_visit.new.world sp pp c.args.port c.from-p.result c.index-place.result.now c.index-entries-place.result.place c.in-Some.it.conn c.from.result
+    c.in-Some.it.reached c.in-Some.it.event c.index-entries-place.result.input c.index-entries-place.result.reply c.requires.board c.in-Some.ensures.some tried.0 tried.1 c.from-p.ensures c.from.ensures lowp read.1 pushed in
+    (placed.0, placed.1, inl pushed)
 
 pub returns-in_ok-board-in-Differs : goal.returns-in_ok-board-in-Differs
 returns-in_ok-board-in-Differs c =

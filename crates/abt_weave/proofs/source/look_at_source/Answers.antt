@@ -1,4 +1,4 @@
-use Rattle.std.proofs.Common.{◌≡◌, ◌<◌, ◌+◌, ◌++◌, ◌∷◌, [], refl, sym, ◌∙◌, ap, subst, reverse, length, Some, arith}
+use Rattle.std.proofs.Common.{inl, ◌≡◌, ◌<◌, ◌+◌, ◌++◌, ◌∷◌, [], refl, sym, ◌∙◌, ap, subst, reverse, length, Some, arith}
 use Rattle.std.specs.Prelude.{slice_get, slice_index, sum}
 use Rattle.std.proofs.Math.ListN.{set}
 use Rattle.abt_source_journal.specs.declared.entry.SourceEntry.TheVariants.{Did}
@@ -50,8 +50,9 @@ returns-in_ok-push-in-Agrees c =
     let is : c.in_ok-try_own.field-0 ≡ Agrees = c.in-Agrees.is in
     let tried = subst (λ t. IsOwnTried net events c.in-Did.event c.in-Did.told c.try_own.new.world t) is (c.in_ok-try_own.ensures net events c.requires.board.stands) in
     let pushed = c.in_ok-push-in-Agrees.ensures.items ∙ ap (λ l. l ++ c.in-Did.event ∷ []) c.in_ok-reserve.ensures.items in
-    placed_more net js events c.push.new.self.items c.args.board.now.world c.try_own.new.world sp pp c.args.conn c.from-c.result c.index-place.result.now c.in-Did.event c.in-Did.told
-    c.requires.board c.from-c.ensures (subst (λ n. c.args.conn < n) (sym c.requires.board.source_count) c.requires.source) c.index-place.ensures (next ∙ at) (sym c.is_own_of.ensures ∙ c.if-not-is_own_of.false) tried.0.0 tried.0.1 tried.1 pushed
+    let placed = placed_more net js events c.push.new.self.items c.args.board.now.world c.try_own.new.world sp pp c.args.conn c.from-c.result c.index-place.result.now c.in-Did.event c.in-Did.told
+    c.requires.board c.from-c.ensures (subst (λ n. c.args.conn < n) (sym c.requires.board.source_count) c.requires.source) c.index-place.ensures (next ∙ at) (sym c.is_own_of.ensures ∙ c.if-not-is_own_of.false) tried.0.0 tried.0.1 tried.1 pushed in
+    (placed.0, placed.1, inl pushed)
 
 pub returns-in_ok-board-in-Differs : goal.returns-in_ok-board-in-Differs
 returns-in_ok-board-in-Differs c =

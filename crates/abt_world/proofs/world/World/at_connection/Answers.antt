@@ -1,4 +1,4 @@
-use Rattle.std.proofs.Common.{◌≡◌, ◌<◌, ◌≤◌, ℕ, inl, inr, List, [], ◌∷◌, ◌++◌, map, refl, sym, subst, ap, ◌∙◌, length, arith, ◌^◌}
+use Rattle.std.proofs.Common.{◌≡◌, ◌<◌, ◌≤◌, ℕ, not, inl, inr, List, [], ◌∷◌, ◌++◌, map, refl, sym, subst, ap, ◌∙◌, length, arith, ◌^◌}
 use Rattle.std.specs.Prelude.{Option, None, Some, IsSome, is_some, option_map, slice_get, slice_set}
 use Rattle.std.proofs.lemmas.Bool.{false≢true}
 use Rattle.std.proofs.lemmas.Option.{slice_get_past, slice_get-get_or, slice_get-map}
@@ -13,12 +13,15 @@ use Rattle.abt_model.specs.Past.{facts_of}
 use Rattle.abt_model.specs.Run.{facts_after}
 use Rattle.abt_model.proofs.Worlds.{cases_option}
 use Rattle.abt_world.specs.Courses.{CourseView}
-use Rattle.abt_world.specs.Looked.{looks_at, looks_by}
+use Rattle.abt_world.specs.Looked.{looks_at, looks_by, hops_asked}
+use Rattle.abt_facts.specs.Source.{rate_of}
 use Rattle.abt_world.specs.Seen.{seen}
 use Rattle.abt_world.specs.Standing.{WorldView, StandsFor}
 use Rattle.abt_world.specs.Steps.{ArePorts}
 use Rattle.abt_world.proofs.Standings.{step_unknown, step_taken, port_count, written_over, map_set, set_same, headline_after}
 use Rattle.abt_world.proofs.Final.{AreOfPast}
+use Rattle.abt_safety.specs.Holding.{is_held_along, ChangesOne}
+use Rattle.abt_world.proofs.Judging.{changes_one, asked_are, was_held, hops_few}
 use Rattle.abt_world.proofs.Looking.{path_looked}
 use Rattle.abt_world.proofs.Sendings.{few_hops}
 use Rattle.abt_world.proofs.Serving.{set_here}
@@ -176,15 +179,20 @@ invariant_of-self-in-Ok c =
       over = c.counted_marks-before.ensures.over (subst (λ b. one_if b ≤ c.self.inside.tally.over) (sym over_is) some.1) ∙ over_is;
       broken = c.counted_marks-before.ensures.broken some.2;
     } in
-    let after : AreMarks net ports conn (seen new) port c.marks-after.result = record {
-      above = c.marks-after.ensures.above ∙ ap (λ (ps : List Table). shapes_above ps (conn, seen new)) (c.deref-in-Ok.ensures.value ∙ written);
-      over = c.marks-after.ensures.over ∙ ap (λ (o : Option ℕ). over_at o c.deref-in-Ok.result.now) c.visited-port.ensures
+    let changes : ChangesOne c.visited-port.result conn.vc conn.path held c.deref-in-Ok.result.now =
+    subst (λ (o : Option ℕ). ChangesOne o conn.vc conn.path held c.deref-in-Ok.result.now) (sym c.visited-port.ensures)
+    (subst (ChangesOne port conn.vc conn.path held) (sym (c.deref-in-Ok.ensures.value ∙ written)) (changes_one conn c.args.event.now held ports touches)) in
+    let known_before = was_held c.counted_marks-before.result.above (is_held_along old.actor.source.rate conn.vc held conn.path) (not c.counted_marks-before.result.above) before.above refl
+    ∙ ap (λ (rate : ℕ). is_held_along rate conn.vc held conn.path) (sym c.rate.ensures) in
+    let after : AreMarks net ports conn (seen new) port c.marks_after-after.result = record {
+      above = c.marks_after-after.ensures.above held changes known_before ∙ ap (λ (ps : List Table). shapes_above ps (conn, seen new)) (c.deref-in-Ok.ensures.value ∙ written);
+      over = c.marks_after-after.ensures.over ∙ ap (λ (o : Option ℕ). over_at o c.deref-in-Ok.result.now) c.visited-port.ensures
           ∙ ap (over_at port) (c.deref-in-Ok.ensures.value ∙ written);
-      broken = c.marks-after.ensures.broken;
+      broken = c.marks_after-after.ensures.broken;
     } in
     let few : length net.conns < 2 ^ 63 = omega (arith, rules.connections) in
     let few_ports : length held < 2 ^ 63 = omega (arith, rules.ports, c.self.invariant.3) in
-    let told = tallied_after net held ports (map seen courses) c.counting.result port conn (seen old) (seen new) c.self.inside.tally c.after-self-inside.result c.counted_marks-before.result c.marks-after.result
+    let told = tallied_after net held ports (map seen courses) c.counting.result port conn (seen old) (seen new) c.self.inside.tally c.after-self-inside.result c.counted_marks-before.result c.marks_after-after.result
     c.self.invariant.2 rules.own_channels (length-map courses seen ∙ many) few few_ports known was touches before after
     c.after-self-inside.ensures.above c.after-self-inside.ensures.over c.after-self-inside.ensures.broken in (
       length-set courses c.counting.result new ∙ many,
@@ -276,7 +284,16 @@ returns-in-Ok-clause-counted c net events stands =
     let second = c.counted_marks-before.ensures.counted none.above none.over none.broken in
     let third = c.in-Ok.ensures.counted net past n (facts_of n past) r.log c.asks_rate.ensures own r.at are r.actor (omega (arith, first, start, second)) in
     let bound = c.in-Ok.ensures.looks in
-    let fourth = c.marks-after.ensures.counted (omega (arith, first, start, second, bound, looked, few)) in
+    let leaves = c.in-Ok.ensures.outcome net past n (facts_of n past) r.log c.asks_rate.ensures own r.at are r.actor in
+    let safe = c.counted_marks-before.ensures.safe none.above none.over none.broken in
+    let was = rate_of (facts_of n past) in
+    let is = rate_of (facts_of n (after_event net past e)) in
+    let rated = c.rate.ensures ∙ ap (λ (a : ActorView). a.source.rate) r.actor in
+    let asked = asked_are (record { rate = c.rate.result; is_held = not c.counted_marks-before.result.above }) was is new.actor.source.rate conn.vc ports conn.path c.visited-port.result
+    (ap not safe) rated (ap (λ (a : ActorView). a.source.rate) leaves.actor_is) looked in
+    let at_most = hops_few (length conn.path) was is c.visited-port.result few in
+    let there_asked = ap (hops_asked (length conn.path) was is) c.visited-port.ensures in
+    let fourth = c.marks_after-after.ensures.counted (omega (arith, first, start, second, bound, asked, at_most)) in
     let visits = ap (λ (o : Option ℕ). one_if (is_some o)) c.visited-port.ensures in
     let read = c.count-self-inside.ensures in
-    omega (arith, first, start, second, third, fourth, looked, visits, read) ∙ sym (ap (looks_by net past e) own ∙ ap (looks_at net past e n) known)
+    omega (arith, first, start, second, third, fourth, asked, there_asked, visits, read) ∙ sym (ap (looks_by net past e) own ∙ ap (looks_at net past e n) known)

@@ -1,0 +1,168 @@
+/* Nanoseconds a call of the library for C and of the same work in plain C, side by side: rounds of each in turn, and the fastest round of
+ * each. With -DHAS_RTE_METER also of DPDK's single rate three color marker.
+ *
+ * usage: speed [ROUNDS] */
+#define _POSIX_C_SOURCE 200809L
+#include "plain.h"
+#include <abt.h>
+#include <stdio.h>
+#include <stdlib.h>
+#include <time.h>
+#ifdef HAS_RTE_METER
+#include <rte_meter.h>
+#endif
+
+enum { CALLS = 1 << 16 };
+
+static const uint64_t tau = 2400000; /* some 40 cells */
+static uint64_t at[CALLS], spacings[CALLS], sink;
+static uint16_t codes[CALLS];
+static uint8_t payloads[CALLS][48];
+
+static double now(void)
+{
+    struct timespec t;
+    clock_gettime(CLOCK_MONOTONIC, &t);
+    return (double)t.tv_sec * 1e9 + (double)t.tv_nsec;
+}
+
+/* Random arrivals at nine tenths of the rate, of which few are early; a rate that changes each 64 cells; random payloads. */
+static void draw_all(void)
+{
+    uint64_t seed = 7, moment = 0;
+    uint16_t code = 0x7000;
+    for (int i = 0; i < CALLS; i++) {
+        seed ^= seed << 13;
+        seed ^= seed >> 7;
+        seed ^= seed << 17;
+        if (i % 64 == 0)
+            code = (uint16_t)(0x7000 | (seed >> 20 & 0x1ff));
+        codes[i] = code;
+        spacings[i] = abt_rate_spacing(code);
+        moment += seed % (20 * spacings[i] / 9);
+        at[i] = moment;
+        for (int k = 0; k < 48; k++)
+            payloads[i][k] = (uint8_t)(seed >> (k % 8 * 8)) ^ (uint8_t)k;
+    }
+}
+
+static void library_check(void)
+{
+    abt_gcra gcra;
+    abt_gcra_init(&gcra, tau);
+    for (int i = 0; i < CALLS; i++)
+        sink += abt_gcra_check(&gcra, at[i], spacings[i]);
+}
+
+static void plain_c_check(void)
+{
+    struct plain_gcra gcra = {tau, 0, 0};
+    for (int i = 0; i < CALLS; i++)
+        sink += (uint64_t)plain_check(&gcra, at[i], spacings[i]);
+}
+
+static void library_bucket(void)
+{
+    abt_bucket bucket;
+    abt_bucket_init(&bucket, tau);
+    for (int i = 0; i < CALLS; i++)
+        sink += abt_bucket_check(&bucket, at[i], spacings[i]);
+}
+
+static void library_arrive(void)
+{
+    abt_policer policer;
+    abt_policer_init(&policer, tau);
+    for (int i = 0; i < CALLS; i++)
+        sink += abt_policer_arrive(&policer, at[i], codes[i]);
+}
+
+static void plain_c_arrive(void)
+{
+    struct plain_gcra gcra = {tau, 0, 0};
+    for (int i = 0; i < CALLS; i++)
+        sink += (uint64_t)plain_arrive(&gcra, at[i], codes[i]);
+}
+
+static void library_emit(void)
+{
+    abt_shaper shaper;
+    uint64_t next;
+    abt_shaper_init(&shaper, 0);
+    for (int i = 0; i < CALLS; i++)
+        sink += abt_shaper_emit(&shaper, at[i], codes[i], &next);
+}
+
+static void plain_c_emit(void)
+{
+    uint64_t next = 0;
+    for (int i = 0; i < CALLS; i++)
+        sink += (uint64_t)plain_emit(&next, at[i], codes[i]);
+}
+
+static void library_crc10(void)
+{
+    for (int i = 0; i < CALLS; i++) {
+        uint16_t check;
+        abt_crc10(payloads[i], 48, &check);
+        sink += check;
+    }
+}
+
+static void plain_c_crc10(void)
+{
+    for (int i = 0; i < CALLS; i++)
+        sink += plain_crc10(payloads[i]);
+}
+
+#ifdef HAS_RTE_METER
+/* As DPDK's applications call it: the function of its header, which the compiler puts in place. One tick is a picosecond here, and the
+ * fields are set without DPDK's own start, which would look for the processor's clock: a cell of 53 octets each 45,000 ticks, a bucket of
+ * 40 cells, and no second one. */
+static void rte_srtcm(void)
+{
+    static struct rte_meter_srtcm_profile profile = {
+        .cbs = 40 * 53, .ebs = 0, .cir_period = 45000, .cir_bytes_per_period = 53};
+    struct rte_meter_srtcm meter = {.time = 0, .tc = 40 * 53, .te = 0};
+    for (int i = 0; i < CALLS; i++)
+        sink += rte_meter_srtcm_color_blind_check(&meter, &profile, at[i], 53);
+}
+#endif
+
+static const struct row {
+    const char *name;
+    void (*run)(void);
+} rows[] = {
+    {"abt_gcra_check", library_check},       {"plain virtual scheduling", plain_c_check},
+    {"abt_bucket_check", library_bucket},    {"abt_policer_arrive", library_arrive},
+    {"plain policer", plain_c_arrive},       {"abt_shaper_emit", library_emit},
+    {"plain shaper", plain_c_emit},          {"abt_crc10", library_crc10},
+    {"plain CRC-10 by tables", plain_c_crc10},
+#ifdef HAS_RTE_METER
+    {"rte_meter srTCM, color blind", rte_srtcm},
+#endif
+};
+
+enum { ROWS = sizeof rows / sizeof *rows };
+
+int main(int count, char **words)
+{
+    int rounds = count > 1 ? atoi(words[1]) : 200;
+    double fastest[ROWS];
+    draw_all();
+    plain_crc10_tables();
+    for (int i = 0; i < ROWS; i++)
+        fastest[i] = 1e18;
+    for (int round = 0; round < rounds; round++)
+        for (int i = 0; i < ROWS; i++) {
+            double began = now();
+            rows[i].run();
+            double took = (now() - began) / CALLS;
+            if (took < fastest[i])
+                fastest[i] = took;
+        }
+    for (int i = 0; i < ROWS; i++)
+        printf("%-30s %7.2f ns a call\n", rows[i].name, fastest[i]);
+    fprintf(stderr, "%s", sink == 1 ? "\n" : "");
+    return 0;
+}

@@ -1,0 +1,4 @@
+pub mod Outcome
+pub mod States
+pub mod Records
+pub mod Sources

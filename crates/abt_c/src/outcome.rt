@@ -1,0 +1,90 @@
+//! The numbers that C gets for what a call answers (docs/C.md, "Outcomes").
+ghost use Rattle.std.specs.Prelude.{◌≡◌, ◌<◌, ◌≤◌};
+ghost use Rattle.abt_c.specs.Outcome.{verdict_number, rm_number, clock_back, time_range, first_fault};
+ghost use Rattle.abt_gcra.specs.declared.fault.GcraFault.{GcraFault};
+
+use abt_cell::RmFault;
+use abt_gcra::{GcraFault, Verdict};
+
+pub const DONE: u32 = 0;
+
+pub const NO_STATE: u32 = 33;
+
+pub const WRONG_LENGTH: u32 = 34;
+
+pub const TAU_RANGE: u32 = 35;
+
+pub const SPACING_RANGE: u32 = 36;
+
+pub const UNITS_RANGE: u32 = 37;
+
+pub const CLOCK_BACK: u32 = 38;
+
+pub const TIME_RANGE: u32 = 39;
+
+pub const ZERO_RATE: u32 = 40;
+
+pub const TOO_SOON: u32 = 41;
+
+pub const SEQ_ZERO: u32 = 54;
+
+pub const RATE_ORDER: u32 = 55;
+
+pub const WRONG_KIND: u32 = 56;
+
+pub const VPI_RANGE: u32 = 57;
+
+pub const WRITE_FIRST: u32 = 8;
+
+pub const ASKED: u32 = 9;
+
+pub const RAISED: u32 = 10;
+
+pub const REFUSED: u32 = 11;
+
+pub const IGNORED: u32 = 12;
+
+pub const DOWN: u32 = 64;
+
+pub const RUNNING: u32 = 65;
+
+pub const WRITING: u32 = 66;
+
+pub const NOT_WRITING: u32 = 67;
+
+pub const NOT_ASKING: u32 = 68;
+
+pub const SEQ_EXHAUSTED: u32 = 69;
+
+pub const NOT_KEPT: u32 = 70;
+
+pub const RECORD_SPACING: u32 = 71;
+
+/// The number of a verdict.
+pub fn of_verdict(verdict: Verdict) -> u32
+    ensures value { result ≡ verdict_number verdict }
+    ensures low { result < first_fault }
+{
+    match verdict {
+        Verdict::Conforming => 1,
+        Verdict::TooEarly => 2,
+        Verdict::NoRate => 3,
+    }
+}
+
+/// The number of a fault of a cell.
+pub fn of_rm_fault(fault: RmFault) -> u32
+    ensures value { result ≡ rm_number fault }
+    ensures high { first_fault ≤ result }
+{
+    match fault {
+        RmFault::NotRm => 48,
+        RmFault::Crc => 49,
+        RmFault::Protocol => 50,
+        RmFault::Maintenance => 51,
+        RmFault::Elastic => 52,
+        RmFault::Direction => 53,
+        RmFault::SeqZero => 54,
+        RmFault::RateOrder => 55,
+    }
+}

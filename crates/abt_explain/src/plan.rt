@@ -1,0 +1,48 @@
+//! The words of `abt explain`.
+use abt_perform::WordsFault;
+use clap::{Arg, ArgMatches, Command};
+use std::alloc::{AllocError, Global};
+
+// The scenario to explain.
+const FILE: &str = "FILE";
+
+/// What the words of `abt explain` ask for: to explain the scenario of this file, or of the standard input.
+#[derive(Drop)]
+pub struct ExplainPlan {
+    pub file: Option<String>,
+}
+
+/// Adds `explain` to the commands of a program.
+pub fn add_commands<'a>(alloc: Global, program: Command<'a>) -> Result<Command<'a>, AllocError> {
+    let file = Arg::new(alloc, FILE).help(
+        "The scenario, a TOML text; without a file it is read from the standard input",
+    );
+    let explain = Command::new(alloc, "explain")
+        .about("Run a scenario, and tell each of its events with its reason")
+        .after_help(EXAMPLE)
+        .arg(file)?;
+    program.subcommand(explain)
+}
+
+/// The plan that the words behind a command's name ask for, or `None` if the command is none of these.
+pub fn plan_of(
+    alloc: Global,
+    name: &str,
+    found: &ArgMatches<'_>,
+) -> Result<Option<ExplainPlan>, WordsFault> {
+    if name != "explain" {
+        return Ok(None);
+    }
+    let file = match found.get_str(FILE) {
+        Some(file) => Some(String::from_str(alloc, file)?),
+        None => None,
+    };
+    Ok(Some(ExplainPlan { file }))
+}
+
+const EXAMPLE: &str = "Example:
+  printf 'ports = [512000]\\nevents = [\"start 0 0\"]\\n' | abt explain
+  1 start 0 0: not-enabled Unknown: the net has 0 connections
+  port 0: 0 of 512000 units, 0 of 1000 cells/s
+  safe
+What the reasons say stands in docs/EXPLAIN.md.";

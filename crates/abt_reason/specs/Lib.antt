@@ -1,0 +1,4 @@
+pub mod Grounds
+pub mod Reasons
+pub mod Explanation
+pub mod Ending

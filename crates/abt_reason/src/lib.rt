@@ -1,0 +1,11 @@
+//! Why the events of a net are answered as they are, in words and numbers.
+#![tactic(auto)]
+
+mod ending;
+mod explanation;
+mod grounds;
+mod reason;
+mod refusal;
+
+pub use explanation::explanation_of;
+pub use grounds::Grounds;

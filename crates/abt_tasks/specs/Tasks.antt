@@ -1,0 +1,58 @@
+-- Tasks, and what carrying one out leaves, by its exit status.
+use Rattle.std.specs.Prelude.{◌⊎◌, ◌+◌, ⊤, Option, MatchOption, string_bytes}
+use Rattle.std.specs.Option.{option_map}
+use Rattle.std.specs.Io.KnownBytes.{Keeps}
+use Rattle.abt_text.specs.Text.{Text}
+use Rattle.abt_text.specs.Streams.{ConsumesAtMost, text_max}
+use Rattle.abt_perform.specs.Plans.{IsWithinLimits}
+use Rattle.abt_commands.specs.Carried.{IsDoneHere, IsRefusedHere, ReadsHere, IsUnopened}
+use Rattle.abt_explain.specs.Explained.{IsExplained, IsRefused}
+use Rattle.abt_explain.specs.declared.plan.ExplainPlan.{ExplainPlan}
+use Rattle.abt_tasks.specs.declared.task.Task.{Task}
+use Rattle.abt_tasks.specs.declared.task.Task.TheVariants.{Plan, Explain}
+
+abbrev pub IsAllowed : Task → Type 0
+IsAllowed (Plan plan) = IsWithinLimits plan
+IsAllowed (Explain plan) = ⊤
+
+-- the file whose scenario is to be explained
+abbrev pub file_of : ExplainPlan → Option Text
+file_of plan = option_map string_bytes plan.file
+
+-- A plan that names a file has some reader in place of the input that is there.
+pub record IsExplainedOver (old new : Option Text) : Type 0 where
+  pub left : Option Text
+  pub explained : IsExplained left old new
+
+pub record IsRefusedOver (old new errors_old errors_new : Option Text) : Type 0 where
+  pub left : Option Text
+  pub refused : IsRefused left old new errors_old errors_new
+
+-- what explaining takes of the input that is there
+abbrev pub TakesToExplain : ExplainPlan → (old new : Option Text) → Type 0
+TakesToExplain plan old new = MatchOption (file_of plan) (ConsumesAtMost old new (text_max + 1)) (λ name. Keeps old new)
+
+-- the explanation went out, all of it
+abbrev pub IsExplainedHere : ExplainPlan → (left old new : Option Text) → Type 0
+IsExplainedHere plan left old new = MatchOption (file_of plan) (IsExplained left old new) (λ name. IsExplainedOver old new)
+
+-- there is a fault, which is told
+abbrev pub IsUnexplainedHere : ExplainPlan → (left old new errors_old errors_new : Option Text) → Type 0
+IsUnexplainedHere plan left old new errors_old errors_new = MatchOption (file_of plan)
+    (IsRefused left old new errors_old errors_new)
+    (λ name. IsUnopened old new errors_old errors_new ⊎ IsRefusedOver old new errors_old errors_new)
+
+-- what a task takes of the input that is there
+abbrev pub TakesOf : Task → (old new : Option Text) → Type 0
+TakesOf (Plan plan) old new = ReadsHere plan old new
+TakesOf (Explain plan) old new = TakesToExplain plan old new
+
+-- what the task prints went out, all of it
+abbrev pub IsCarriedOut : Task → (left old new : Option Text) → Type 0
+IsCarriedOut (Plan plan) left old new = IsDoneHere plan left old new
+IsCarriedOut (Explain plan) left old new = IsExplainedHere plan left old new
+
+-- the task has a fault, which is told
+abbrev pub IsNotCarriedOut : Task → (left old new errors_old errors_new : Option Text) → Type 0
+IsNotCarriedOut (Plan plan) left old new errors_old errors_new = IsRefusedHere plan left old new errors_old errors_new
+IsNotCarriedOut (Explain plan) left old new errors_old errors_new = IsUnexplainedHere plan left old new errors_old errors_new

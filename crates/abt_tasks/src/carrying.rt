@@ -1,0 +1,38 @@
+//! Tasks, carried out by the crates that do them.
+ghost use Rattle.std.specs.Prelude.{◌≡◌, ◌⊎◌};
+ghost use Rattle.std.specs.Io.KnownBytes.{Keeps};
+ghost use Rattle.abt_tasks.specs.Tasks.{IsAllowed, IsCarriedOut, IsNotCarriedOut, TakesOf};
+
+use crate::explaining::explain;
+use crate::task::Task;
+use abt_commands::carry_out;
+use std::alloc::AllocGlobal;
+use std::io::{Read, Write};
+use std::rt::Files;
+use std::sync::Wait;
+use std::thread::Threads;
+
+/// Carries a task out over the files that it names, or else over an input that is there, and gives the exit status: 0 where it is
+/// done, and 1 where a line on `errors` tells why not.
+pub fn carry_out_task<T, R: Read, W: Write, E: Write>(
+    rt: &T,
+    task: &Task,
+    input: &mut R,
+    out: &mut W,
+    errors: &mut E,
+) -> u8
+where
+    T: Files + AllocGlobal + Threads + Wait + Sync,
+    requires { IsAllowed task.now }
+    ensures status { (result ≡ 0) ⊎ (result ≡ 1) }
+    ensures reads { TakesOf task.now (R.remaining input.old) (R.remaining input.new) }
+    ensures ok { result ≡ 0 → IsCarriedOut task.now (R.remaining input.old) (W.contents out.old) (W.contents out.new) }
+    ensures quiet { result ≡ 0 → Keeps (E.contents errors.old) (E.contents errors.new) }
+    ensures err { result ≡ 1 → IsNotCarriedOut task.now (R.remaining input.old) (W.contents out.old) (W.contents out.new)
+        (E.contents errors.old) (E.contents errors.new) }
+{
+    match task {
+        Task::Plan(plan) => carry_out(rt, plan, input, out, errors),
+        Task::Explain(plan) => explain(rt, plan, input, out, errors),
+    }
+}

@@ -1,0 +1,13 @@
+//! What the program does from its words on: the commands of all crates behind one command line, and what each is carried out by.
+#![tactic(auto)]
+
+mod carrying;
+mod environment;
+mod explaining;
+mod task;
+mod words;
+
+pub use carrying::carry_out_task;
+pub use environment::given_task;
+pub use task::Task;
+pub use words::task_words;

@@ -1,0 +1,50 @@
+//! The command line of the whole program, and the tasks that its words ask for.
+ghost use Rattle.std.specs.Prelude.{IfOk};
+ghost use Rattle.abt_tasks.specs.Tasks.{IsAllowed};
+
+use crate::task::Task;
+use abt_commands::{add_commands, no_plan, plan_of, program, refusal};
+use abt_perform::{Plan, WordsFault};
+use clap::{ArgMatches, Command};
+use std::alloc::{AllocError, Global};
+
+/// The task that the words behind the program's name ask for.
+///
+/// `clap` decides which words are refused, and writes what is told then, and the help.
+pub fn task_words<'a>(alloc: Global, words: &'a [&'a str]) -> Result<Task, WordsFault>
+    ensures limits { IfOk result IsAllowed }
+{
+    let matches = match whole_program(alloc)?.try_get_matches_from(words) {
+        Ok(matches) => matches,
+        Err(error) => return Err(refusal(alloc, &error)),
+    };
+    match matches.subcommand() {
+        Some((name, found)) => task_of(alloc, name, found),
+        None => no_task(alloc),
+    }
+}
+
+// The command line with the commands of all crates.
+fn whole_program<'a>(alloc: Global) -> Result<Command<'a>, AllocError> {
+    let program = add_commands(alloc, program(alloc)?)?;
+    abt_explain::add_commands(alloc, program)
+}
+
+fn task_of(alloc: Global, name: &str, found: &ArgMatches<'_>) -> Result<Task, WordsFault>
+    ensures { IfOk result IsAllowed }
+{
+    if let Some(plan) = plan_of(alloc, name, found)? {
+        return Ok(Task::Plan(plan));
+    }
+    if let Some(plan) = abt_explain::plan_of(alloc, name, found)? {
+        return Ok(Task::Explain(plan));
+    }
+    no_task(alloc)
+}
+
+fn no_task(alloc: Global) -> Result<Task, WordsFault>
+    ensures { IfOk result IsAllowed }
+{
+    let plan: Plan = no_plan(alloc, "no such command")?;
+    Ok(Task::Plan(plan))
+}

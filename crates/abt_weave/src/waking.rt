@@ -1,0 +1,150 @@
+//! Whom an event was waited for by.
+ghost use Rattle.std.specs.Prelude.{◌≡◌, ◌<◌, true, length, reverse, Some, OnOk};
+ghost use Rattle.abt_net.specs.Topology.{IsWithinRules};
+ghost use Rattle.abt_model.specs.PortTable.{hop_visited};
+ghost use Rattle.abt_woven.specs.Projections.{Step};
+ghost use Rattle.abt_woven.specs.Stuck.{next_step};
+ghost use Rattle.abt_weave.specs.Actors.{actor_count};
+ghost use Rattle.abt_weave.specs.Board.{journaled, IsBoard};
+ghost use Rattle.abt_weave.specs.Candidates as candidates;
+ghost use Rattle.abt_weave.specs.Queue.{IsQueue, Wakes};
+ghost use Rattle.abt_weave.specs.Waking.{IsAbout, AreTouched, IsPortFor, AreOnPath, AreOfConn};
+
+use crate::actors::port_number;
+use crate::board::Board;
+use crate::candidate::channel_of;
+use crate::given::Given;
+use crate::queue::Queue;
+use abt_cell::Vc;
+use abt_model::{Event, HopEvent, Target};
+use std::alloc::AllocError;
+
+// Whether the next entry of a port is about this channel.
+fn is_about(given: &Given, board: &Board, port: u16, vc: Vc) -> bool
+    requires ports { length given.now.ports.now ≡ length given.now.net.now.capacities }
+    requires port { port < length given.now.net.now.capacities }
+    requires board { IsBoard given.now.net.now (journaled given.now.ports.now given.now.sources.now) board.now }
+    ensures { (step : Step) → next_step given.now.net.now (journaled given.now.ports.now given.now.sources.now) (reverse board.now.events.items) port ≡ Some step →
+        candidates.channel_of step.input ≡ Some vc → result ≡ true }
+{
+    let p = usize::from(port);
+    let entries = given.ports[p].as_slice();
+    let place = board.port_places[p];
+    if place >= entries.len() {
+        return false;
+    }
+    match channel_of(&entries[place].input) {
+        Some(about) => about == vc,
+        None => false,
+    }
+}
+
+// The hop that an event comes to, 0 where it comes to none.
+fn hop_visited(event: &Event) -> u16
+    ensures { result ≡ hop_visited event.now }
+{
+    match event.target() {
+        Target::Hop { event, .. } => event.hop(),
+        Target::Source { .. } | Target::End { .. } | Target::Port { .. } => 0,
+    }
+}
+
+// Wakes a port, if an event came to it, or its next entry is about this channel.
+fn wake_port(
+    given: &Given,
+    board: &Board,
+    port: u16,
+    came: bool,
+    vc: Vc,
+    queue: &mut Queue,
+) -> Result<(), AllocError>
+    requires ports { length given.now.ports.now ≡ length given.now.net.now.capacities }
+    requires port { port < length given.now.net.now.capacities }
+    requires board { IsBoard given.now.net.now (journaled given.now.ports.now given.now.sources.now) board.now }
+    requires queue { IsQueue (actor_count given.now.net.now) queue.old }
+    ensures queue { OnOk result (IsQueue (actor_count given.now.net.now) queue.new) }
+    ensures wakes { OnOk result (Wakes (IsPortFor given.now.net.now (journaled given.now.ports.now given.now.sources.now)
+        (reverse board.now.events.items) port came vc) queue.old queue.new) }
+{
+    if !came && !is_about(given, board, port, vc) {
+        return Ok(());
+    }
+    queue.wake(port_number(given.net, port))
+}
+
+// Wakes the ports on the path of a connection to which an event came, or whose next entry is about the connection.
+fn wake_path(
+    given: &Given,
+    board: &Board,
+    conn: u16,
+    hop: u16,
+    queue: &mut Queue,
+) -> Result<(), AllocError>
+    requires ports { length given.now.ports.now ≡ length given.now.net.now.capacities }
+    requires conn { conn < length given.now.net.now.conns }
+    requires board { IsBoard given.now.net.now (journaled given.now.ports.now given.now.sources.now) board.now }
+    requires queue { IsQueue (actor_count given.now.net.now) queue.old }
+    ensures queue { OnOk result (IsQueue (actor_count given.now.net.now) queue.new) }
+    ensures wakes { OnOk result (Wakes (AreOnPath given.now.net.now (journaled given.now.ports.now given.now.sources.now)
+        (reverse board.now.events.items) conn hop) queue.old queue.new) }
+{
+    let conn = &given.net.conns()[usize::from(conn)];
+    let ports = conn.path.as_slice();
+    for place in 0..ports.len() {
+        let came = place + 1 == usize::from(hop);
+        wake_port(given, board, ports[place], came, conn.vc, queue)?;
+    }
+    Ok(())
+}
+
+// Wakes a source, and ports on its path.
+fn wake_connection(
+    given: &Given,
+    board: &Board,
+    conn: u16,
+    hop: u16,
+    queue: &mut Queue,
+) -> Result<(), AllocError>
+    requires ports { length given.now.ports.now ≡ length given.now.net.now.capacities }
+    requires board { IsBoard given.now.net.now (journaled given.now.ports.now given.now.sources.now) board.now }
+    requires queue { IsQueue (actor_count given.now.net.now) queue.old }
+    ensures queue { OnOk result (IsQueue (actor_count given.now.net.now) queue.new) }
+    ensures wakes { OnOk result (Wakes (AreOfConn given.now.net.now (journaled given.now.ports.now given.now.sources.now)
+        (reverse board.now.events.items) conn hop) queue.old queue.new) }
+    ensures rules { IsWithinRules given.now.net.now }
+{
+    if usize::from(conn) >= given.net.conns().len() {
+        return Ok(());
+    }
+    queue.wake(conn)?;
+    wake_path(given, board, conn, hop, queue)
+}
+
+/// Wakes whom an event, the last that was placed, can have been waited for by: its source, the port that it came to, and those
+/// ports on the path of its connection whose next entries are about this.
+pub(crate) fn wake_for(
+    given: &Given,
+    board: &Board,
+    event: &Event,
+    queue: &mut Queue,
+) -> Result<(), AllocError>
+    requires ports { length given.now.ports.now ≡ length given.now.net.now.capacities }
+    requires board { IsBoard given.now.net.now (journaled given.now.ports.now given.now.sources.now) board.now }
+    requires queue { IsQueue (actor_count given.now.net.now) queue.old }
+    ensures queue { OnOk result (IsQueue (actor_count given.now.net.now) queue.new) }
+    ensures wakes { OnOk result (Wakes (AreTouched given.now.net.now (journaled given.now.ports.now given.now.sources.now)
+        (reverse board.now.events.items) event.now) queue.old queue.new) }
+    ensures rules { IsWithinRules given.now.net.now }
+{
+    match event.target() {
+        Target::Port { port, .. } => {
+            if usize::from(port) < given.net.capacities().len() {
+                queue.wake(port_number(given.net, port))?;
+            }
+            Ok(())
+        }
+        Target::Source { conn, .. } | Target::End { conn, .. } | Target::Hop { conn, .. } => {
+            wake_connection(given, board, conn, hop_visited(event), queue)
+        }
+    }
+}

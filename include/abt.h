@@ -1,0 +1,413 @@
+/*
+ * abt.h: proved parts for ATM block transfer: cell rates, RM cells and their check, the generic cell rate algorithm (GCRA), a policer, a
+ * shaper and a source. Link with libabt.a and nothing else.
+ *
+ * What the calls share
+ *
+ * - Moments and durations are picoseconds. Rates are codes of 16 bits, as RM cells carry them, or units of 1/512 cell per second.
+ * - The program keeps each state in memory of its own. A state begins by its `_init` call. It is plain memory without pointers: it may be
+ *   copied, stored and moved. What is in it is no part of this interface.
+ * - A call answers an outcome. Below ABT_FAULTS the call was carried out; from there on it was refused, and then nothing that the program
+ *   handed in has changed, unless the call says otherwise. Where several faults apply, the first in the order of the call's list is answered.
+ * - Nothing is allocated, nothing printed, and no state is shared: calls on different states may run at once.
+ *
+ * What is undefined: a pointer that is neither NULL nor one to memory of the named type and size, which is aligned for the type; memory that
+ * overlaps that of another argument of the same call; and a state that another thread uses during the call. Nothing else is: each number, each
+ * code, each content of a state and each octet has its answer.
+ */
+#ifndef ABT_H
+#define ABT_H
+
+#include <stddef.h>
+#include <stdint.h>
+
+#ifdef __cplusplus
+extern "C" {
+#endif
+
+/* ---- outcomes and faults ---- */
+
+typedef uint32_t abt_outcome;
+
+enum {
+    /* carried out */
+    ABT_OK = 0,
+    ABT_CONFORMING = 1, /* the cell keeps every window with the cells that were taken before it, and is taken */
+    ABT_TOO_EARLY = 2,  /* the cell comes too early, and isn't taken */
+    ABT_NO_RATE = 3,    /* no rate is held, so the cell isn't taken */
+
+    ABT_WRITE_FIRST = 8, /* the program has to write these octets first */
+    ABT_ASKED = 9,       /* the request goes out */
+    ABT_RAISED = 10,     /* it was a yes to the newest request: the source shapes at the asked rate */
+    ABT_REFUSED = 11,    /* it was a no to the newest request: the source stays at the floor */
+    ABT_IGNORED = 12,    /* it was the answer to something else */
+
+    /* refused */
+    ABT_FAULTS = 32,
+    ABT_NULL = 32,          /* a pointer is NULL */
+    ABT_NO_STATE = 33,      /* the state isn't one of this kind */
+    ABT_LENGTH = 34,        /* there is another number of octets */
+    ABT_TAU_RANGE = 35,     /* the tolerance is above ABT_TAU_MAX */
+    ABT_SPACING_RANGE = 36, /* the spacing is 0 or above ABT_SPACING_MAX */
+    ABT_UNITS_RANGE = 37,   /* no rate is as great */
+    ABT_CLOCK_BACK = 38,    /* the moment is before the last one */
+    ABT_TIME_RANGE = 39,    /* the moment is above its limit */
+    ABT_ZERO = 40,          /* there is no rate to leave at */
+    ABT_TOO_SOON = 41,      /* the line is taken up until a later moment */
+    ABT_NOT_RM = 48,        /* not an RM cell of a virtual channel */
+    ABT_CRC = 49,           /* the check is wrong */
+    ABT_PROTOCOL = 50,      /* the protocol identifier isn't that of ATM block transfer */
+    ABT_MAINTENANCE = 51,   /* the maintenance bit is set */
+    ABT_ELASTIC = 52,       /* elastic mode */
+    ABT_DIRECTION = 53,     /* a request goes backward, or an answer forward */
+    ABT_SEQ_ZERO = 54,      /* the sequence number is 0 */
+    ABT_RATE_ORDER = 55,    /* the asked rate is below the floor */
+    ABT_KIND = 56,          /* the record is neither a request nor an answer */
+    ABT_VPI_RANGE = 57,     /* the VPI has more than 12 bits */
+    ABT_DOWN = 64,          /* the source isn't started */
+    ABT_RUNNING = 65,       /* the source is started */
+    ABT_WRITING = 66,       /* the program hasn't said yet what became of a write */
+    ABT_NOT_WRITING = 67,   /* no write is to be made */
+    ABT_NOT_ASKING = 68,    /* the source waits for no answer */
+    ABT_SEQ_EXHAUSTED = 69, /* no sequence number is left */
+    ABT_NOT_KEPT = 70,      /* the record wasn't kept, so the source doesn't ask */
+    ABT_RECORD_SPACING = 71 /* no rate has the spacing of the record */
+};
+
+/* ---- limits ---- */
+
+#define ABT_TAU_MAX UINT64_C(1000000000000)             /* the greatest tolerance */
+#define ABT_SPACING_MAX UINT64_C(1000000000000)         /* the greatest spacing */
+#define ABT_ARRIVE_MAX UINT64_C(4611686018427387904)    /* the greatest moment of an arrival, 2^62 */
+#define ABT_EMIT_MAX UINT64_C(2305843009213693952)      /* the greatest moment of an emission, 2^61 */
+#define ABT_UNITS_MAX UINT64_C(2196875771904)           /* the greatest rate */
+
+/* ---- rates ---- */
+
+/* The rate of a code, in units. Each code has one; the reserved bit is ignored, and without the nonzero bit the rate is 0. */
+uint64_t abt_rate_units(uint16_t code);
+
+/* The one code of the rate of a code that is written: with the reserved bit 0, and 0 for the rate 0. */
+uint16_t abt_rate_canonical(uint16_t code);
+
+/* The least whole number of picoseconds between two cells that keeps the rate of a code; 0 for the rate 0, which no spacing keeps. */
+uint64_t abt_rate_spacing(uint16_t code);
+
+/* The canonical code of the greatest rate that isn't above so many units. */
+uint16_t abt_rate_at_most(uint64_t units);
+
+/* Gives the canonical code of the least rate that isn't below so many units.
+ * Answers ABT_OK, or ABT_NULL, ABT_UNITS_RANGE. */
+static inline abt_outcome abt_rate_at_least(uint64_t units, uint16_t *code);
+
+/* ---- RM cells ---- */
+
+/* Octets of a cell without its HEC octet, and of its payload. */
+#define ABT_CELL_LENGTH 52
+#define ABT_PAYLOAD_LENGTH 48
+
+enum { ABT_REQUEST = 1, ABT_YES = 2, ABT_NO = 3 };
+
+/* A request, or an answer to one, which repeats it. */
+typedef struct abt_rm {
+    uint32_t kind;  /* ABT_REQUEST, ABT_YES, ABT_NO */
+    uint32_t seq;   /* the sequence number, from 1 */
+    uint16_t vpi;   /* up to 4095 */
+    uint16_t vci;
+    uint16_t floor; /* the rate that the source keeps meanwhile, a code */
+    uint16_t ask;   /* the rate that is asked for, a code */
+} abt_rm;
+
+/* The CRC-10 of a payload: of its first 374 bits. The last ten bits aren't read.
+ * Answers ABT_OK, or ABT_NULL, ABT_LENGTH. */
+static inline abt_outcome abt_crc10(const uint8_t *payload, size_t length, uint16_t *check);
+
+/* Reads an RM cell, of ABT_CELL_LENGTH octets. Rate codes come out canonical.
+ * Answers ABT_OK, or ABT_NULL, ABT_LENGTH, ABT_NOT_RM, ABT_CRC, ABT_PROTOCOL, ABT_MAINTENANCE, ABT_ELASTIC, ABT_DIRECTION, ABT_SEQ_ZERO,
+ * ABT_RATE_ORDER. */
+static inline abt_outcome abt_rm_read(const uint8_t *cell, size_t length, abt_rm *rm);
+
+/* Writes the one cell of a request or an answer.
+ * Answers ABT_OK, or ABT_NULL, ABT_LENGTH, ABT_KIND, ABT_VPI_RANGE, ABT_SEQ_ZERO, ABT_RATE_ORDER. */
+static inline abt_outcome abt_rm_write(const abt_rm *rm, uint8_t *cell, size_t length);
+
+/* ---- the generic cell rate algorithm (I.371) ---- */
+
+typedef struct abt_gcra { uint64_t private_[4]; } abt_gcra;
+typedef struct abt_bucket { uint64_t private_[6]; } abt_bucket;
+
+/* Makes a state that of an algorithm of a tolerance that has met no cell, whatever it was before: by virtual scheduling, or as a leaky
+ * bucket. Both give the same verdicts.
+ * Answers ABT_OK, or ABT_NULL, ABT_TAU_RANGE. */
+static inline abt_outcome abt_gcra_init(abt_gcra *gcra, uint64_t tau);
+static inline abt_outcome abt_bucket_init(abt_bucket *bucket, uint64_t tau);
+
+/* The verdict on a cell that arrives at a moment, with the spacing from it to the next one.
+ * Answers ABT_CONFORMING, ABT_TOO_EARLY, or ABT_NULL, ABT_NO_STATE, ABT_SPACING_RANGE, ABT_CLOCK_BACK, ABT_TIME_RANGE. */
+static inline abt_outcome abt_gcra_check(abt_gcra *gcra, uint64_t at, uint64_t spacing);
+static inline abt_outcome abt_bucket_check(abt_bucket *bucket, uint64_t at, uint64_t spacing);
+
+/* ---- the policer, which follows a rate as it changes ---- */
+
+typedef struct abt_policer { uint64_t private_[4]; } abt_policer;
+
+/* Makes a state that of a policer of a tolerance that has met no cell, whatever it was before.
+ * Answers ABT_OK, or ABT_NULL, ABT_TAU_RANGE. */
+static inline abt_outcome abt_policer_init(abt_policer *policer, uint64_t tau);
+
+/* The verdict on a cell that arrives at a moment, where a rate of this code is held.
+ * Answers ABT_CONFORMING, ABT_TOO_EARLY, ABT_NO_RATE, or ABT_NULL, ABT_NO_STATE, ABT_CLOCK_BACK, ABT_TIME_RANGE. */
+static inline abt_outcome abt_policer_arrive(abt_policer *policer, uint64_t at, uint16_t held);
+
+/* ---- the shaper ---- */
+
+typedef struct abt_shaper { uint64_t private_[4]; } abt_shaper;
+
+/* Makes a state that of a shaper that lets no cell leave before a moment, whatever it was before.
+ * Answers ABT_OK, or ABT_NULL, ABT_TIME_RANGE. */
+static inline abt_outcome abt_shaper_init(abt_shaper *shaper, uint64_t not_before);
+
+/* Lets a cell leave now, at a rate of this code, and gives the earliest moment of the next cell, also after ABT_TOO_SOON.
+ * Answers ABT_OK, or ABT_NULL, ABT_NO_STATE, ABT_CLOCK_BACK, ABT_TIME_RANGE, ABT_ZERO, ABT_TOO_SOON. */
+static inline abt_outcome abt_shaper_emit(abt_shaper *shaper, uint64_t now, uint16_t rate, uint64_t *next);
+
+/* ---- a source ----
+ *
+ * It asks for rates by requests, shapes its cells by what it was granted, and keeps a record of twelve octets in a store of the program, so
+ * that it takes up its numbers after a crash. The library never calls the program: it says which octets to write, the program writes them
+ * and comes back with what became of it. */
+
+typedef struct abt_source { uint64_t private_[9]; } abt_source;
+
+/* Octets of a record. Four octets, a number alone, are read too; four zeros are the store of a source that was never started. */
+#define ABT_RECORD_LENGTH 12
+
+#define ABT_START_MAX UINT64_C(2305842009213693952)     /* the greatest moment of a start */
+
+/* What became of a write: it was made; it failed, and nothing was written; it failed after all was written. */
+enum { ABT_WRITTEN = 1, ABT_FAILED_BEFORE = 2, ABT_FAILED_AFTER = 3 };
+
+/* Makes a state that of the source of a connection to which nothing has happened, whatever it was before. It is down.
+ * Answers ABT_OK, or ABT_NULL, ABT_VPI_RANGE. */
+static inline abt_outcome abt_source_init(abt_source *source, uint16_t vpi, uint16_t vci);
+
+/* Starts now, from the record that the program read from its store. The rate is 0, and no cell leaves during the record's spacing.
+ * Answers ABT_OK, or ABT_NULL, ABT_NO_STATE, ABT_RUNNING, ABT_LENGTH, ABT_RECORD_SPACING, ABT_TIME_RANGE. */
+static inline abt_outcome abt_source_start(abt_source *source, const uint8_t *record, size_t length, uint64_t now);
+
+/* Asks for a rate. After ABT_ASKED the request is in rm, and goes out. After ABT_WRITE_FIRST the program has to write the twelve octets of
+ * record to its store, and to call abt_source_wrote: until then the source neither asks nor emits nor hears.
+ * Answers ABT_ASKED, ABT_WRITE_FIRST, or ABT_NULL, ABT_LENGTH, ABT_NO_STATE, ABT_DOWN, ABT_WRITING, ABT_SEQ_EXHAUSTED. */
+static inline abt_outcome abt_source_ask(abt_source *source, uint16_t rate, uint8_t *record, size_t length, abt_rm *rm);
+
+/* Takes what became of the write. After ABT_ASKED the request is in rm, and goes out. After ABT_NOT_KEPT the source is as it was before the
+ * ask.
+ * Answers ABT_ASKED, or ABT_NULL, ABT_NO_STATE, ABT_KIND (neither of the three), ABT_NOT_WRITING, ABT_NOT_KEPT, ABT_SEQ_EXHAUSTED. */
+static inline abt_outcome abt_source_wrote(abt_source *source, uint32_t became, abt_rm *rm);
+
+/* Gives the newest request, to be sent again.
+ * Answers ABT_OK, or ABT_NULL, ABT_NO_STATE, ABT_NOT_ASKING. */
+static inline abt_outcome abt_source_again(const abt_source *source, abt_rm *rm);
+
+/* Takes an answer. It counts only if connection, number, floor and asked rate are those of the newest request.
+ * Answers ABT_RAISED, ABT_REFUSED, ABT_IGNORED, or ABT_NULL, ABT_NO_STATE, ABT_KIND, ABT_VPI_RANGE, ABT_SEQ_ZERO, ABT_RATE_ORDER,
+ * ABT_WRITING. */
+static inline abt_outcome abt_source_answer(abt_source *source, const abt_rm *rm);
+
+/* Emits a cell now, at the present rate, and gives the earliest moment of the next cell, also after ABT_TOO_SOON.
+ * Answers ABT_OK, or ABT_NULL, ABT_NO_STATE, ABT_DOWN, ABT_WRITING, ABT_CLOCK_BACK, ABT_TIME_RANGE, ABT_ZERO, ABT_TOO_SOON. */
+static inline abt_outcome abt_source_emit(abt_source *source, uint64_t now, uint64_t *next);
+
+/* Loses the rate, the newest request and a write that was to be made. The next start reads the record anew.
+ * Answers ABT_OK, or ABT_NULL, ABT_NO_STATE, ABT_DOWN. */
+static inline abt_outcome abt_source_crash(abt_source *source);
+
+/* Gives the canonical code of the rate at which the source shapes.
+ * Answers ABT_OK, or ABT_NULL, ABT_NO_STATE. */
+static inline abt_outcome abt_source_rate(const abt_source *source, uint16_t *rate);
+
+/* ---- names ---- */
+
+/* The name of an outcome or a fault, for messages. */
+static inline const char *abt_outcome_name(abt_outcome outcome);
+
+/*
+ * The rest is how the calls above are made: each looks whether a pointer is NULL, and calls the library's own function, whose proof is about
+ * pointers that aren't. A program in another language may call these, with pointers that aren't NULL.
+ */
+abt_outcome abt_raw_rate_at_least(uint64_t units, uint16_t *code);
+abt_outcome abt_raw_crc10(const uint8_t *payload, size_t length, uint16_t *check);
+abt_outcome abt_raw_rm_read(const uint8_t *cell, size_t length, abt_rm *rm);
+abt_outcome abt_raw_rm_write(const abt_rm *rm, uint8_t *cell, size_t length);
+abt_outcome abt_raw_gcra_init(abt_gcra *gcra, uint64_t tau);
+abt_outcome abt_raw_gcra_check(abt_gcra *gcra, uint64_t at, uint64_t spacing);
+abt_outcome abt_raw_bucket_init(abt_bucket *bucket, uint64_t tau);
+abt_outcome abt_raw_bucket_check(abt_bucket *bucket, uint64_t at, uint64_t spacing);
+abt_outcome abt_raw_policer_init(abt_policer *policer, uint64_t tau);
+abt_outcome abt_raw_policer_arrive(abt_policer *policer, uint64_t at, uint16_t held);
+abt_outcome abt_raw_shaper_init(abt_shaper *shaper, uint64_t not_before);
+abt_outcome abt_raw_shaper_emit(abt_shaper *shaper, uint64_t now, uint16_t rate, uint64_t *next);
+abt_outcome abt_raw_source_init(abt_source *source, uint16_t vpi, uint16_t vci);
+abt_outcome abt_raw_source_start(abt_source *source, const uint8_t *record, size_t length, uint64_t now);
+abt_outcome abt_raw_source_ask(abt_source *source, uint16_t rate, uint8_t *record, size_t length, abt_rm *rm);
+abt_outcome abt_raw_source_wrote(abt_source *source, uint32_t became, abt_rm *rm);
+abt_outcome abt_raw_source_again(const abt_source *source, abt_rm *rm);
+abt_outcome abt_raw_source_answer(abt_source *source, const abt_rm *rm);
+abt_outcome abt_raw_source_emit(abt_source *source, uint64_t now, uint64_t *next);
+abt_outcome abt_raw_source_crash(abt_source *source);
+abt_outcome abt_raw_source_rate(const abt_source *source, uint16_t *rate);
+
+static inline abt_outcome abt_rate_at_least(uint64_t units, uint16_t *code)
+{
+    return code ? abt_raw_rate_at_least(units, code) : (abt_outcome)ABT_NULL;
+}
+
+static inline abt_outcome abt_crc10(const uint8_t *payload, size_t length, uint16_t *check)
+{
+    return payload && check ? abt_raw_crc10(payload, length, check) : (abt_outcome)ABT_NULL;
+}
+
+static inline abt_outcome abt_rm_read(const uint8_t *cell, size_t length, abt_rm *rm)
+{
+    return cell && rm ? abt_raw_rm_read(cell, length, rm) : (abt_outcome)ABT_NULL;
+}
+
+static inline abt_outcome abt_rm_write(const abt_rm *rm, uint8_t *cell, size_t length)
+{
+    return rm && cell ? abt_raw_rm_write(rm, cell, length) : (abt_outcome)ABT_NULL;
+}
+
+static inline abt_outcome abt_gcra_init(abt_gcra *gcra, uint64_t tau)
+{
+    return gcra ? abt_raw_gcra_init(gcra, tau) : (abt_outcome)ABT_NULL;
+}
+
+static inline abt_outcome abt_gcra_check(abt_gcra *gcra, uint64_t at, uint64_t spacing)
+{
+    return gcra ? abt_raw_gcra_check(gcra, at, spacing) : (abt_outcome)ABT_NULL;
+}
+
+static inline abt_outcome abt_bucket_init(abt_bucket *bucket, uint64_t tau)
+{
+    return bucket ? abt_raw_bucket_init(bucket, tau) : (abt_outcome)ABT_NULL;
+}
+
+static inline abt_outcome abt_bucket_check(abt_bucket *bucket, uint64_t at, uint64_t spacing)
+{
+    return bucket ? abt_raw_bucket_check(bucket, at, spacing) : (abt_outcome)ABT_NULL;
+}
+
+static inline abt_outcome abt_policer_init(abt_policer *policer, uint64_t tau)
+{
+    return policer ? abt_raw_policer_init(policer, tau) : (abt_outcome)ABT_NULL;
+}
+
+static inline abt_outcome abt_policer_arrive(abt_policer *policer, uint64_t at, uint16_t held)
+{
+    return policer ? abt_raw_policer_arrive(policer, at, held) : (abt_outcome)ABT_NULL;
+}
+
+static inline abt_outcome abt_shaper_init(abt_shaper *shaper, uint64_t not_before)
+{
+    return shaper ? abt_raw_shaper_init(shaper, not_before) : (abt_outcome)ABT_NULL;
+}
+
+static inline abt_outcome abt_shaper_emit(abt_shaper *shaper, uint64_t now, uint16_t rate, uint64_t *next)
+{
+    return shaper && next ? abt_raw_shaper_emit(shaper, now, rate, next) : (abt_outcome)ABT_NULL;
+}
+
+static inline abt_outcome abt_source_init(abt_source *source, uint16_t vpi, uint16_t vci)
+{
+    return source ? abt_raw_source_init(source, vpi, vci) : (abt_outcome)ABT_NULL;
+}
+
+static inline abt_outcome abt_source_start(abt_source *source, const uint8_t *record, size_t length, uint64_t now)
+{
+    return source && record ? abt_raw_source_start(source, record, length, now) : (abt_outcome)ABT_NULL;
+}
+
+static inline abt_outcome abt_source_ask(abt_source *source, uint16_t rate, uint8_t *record, size_t length, abt_rm *rm)
+{
+    return source && record && rm ? abt_raw_source_ask(source, rate, record, length, rm) : (abt_outcome)ABT_NULL;
+}
+
+static inline abt_outcome abt_source_wrote(abt_source *source, uint32_t became, abt_rm *rm)
+{
+    return source && rm ? abt_raw_source_wrote(source, became, rm) : (abt_outcome)ABT_NULL;
+}
+
+static inline abt_outcome abt_source_again(const abt_source *source, abt_rm *rm)
+{
+    return source && rm ? abt_raw_source_again(source, rm) : (abt_outcome)ABT_NULL;
+}
+
+static inline abt_outcome abt_source_answer(abt_source *source, const abt_rm *rm)
+{
+    return source && rm ? abt_raw_source_answer(source, rm) : (abt_outcome)ABT_NULL;
+}
+
+static inline abt_outcome abt_source_emit(abt_source *source, uint64_t now, uint64_t *next)
+{
+    return source && next ? abt_raw_source_emit(source, now, next) : (abt_outcome)ABT_NULL;
+}
+
+static inline abt_outcome abt_source_crash(abt_source *source)
+{
+    return source ? abt_raw_source_crash(source) : (abt_outcome)ABT_NULL;
+}
+
+static inline abt_outcome abt_source_rate(const abt_source *source, uint16_t *rate)
+{
+    return source && rate ? abt_raw_source_rate(source, rate) : (abt_outcome)ABT_NULL;
+}
+
+static inline const char *abt_outcome_name(abt_outcome outcome)
+{
+    switch (outcome) {
+    case ABT_OK: return "OK";
+    case ABT_CONFORMING: return "Conforming";
+    case ABT_TOO_EARLY: return "TooEarly";
+    case ABT_NO_RATE: return "NoRate";
+    case ABT_NULL: return "Null";
+    case ABT_NO_STATE: return "NoState";
+    case ABT_LENGTH: return "Length";
+    case ABT_TAU_RANGE: return "TauRange";
+    case ABT_SPACING_RANGE: return "SpacingRange";
+    case ABT_UNITS_RANGE: return "UnitsRange";
+    case ABT_CLOCK_BACK: return "ClockBack";
+    case ABT_TIME_RANGE: return "TimeRange";
+    case ABT_ZERO: return "Zero";
+    case ABT_TOO_SOON: return "TooSoon";
+    case ABT_NOT_RM: return "NotRm";
+    case ABT_CRC: return "Crc";
+    case ABT_PROTOCOL: return "Protocol";
+    case ABT_MAINTENANCE: return "Maintenance";
+    case ABT_ELASTIC: return "Elastic";
+    case ABT_DIRECTION: return "Direction";
+    case ABT_SEQ_ZERO: return "SeqZero";
+    case ABT_RATE_ORDER: return "RateOrder";
+    case ABT_KIND: return "Kind";
+    case ABT_VPI_RANGE: return "VpiRange";
+    case ABT_WRITE_FIRST: return "WriteFirst";
+    case ABT_ASKED: return "Asked";
+    case ABT_RAISED: return "Raised";
+    case ABT_REFUSED: return "Refused";
+    case ABT_IGNORED: return "Ignored";
+    case ABT_DOWN: return "Down";
+    case ABT_RUNNING: return "Running";
+    case ABT_WRITING: return "Writing";
+    case ABT_NOT_WRITING: return "NotWriting";
+    case ABT_NOT_ASKING: return "NotAsking";
+    case ABT_SEQ_EXHAUSTED: return "SeqExhausted";
+    case ABT_NOT_KEPT: return "NotKept";
+    case ABT_RECORD_SPACING: return "RecordSpacing";
+    default: return "unknown";
+    }
+}
+
+#ifdef __cplusplus
+}
+#endif
+
+#endif
