@@ -35,6 +35,10 @@ COMMANDS = [
     (["run"], b"\xff"),
     (["run", "none.toml"], b""),
     (["run", "."], b""),
+    (["explain"], b"ports = [\n"),
+    (["explain", "none.toml"], b""),
+    (["explain", "one_source.toml"], b""),
+    (["explain", "every_cause.toml"], b""),
     *((["run", sample.name], b"") for sample in sorted(FOLDER.glob("*.toml")) if not sample.name.startswith("threads_")),
 ]
 THREADS = (["threads", "threads_one_source.toml", "--workers", "1"], b"")

@@ -39,7 +39,7 @@ PLAIN = [
     ("port", "512000", CELL, "zz", SECOND_CELL, NO, CELL),
     ("port", "0", CELL),
 ]
-HELP = [("--help",), ("help",), *(words for name in ("rate", "cell", "port", "run", "threads") for words in ((name, "--help"), ("help", name)))]
+HELP = [("--help",), ("help",), *(words for name in ("rate", "cell", "port", "run", "explain", "threads") for words in ((name, "--help"), ("help", name)))]
 REFUSED = [
     (),
     ("none",),
@@ -48,6 +48,7 @@ REFUSED = [
     ("port", "+5", CELL),
     ("port", "1152921504606846977", CELL),
     ("run", "one_source.toml", "two_ports.toml"),
+    ("explain", "one_source.toml", "two_ports.toml"),
     ("threads", "threads_one_source.toml"),
     ("threads", "threads_one_source.toml", "--workers", "0"),
     ("threads", "threads_one_source.toml", "--workers", "65"),
@@ -55,18 +56,22 @@ REFUSED = [
 UNREAD = [
     ("run", "none.toml"),
     ("run", "."),
+    ("explain", "none.toml"),
+    ("explain", "."),
     ("threads", "none.toml", "--workers", "1"),
     ("threads", ".", "--workers", "1"),
 ]
 
 
 def of_samples():
-    """Each sample from its file and from the standard input, with the words that stand beside it."""
+    """Each sample from its file and from the standard input, with the words that stand beside it; those that are run are explained too."""
     for sample in sorted(SAMPLES.glob("*.toml")):
         beside = sample.with_name(sample.name + ".args")
         first, *more = beside.read_text().splitlines() if beside.is_file() else ["run"]
         yield Command((first, sample.name, *more))
         yield Command((first, *more), sample.read_bytes(), sample.name)
+        if first == "run":
+            yield Command(("explain", sample.name, *more))
 
 
 def all_commands():
@@ -95,6 +100,7 @@ def large_commands():
     net, name = greatest_net(), f"{CONNECTIONS} connections"
     return [
         Command(("run",), net, name),
+        Command(("explain",), net, name),
         Command(("threads", "--workers", "2"), net, name),
         Command(("port", "512000", *cells_of_a_full_port())),
     ]
