@@ -1,5 +1,5 @@
 //! Who holds what in the end.
-ghost use Rattle.std.specs.Prelude.{◌≡◌, ◌+◌, ◌≤◌, ◌++◌, IfOk, OnOk, length, string_bytes};
+ghost use Rattle.std.specs.Prelude.{◌≡◌, ◌++◌, IfOk, OnOk, string_bytes};
 ghost use Rattle.abt_reason.specs.Ending as spec;
 
 use abt_list::Sequence;
@@ -22,7 +22,6 @@ pub(crate) fn push_ending(
     push_conns(
         alloc,
         text,
-        0,
         net.conns(),
         trace.rates.as_slice(),
         trace.held.as_slice(),
@@ -30,36 +29,27 @@ pub(crate) fn push_ending(
     push_ports(
         alloc,
         text,
-        0,
         trace.totals.as_slice(),
         trace.capacities.as_slice(),
     )?;
     text.push_str(safe_line(trace.safe))
 }
 
-// A line for each connection, numbered on.
+// A line for each connection.
 fn push_conns(
     alloc: Global,
     text: &mut String,
-    place: u64,
     conns: &[Conn],
     rates: &[Rate],
     held: &[Sequence<Rate>],
 ) -> Result<(), AllocError>
-    requires { place + length conns.now ≤ u64.MAX }
-    ensures { OnOk result (string_bytes text.new ≡ string_bytes text.old ++ spec.conn_lines place conns.now rates.now held.now) }
+    ensures { OnOk result (string_bytes text.new ≡ string_bytes text.old ++ spec.conn_lines 0 conns.now rates.now held.now) }
 {
-    let Some((conn, conns)) = conns.split_first() else {
-        return Ok(());
-    };
-    let Some((rate, rates)) = rates.split_first() else {
-        return Ok(());
-    };
-    let Some((hops, held)) = held.split_first() else {
-        return Ok(());
-    };
-    push_conn(alloc, text, place, conn, *rate, hops.as_slice())?;
-    push_conns(alloc, text, place + 1, conns, rates, held)
+    for index in 0..conns.len().min(rates.len()).min(held.len()) {
+        let hops = held[index].as_slice();
+        push_conn(alloc, text, index as u64, &conns[index], rates[index], hops)?;
+    }
+    Ok(())
 }
 
 // The line of a connection.
@@ -112,25 +102,19 @@ fn push_held(
     push_held(alloc, text, path, held)
 }
 
-// A line for each port, numbered on.
+// A line for each port.
 fn push_ports(
     alloc: Global,
     text: &mut String,
-    port: u64,
     totals: &[u64],
     capacities: &[u64],
 ) -> Result<(), AllocError>
-    requires { port + length totals.now ≤ u64.MAX }
-    ensures { OnOk result (string_bytes text.new ≡ string_bytes text.old ++ spec.port_lines port totals.now capacities.now) }
+    ensures { OnOk result (string_bytes text.new ≡ string_bytes text.old ++ spec.port_lines 0 totals.now capacities.now) }
 {
-    let Some((total, totals)) = totals.split_first() else {
-        return Ok(());
-    };
-    let Some((capacity, capacities)) = capacities.split_first() else {
-        return Ok(());
-    };
-    push_port(alloc, text, port, *total, *capacity)?;
-    push_ports(alloc, text, port + 1, totals, capacities)
+    for index in 0..totals.len().min(capacities.len()) {
+        push_port(alloc, text, index as u64, totals[index], capacities[index])?;
+    }
+    Ok(())
 }
 
 // The line of a port.

@@ -1,5 +1,0 @@
-use Rattle.std.proofs.Common.{length}
-use Rattle.abt_reason.proofs.ending.+push_ports.Given as goal
-
-abbrev pub decreases-push_ports : goal.decreases-push_ports
-decreases-push_ports l = length l.totals.now
