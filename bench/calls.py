@@ -23,7 +23,7 @@ LOOP = "the loop alone"
 # Sixteen inputs are gone through in turn, so each is met as often as any other.
 FEW, MANY = 1_600, 17_600
 # What the figures should keep to.
-MOST_INSTRUCTIONS = {"crc10": 250, "read_rm": 350, "write_rm": 350}
+MOST_INSTRUCTIONS = {"crc10": 250, "read_rm": 350, "write_rm": 350, "Gcra::check": 24, "Shaper::emit": 26}
 
 
 def lines_of(root):
@@ -95,7 +95,7 @@ def main():
         for call in calls_of(SOURCE.read_text()):
             if call == LOOP or words.only and call not in words.only.split(","):
                 continue
-            instructions = round(each(call) - loop)
+            instructions = round(each(call) - loop, 1)
             print(f"| {call} | {instructions} |", flush=True)
             if instructions > MOST_INSTRUCTIONS.get(call, instructions):
                 short.append(f"{call}: more than {MOST_INSTRUCTIONS[call]} instructions")

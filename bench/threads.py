@@ -124,7 +124,7 @@ def instructions_of(words, file):
     """Instructions of a run, of `gather` in it, of `weave` in it, and of the run of the woven events, by callgrind. The compiler puts `weave` into
     `show_run`, so it is what that takes beside the run of the woven events."""
     with tempfile.NamedTemporaryFile() as counted:
-        command = ["valgrind", "--tool=callgrind", f"--callgrind-out-file={counted.name}", words.program]
+        command = ["valgrind", "--tool=callgrind", "--max-threads=2000", f"--callgrind-out-file={counted.name}", words.program]
         subprocess.run([*command, "threads", file, "--workers", str(words.workers)], check=True, capture_output=True)
         annotate = ["callgrind_annotate", "--inclusive=yes", "--threshold=100", counted.name]
         listed = subprocess.run(annotate, capture_output=True, text=True, check=True).stdout.split("\n")
