@@ -27,10 +27,11 @@ fn has_octets(rt: &impl Abort, cell: &Cell, ends: (u8, u8), octets: &[u8; 52]) {
 
 #[test]
 fn a_cell_has_52_octets(rt: HostRuntime) {
-    let octets = [0x5a; 53];
+    let octets = [0x5a; 65_536];
     for length in 0..52 {
         is_no_cell(&rt, &octets[..length]);
     }
+    is_no_cell(&rt, &octets[..53]);
     is_no_cell(&rt, &octets);
     assert!(rt; Cell::from_octets(&octets[..52]).is_ok());
 }
