@@ -3,6 +3,7 @@ mod agree;
 mod books;
 mod edits;
 mod ends;
+mod held_back;
 mod judge;
 mod large;
 mod long;
