@@ -29,6 +29,8 @@ STATES = {
     "AbtShaper": {"": "abt_shaper"},
     "AbtRm": {"": "abt_rm"},
     "AbtSource": {"": "abt_source"},
+    "AbtPort": {"": "abt_port"},
+    "AbtConnection": {"": "abt_connection"},
 }
 # Limits of the header, and the constant of which crate each is.
 LIMITS = {
@@ -36,6 +38,7 @@ LIMITS = {
     "ABT_SPACING_MAX": ("abt_gcra", "SPACING_MAX"),
     "ABT_ARRIVE_MAX": ("abt_gcra", "ARRIVE_MAX"),
     "ABT_EMIT_MAX": ("abt_shaper", "EMIT_MAX"),
+    "ABT_CAPACITY_MAX": ("abt_rate", "CAPACITY_MAX"),
 }
 
 

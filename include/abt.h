@@ -1,6 +1,6 @@
 /*
  * abt.h: proved parts for ATM block transfer: cell rates, RM cells and their check, the generic cell rate algorithm (GCRA), a policer, a
- * shaper and a source. Link with libabt.a and nothing else.
+ * shaper, a source and a port. Link with libabt.a and nothing else.
  *
  * What the calls share
  *
@@ -42,6 +42,13 @@ enum {
     ABT_REFUSED = 11,    /* it was a no to the newest request: the source stays at the floor */
     ABT_IGNORED = 12,    /* it was the answer to something else */
 
+    ABT_PASS = 16,        /* the port passes the message on */
+    ABT_REFUSE = 17,      /* the port refuses the request: it goes no further, and its no goes back */
+    ABT_UNKNOWN_VC = 18,  /* the port drops the message: it is another connection's */
+    ABT_STALE = 19,       /* the port drops the message: its number is below the newest */
+    ABT_CONFLICT = 20,    /* the port drops the message: it isn't what the port decided under its number */
+    ABT_FLOOR_ABOVE = 21, /* the port drops the request: its floor is above what is held */
+
     /* refused */
     ABT_FAULTS = 32,
     ABT_NULL = 32,          /* a pointer is NULL */
@@ -62,7 +69,7 @@ enum {
     ABT_DIRECTION = 53,     /* a request goes backward, or an answer forward */
     ABT_SEQ_ZERO = 54,      /* the sequence number is 0 */
     ABT_RATE_ORDER = 55,    /* the asked rate is below the floor */
-    ABT_KIND = 56,          /* the record is neither a request nor an answer */
+    ABT_KIND = 56,          /* the record is neither a request nor an answer, or not the one that is wanted */
     ABT_VPI_RANGE = 57,     /* the VPI has more than 12 bits */
     ABT_DOWN = 64,          /* the source isn't started */
     ABT_RUNNING = 65,       /* the source is started */
@@ -71,7 +78,9 @@ enum {
     ABT_NOT_ASKING = 68,    /* the source waits for no answer */
     ABT_SEQ_EXHAUSTED = 69, /* no sequence number is left */
     ABT_NOT_KEPT = 70,      /* the record wasn't kept, so the source doesn't ask */
-    ABT_RECORD_SPACING = 71 /* no rate has the spacing of the record */
+    ABT_RECORD_SPACING = 71, /* no rate has the spacing of the record */
+    ABT_BELOW_SUM = 72,      /* the capacity is below the sum of what is held */
+    ABT_CAPACITY_RANGE = 73  /* the capacity is above ABT_CAPACITY_MAX */
 };
 
 /* ---- limits ---- */
@@ -81,6 +90,7 @@ enum {
 #define ABT_ARRIVE_MAX UINT64_C(4611686018427387904)    /* the greatest moment of an arrival, 2^62 */
 #define ABT_EMIT_MAX UINT64_C(2305843009213693952)      /* the greatest moment of an emission, 2^61 */
 #define ABT_UNITS_MAX UINT64_C(2196875771904)           /* the greatest rate */
+#define ABT_CAPACITY_MAX UINT64_C(1152921504606846976)  /* the greatest capacity of a link, 2^60 units */
 
 /* ---- rates ---- */
 
@@ -226,6 +236,48 @@ static inline abt_outcome abt_source_crash(abt_source *source);
  * Answers ABT_OK, or ABT_NULL, ABT_NO_STATE. */
 static inline abt_outcome abt_source_rate(const abt_source *source, uint16_t *rate);
 
+/* ---- a port ----
+ *
+ * It decides the requests and answers of its connections, so that the sum of what they hold is never above the capacity of its link. The
+ * port is one state, and each of its connections is another. The program finds the connection of a message, in a table of its own, and
+ * hands both in. The port keeps the sum by what each call changes. It is that of the connections as long as the program uses each of them
+ * at this port alone, and copies, resets or loses none that holds something: the library can't see that. */
+
+typedef struct abt_port { uint64_t private_[3]; } abt_port;
+typedef struct abt_connection { uint64_t private_[3]; } abt_connection;
+
+/* Makes a state that of a port of a link of a capacity in units, of which nothing is held, whatever it was before.
+ * Answers ABT_OK, or ABT_NULL, ABT_CAPACITY_RANGE. */
+static inline abt_outcome abt_port_init(abt_port *port, uint64_t capacity);
+
+/* Makes a state that of a connection that has asked for nothing, whatever it was before.
+ * Answers ABT_OK, or ABT_NULL, ABT_VPI_RANGE. */
+static inline abt_outcome abt_connection_init(abt_connection *connection, uint16_t vpi, uint16_t vci);
+
+/* Decides a request, which goes on after ABT_PASS. After ABT_REFUSE the no to it is in answer, and goes back; answer and rm have to be
+ * different memory. A repeat of the newest request isn't decided anew. Where the connection holds more than the port's sum, this and the
+ * next call answer ABT_NO_STATE: it isn't one of this port.
+ * Answers ABT_PASS, ABT_REFUSE, ABT_UNKNOWN_VC, ABT_STALE, ABT_CONFLICT, ABT_FLOOR_ABOVE, or ABT_NULL, ABT_NO_STATE, ABT_KIND (no request),
+ * ABT_VPI_RANGE, ABT_SEQ_ZERO, ABT_RATE_ORDER. */
+static inline abt_outcome abt_port_request(abt_port *port, abt_connection *connection, const abt_rm *rm, abt_rm *answer);
+
+/* Takes an answer, which goes on after ABT_PASS. A no to the newest request gives back what was held above its floor.
+ * Answers ABT_PASS, ABT_UNKNOWN_VC, ABT_STALE, ABT_CONFLICT, or ABT_NULL, ABT_NO_STATE, ABT_KIND (no answer), ABT_VPI_RANGE, ABT_SEQ_ZERO,
+ * ABT_RATE_ORDER. */
+static inline abt_outcome abt_port_answer(abt_port *port, abt_connection *connection, const abt_rm *rm);
+
+/* Gives the link another capacity. What was granted stays.
+ * Answers ABT_OK, or ABT_NULL, ABT_NO_STATE, ABT_BELOW_SUM, ABT_CAPACITY_RANGE. */
+static inline abt_outcome abt_port_set_capacity(abt_port *port, uint64_t capacity);
+
+/* Gives the sum of what the port's connections hold, in units.
+ * Answers ABT_OK, or ABT_NULL, ABT_NO_STATE. */
+static inline abt_outcome abt_port_total(const abt_port *port, uint64_t *total);
+
+/* Gives the canonical code of the rate that a connection holds, at which a policer holds its cells.
+ * Answers ABT_OK, or ABT_NULL, ABT_NO_STATE. */
+static inline abt_outcome abt_connection_held(const abt_connection *connection, uint16_t *held);
+
 /* ---- names ---- */
 
 /* The name of an outcome or a fault, for messages. */
@@ -256,6 +308,13 @@ abt_outcome abt_raw_source_answer(abt_source *source, const abt_rm *rm);
 abt_outcome abt_raw_source_emit(abt_source *source, uint64_t now, uint64_t *next);
 abt_outcome abt_raw_source_crash(abt_source *source);
 abt_outcome abt_raw_source_rate(const abt_source *source, uint16_t *rate);
+abt_outcome abt_raw_port_init(abt_port *port, uint64_t capacity);
+abt_outcome abt_raw_connection_init(abt_connection *connection, uint16_t vpi, uint16_t vci);
+abt_outcome abt_raw_port_request(abt_port *port, abt_connection *connection, const abt_rm *rm, abt_rm *answer);
+abt_outcome abt_raw_port_answer(abt_port *port, abt_connection *connection, const abt_rm *rm);
+abt_outcome abt_raw_port_set_capacity(abt_port *port, uint64_t capacity);
+abt_outcome abt_raw_port_total(const abt_port *port, uint64_t *total);
+abt_outcome abt_raw_connection_held(const abt_connection *connection, uint16_t *held);
 
 static inline abt_outcome abt_rate_at_least(uint64_t units, uint16_t *code)
 {
@@ -362,6 +421,41 @@ static inline abt_outcome abt_source_rate(const abt_source *source, uint16_t *ra
     return source && rate ? abt_raw_source_rate(source, rate) : (abt_outcome)ABT_NULL;
 }
 
+static inline abt_outcome abt_port_init(abt_port *port, uint64_t capacity)
+{
+    return port ? abt_raw_port_init(port, capacity) : (abt_outcome)ABT_NULL;
+}
+
+static inline abt_outcome abt_connection_init(abt_connection *connection, uint16_t vpi, uint16_t vci)
+{
+    return connection ? abt_raw_connection_init(connection, vpi, vci) : (abt_outcome)ABT_NULL;
+}
+
+static inline abt_outcome abt_port_request(abt_port *port, abt_connection *connection, const abt_rm *rm, abt_rm *answer)
+{
+    return port && connection && rm && answer ? abt_raw_port_request(port, connection, rm, answer) : (abt_outcome)ABT_NULL;
+}
+
+static inline abt_outcome abt_port_answer(abt_port *port, abt_connection *connection, const abt_rm *rm)
+{
+    return port && connection && rm ? abt_raw_port_answer(port, connection, rm) : (abt_outcome)ABT_NULL;
+}
+
+static inline abt_outcome abt_port_set_capacity(abt_port *port, uint64_t capacity)
+{
+    return port ? abt_raw_port_set_capacity(port, capacity) : (abt_outcome)ABT_NULL;
+}
+
+static inline abt_outcome abt_port_total(const abt_port *port, uint64_t *total)
+{
+    return port && total ? abt_raw_port_total(port, total) : (abt_outcome)ABT_NULL;
+}
+
+static inline abt_outcome abt_connection_held(const abt_connection *connection, uint16_t *held)
+{
+    return connection && held ? abt_raw_connection_held(connection, held) : (abt_outcome)ABT_NULL;
+}
+
 static inline const char *abt_outcome_name(abt_outcome outcome)
 {
     switch (outcome) {
@@ -402,6 +496,14 @@ static inline const char *abt_outcome_name(abt_outcome outcome)
     case ABT_SEQ_EXHAUSTED: return "SeqExhausted";
     case ABT_NOT_KEPT: return "NotKept";
     case ABT_RECORD_SPACING: return "RecordSpacing";
+    case ABT_PASS: return "Pass";
+    case ABT_REFUSE: return "Refuse";
+    case ABT_UNKNOWN_VC: return "UnknownVc";
+    case ABT_STALE: return "Stale";
+    case ABT_CONFLICT: return "Conflict";
+    case ABT_FLOOR_ABOVE: return "FloorAbove";
+    case ABT_BELOW_SUM: return "BelowSum";
+    case ABT_CAPACITY_RANGE: return "CapacityRange";
     default: return "unknown";
     }
 }

@@ -2,3 +2,4 @@ pub mod Outcome
 pub mod States
 pub mod Records
 pub mod Sources
+pub mod Ports

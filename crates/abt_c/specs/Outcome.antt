@@ -4,6 +4,8 @@ use Rattle.abt_cell.specs.declared.fault.RmFault.{RmFault}
 use Rattle.abt_cell.specs.declared.fault.RmFault.TheVariants.{NotRm, Crc, Protocol, Maintenance, Elastic, Direction, SeqZero, RateOrder}
 use Rattle.abt_gcra.specs.declared.verdict.Verdict.{Verdict}
 use Rattle.abt_gcra.specs.declared.verdict.Verdict.TheVariants.{Conforming, TooEarly, NoRate}
+use Rattle.abt_node.specs.declared.reply.DropCause.{DropCause}
+use Rattle.abt_node.specs.declared.reply.DropCause.TheVariants.{UnknownVc, Stale, Conflict, FloorAbove}
 
 -- ---- carried out
 
@@ -31,6 +33,19 @@ refused = 11
 
 abbrev pub ignored : ℕ
 ignored = 12
+
+-- of a port: the message goes on, the request's no goes back, and why a message goes nowhere
+abbrev pub pass : ℕ
+pass = 16
+
+abbrev pub refuse : ℕ
+refuse = 17
+
+abbrev pub drop_number : DropCause → ℕ
+drop_number UnknownVc = 18
+drop_number Stale = 19
+drop_number Conflict = 20
+drop_number FloorAbove = 21
 
 -- ---- refused
 
@@ -111,3 +126,10 @@ not_kept = 70
 
 abbrev pub record_spacing : ℕ
 record_spacing = 71
+
+-- of a port: the capacity is below the sum of what is held, or above its limit
+abbrev pub below_sum : ℕ
+below_sum = 72
+
+abbrev pub capacity_range : ℕ
+capacity_range = 73

@@ -67,3 +67,7 @@ HasAnswerKind r = (r.kind ≡ yes_kind) ⊎ (r.kind ≡ no_kind)
 
 abbrev pub IsAnswer : AbtRm → Type 0
 IsAnswer r = HasAnswerKind r × IsMessage r
+
+-- It is a request.
+abbrev pub IsRequest : AbtRm → Type 0
+IsRequest r = (r.kind ≡ request_kind) × IsMessage r

@@ -10,6 +10,8 @@ mod cell;
 mod gcra;
 mod outcome;
 mod policer;
+mod port;
+mod port_state;
 mod rate;
 mod record;
 mod shaper;

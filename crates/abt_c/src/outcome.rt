@@ -1,10 +1,11 @@
 //! The numbers that C gets for what a call answers (docs/C.md, "Outcomes").
-ghost use Rattle.std.specs.Prelude.{◌≡◌, ◌<◌, ◌≤◌};
-ghost use Rattle.abt_c.specs.Outcome.{verdict_number, rm_number, clock_back, time_range, first_fault};
+ghost use Rattle.std.specs.Prelude.{◌≡◌, ◌<◌, ◌≤◌, ◌↔◌};
+ghost use Rattle.abt_c.specs.Outcome.{verdict_number, rm_number, drop_number, clock_back, time_range, first_fault};
 ghost use Rattle.abt_gcra.specs.declared.fault.GcraFault.{GcraFault};
 
 use abt_cell::RmFault;
 use abt_gcra::{GcraFault, Verdict};
+use abt_node::DropCause;
 
 pub const DONE: u32 = 0;
 
@@ -44,6 +45,10 @@ pub const REFUSED: u32 = 11;
 
 pub const IGNORED: u32 = 12;
 
+pub const PASS: u32 = 16;
+
+pub const REFUSE: u32 = 17;
+
 pub const DOWN: u32 = 64;
 
 pub const RUNNING: u32 = 65;
@@ -59,6 +64,10 @@ pub const SEQ_EXHAUSTED: u32 = 69;
 pub const NOT_KEPT: u32 = 70;
 
 pub const RECORD_SPACING: u32 = 71;
+
+pub const BELOW_SUM: u32 = 72;
+
+pub const CAPACITY_RANGE: u32 = 73;
 
 /// The number of a verdict.
 pub fn of_verdict(verdict: Verdict) -> u32
@@ -86,5 +95,19 @@ pub fn of_rm_fault(fault: RmFault) -> u32
         RmFault::Direction => 53,
         RmFault::SeqZero => 54,
         RmFault::RateOrder => 55,
+    }
+}
+
+/// The number of a cause for which a port drops a message.
+pub fn of_drop(cause: DropCause) -> u32
+    ensures value { result ≡ drop_number cause }
+    ensures low { result < first_fault }
+    ensures unknown_vc { (result ≡ drop_number DropCause.UnknownVc) ↔ (cause ≡ DropCause.UnknownVc) }
+{
+    match cause {
+        DropCause::UnknownVc => 18,
+        DropCause::Stale => 19,
+        DropCause::Conflict => 20,
+        DropCause::FloorAbove => 21,
     }
 }

@@ -1,6 +1,6 @@
 //! The records of requests and answers that C programs see.
-ghost use Rattle.std.specs.Prelude.{◌≡◌, ◌↔◌, IsOk, IfOk, IsErrOf};
-ghost use Rattle.abt_c.specs.Records.{rm_in, terms_in, record_of, kind_of, HasKind, HasVpi, HasSeq, IsMessage, reply_in, HasAnswerKind, IsAnswer};
+ghost use Rattle.std.specs.Prelude.{◌≡◌, ◌≢◌, ◌↔◌, IsOk, IfOk, IsErrOf};
+ghost use Rattle.abt_c.specs.Records.{rm_in, terms_in, record_of, kind_of, HasKind, HasVpi, HasSeq, IsMessage, reply_in, HasAnswerKind, IsAnswer, IsRequest, request_kind};
 
 use abt_cell::{Answer, Request, Rm, Vc};
 use abt_rate::Rate;
@@ -88,6 +88,26 @@ impl AbtRm {
             return Ok(Rm::Request(request));
         }
         Ok(Rm::Answer(Answer::of(&request, self.kind == YES)))
+    }
+
+    /// The request that the record says.
+    ///
+    /// # Errors
+    /// The first that it lacks. The kind of an answer is none of a request.
+    pub fn asked(&self) -> Result<Request, Lacks>
+        ensures ok { IsOk result ↔ IsRequest self.now }
+        ensures value { IfOk result (λ request. request ≡ terms_in self.now) }
+        ensures kind { IsErrOf result Lacks.Kind ↔ (self.now.kind ≢ request_kind) }
+        ensures vpi { IsErrOf result Lacks.Vpi ↔ ((self.now.kind ≡ request_kind) × ¬ HasVpi self.now) }
+        ensures seq { IsErrOf result Lacks.Seq ↔
+            ((self.now.kind ≡ request_kind) × HasVpi self.now × ¬ HasSeq self.now) }
+        ensures order { IsErrOf result Lacks.Order ↔
+            ((self.now.kind ≡ request_kind) × HasSeq self.now × ¬ IsMessage self.now) }
+    {
+        if self.kind != REQUEST {
+            return Err(Lacks::Kind);
+        }
+        self.request()
     }
 
     /// The answer that the record says.
