@@ -21,13 +21,18 @@ struct row {
     uint64_t total;
 };
 
+static abt_outcome call(abt_port *port, abt_connection *connection, const abt_rm *rm, abt_rm *answer, int is_request)
+{
+    return is_request ? abt_port_request(port, connection, rm, answer) : abt_port_answer(port, connection, rm);
+}
+
 static void meet(abt_port *port, abt_connection *connection, const struct row *row)
 {
     abt_rm rm = message(row->kind, row->vci, row->seq, row->floor, row->ask), answer = message(9, 9, 9, 9, 9);
     abt_rm wanted = row->outcome == ABT_REFUSE ? message(ABT_NO, row->vci, row->seq, row->floor, row->ask) : answer;
     uint16_t held = 7;
     uint64_t total = 7;
-    SAME(row->kind == ABT_REQUEST ? abt_port_request(port, connection, &rm, &answer) : abt_port_answer(port, connection, &rm), row->outcome);
+    SAME(call(port, connection, &rm, &answer, row->kind == ABT_REQUEST), row->outcome);
     SAME_MEMORY(&answer, &wanted, sizeof answer);
     SAME(abt_connection_held(connection, &held), ABT_OK);
     SAME(held, row->held);
@@ -72,7 +77,8 @@ static void worked(void)
 /* A link shrinks to what is held on it and no further. */
 static void shrinks(void)
 {
-    const struct row first = {ABT_REQUEST, 100, 1, 0, 0x5258, ABT_PASS, 0x5258, 307200}, rise = {ABT_REQUEST, 100, 2, 0, 0x53e8, ABT_REFUSE, 0, 0};
+    const struct row first = {ABT_REQUEST, 100, 1, 0, 0x5258, ABT_PASS, 0x5258, 307200};
+    const struct row rise = {ABT_REQUEST, 100, 2, 0, 0x53e8, ABT_REFUSE, 0, 0};
     abt_port port, before;
     abt_connection connection;
     SAME(abt_port_init(&port, CAPACITY), ABT_OK);
@@ -141,8 +147,8 @@ static abt_outcome plain_answer(struct reserved *r, const abt_rm *rm)
     return ABT_PASS;
 }
 
-/* A message for a connection: the last one of it again, as a request or an answer, or one with a number about the newest. Rates are few, also
- * with the reserved bit set and zero without the nonzero bit. */
+/* A message for a connection: the last one of it again, as a request or an answer, or one with a number about the newest. Rates are few,
+ * also with the reserved bit set and zero without the nonzero bit. */
 static abt_rm random_message(uint64_t *seed, uint16_t vci, uint32_t newest, const abt_rm *last)
 {
     static const uint16_t codes[] = {0, 0x0123, 0x4e40, 0x5120, 0xd120, 0x5258, 0x5320, 0x53e8};
@@ -158,44 +164,75 @@ static abt_rm random_message(uint64_t *seed, uint16_t vci, uint32_t newest, cons
     return rm;
 }
 
+/* Both ports, their connections and the last request of each. */
+struct both {
+    struct plain plain;
+    abt_port port;
+    abt_connection connections[CONNECTIONS];
+    abt_rm last[CONNECTIONS];
+};
+
+static void begin(struct both *both)
+{
+    memset(both, 0, sizeof *both);
+    both->plain.capacity = 2 * CAPACITY;
+    SAME(abt_port_init(&both->port, both->plain.capacity), ABT_OK);
+    for (uint16_t i = 0; i < CONNECTIONS; i++) {
+        SAME(abt_connection_init(&both->connections[i], 0, (uint16_t)(100 + i)), ABT_OK);
+        both->last[i] = message(ABT_REQUEST, (uint16_t)(100 + i), 1, 0, 0);
+    }
+}
+
+/* One message, and what it came to. */
+static abt_outcome random_call(struct both *both, uint64_t *seed)
+{
+    uint16_t i = (uint16_t)below(seed, CONNECTIONS), held = 7;
+    struct reserved *r = &both->plain.of[i];
+    abt_rm rm = random_message(seed, (uint16_t)(100 + i), r->newest, &both->last[i]);
+    abt_rm answer = message(9, 9, 9, 9, 9), no = answer;
+    int is_request = rm.kind == ABT_REQUEST;
+    abt_outcome wanted = is_request ? plain_request(&both->plain, r, &rm) : plain_answer(r, &rm);
+    uint64_t total = 7;
+    SAME(call(&both->port, &both->connections[i], &rm, &answer, is_request), wanted);
+    if (wanted == ABT_REFUSE)
+        no = message(ABT_NO, rm.vci, rm.seq, abt_rate_canonical(rm.floor), abt_rate_canonical(rm.ask));
+    SAME_MEMORY(&answer, &no, sizeof no);
+    SAME(abt_connection_held(&both->connections[i], &held), ABT_OK);
+    SAME(abt_rate_units(held), plain_held(r));
+    SAME(held, abt_rate_canonical(held));
+    SAME(abt_port_total(&both->port, &total), ABT_OK);
+    SAME(total, plain_total(&both->plain));
+    if (is_request)
+        both->last[i] = rm;
+    return wanted;
+}
+
+static abt_outcome random_capacity(struct both *both, uint64_t *seed)
+{
+    uint64_t capacity = below(seed, 4 * CAPACITY);
+    abt_outcome wanted = capacity < plain_total(&both->plain) ? ABT_BELOW_SUM : ABT_OK;
+    SAME(abt_port_set_capacity(&both->port, capacity), wanted);
+    if (wanted == ABT_OK)
+        both->plain.capacity = capacity;
+    return wanted;
+}
+
+/* Each outcome of a message comes about often, and so does each of a capacity. */
 static void random_calls(long calls)
 {
+    static const abt_outcome all[] = {ABT_PASS, ABT_REFUSE, ABT_STALE, ABT_CONFLICT, ABT_FLOOR_ABOVE, ABT_OK, ABT_BELOW_SUM};
+    static long times[ABT_CAPACITY_RANGE + 1];
     uint64_t seed = 50;
-    while (calls > 0) {
-        struct plain plain = {2 * CAPACITY, {{0, 0, 0, 0}}};
-        abt_port port;
-        abt_connection connections[CONNECTIONS];
-        abt_rm last[CONNECTIONS];
-        SAME(abt_port_init(&port, plain.capacity), ABT_OK);
-        for (uint16_t i = 0; i < CONNECTIONS; i++) {
-            SAME(abt_connection_init(&connections[i], 0, (uint16_t)(100 + i)), ABT_OK);
-            last[i] = message(ABT_REQUEST, (uint16_t)(100 + i), 1, 0, 0);
-        }
-        for (int call = 0; call < 1000; call++, calls--) {
-            uint16_t i = (uint16_t)below(&seed, CONNECTIONS), held = 7;
-            struct reserved *r = &plain.of[i];
-            abt_rm rm = random_message(&seed, (uint16_t)(100 + i), r->newest, &last[i]), answer = message(9, 9, 9, 9, 9), no = answer;
-            int is_request = rm.kind == ABT_REQUEST;
-            abt_outcome wanted = is_request ? plain_request(&plain, r, &rm) : plain_answer(r, &rm);
-            uint64_t total = 7, capacity = below(&seed, 4 * CAPACITY);
-            SAME(is_request ? abt_port_request(&port, &connections[i], &rm, &answer) : abt_port_answer(&port, &connections[i], &rm), wanted);
-            if (wanted == ABT_REFUSE)
-                no = message(ABT_NO, rm.vci, rm.seq, abt_rate_canonical(rm.floor), abt_rate_canonical(rm.ask));
-            SAME_MEMORY(&answer, &no, sizeof no);
-            SAME(abt_connection_held(&connections[i], &held), ABT_OK);
-            SAME(abt_rate_units(held), plain_held(r));
-            SAME(held, abt_rate_canonical(held));
-            SAME(abt_port_total(&port, &total), ABT_OK);
-            SAME(total, plain_total(&plain));
-            if (!below(&seed, 16)) {
-                SAME(abt_port_set_capacity(&port, capacity), capacity < total ? ABT_BELOW_SUM : ABT_OK);
-                if (capacity >= total)
-                    plain.capacity = capacity;
-            }
-            if (is_request)
-                last[i] = rm;
-        }
+    struct both both;
+    for (long made = 0; made < calls; made++) {
+        if (made % 1000 == 0)
+            begin(&both);
+        times[random_call(&both, &seed)]++;
+        if (!below(&seed, 16))
+            times[random_capacity(&both, &seed)]++;
     }
+    for (size_t i = 0; i < sizeof all / sizeof *all; i++)
+        SAME(times[all[i]] > 1000, 1);
 }
 
 /* Each refused call leaves all as it was. */
@@ -204,7 +241,7 @@ static void refused(abt_port *port, abt_connection *connection, const abt_rm *rm
     abt_port port_before = *port;
     abt_connection before = *connection;
     abt_rm answer = message(9, 9, 9, 9, 9), answer_before = answer;
-    SAME(is_request ? abt_port_request(port, connection, rm, &answer) : abt_port_answer(port, connection, rm), wanted);
+    SAME(call(port, connection, rm, &answer, is_request), wanted);
     SAME_MEMORY(port, &port_before, sizeof *port);
     SAME_MEMORY(connection, &before, sizeof before);
     SAME_MEMORY(&answer, &answer_before, sizeof answer);

@@ -1,10 +1,10 @@
 -- What the states of a port and of its connections that a C program keeps stand for (docs/RULES.md, "Node").
-use Rattle.std.specs.Prelude.{◌≡◌, ◌≢◌, ℕ, ◌+◌, ◌-◌, ◌<◌, ◌≤◌, ◌^◌, ◌==◌, true, false, if◌then◌else◌}
+use Rattle.std.specs.Prelude.{◌≡◌, ℕ, ◌+◌, ◌-◌, ◌<◌, ◌≤◌, ◌^◌, ◌==◌, true, false, if◌then◌else◌}
 use Rattle.abt_rate.specs.Limits.{capacity_max}
 use Rattle.abt_rate.specs.Rate.{units_of}
 use Rattle.abt_cell.specs.Channel.{Channel}
-use Rattle.abt_cell.specs.Message.{Terms, Reply}
-use Rattle.abt_node.specs.Reservation.{Reservation, held_by, decision_of, answer_of}
+use Rattle.abt_cell.specs.Message.{Terms}
+use Rattle.abt_node.specs.Reservation.{Reservation, held_by, decision_of}
 use Rattle.abt_node.specs.declared.reply.Onward.{Onward}
 use Rattle.abt_node.specs.declared.reply.Onward.TheVariants as onward
 use Rattle.abt_node.specs.declared.reply.Back.{Back}
