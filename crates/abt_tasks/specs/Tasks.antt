@@ -8,12 +8,16 @@ use Rattle.abt_perform.specs.Plans.{IsWithinLimits}
 use Rattle.abt_commands.specs.Carried.{IsDoneHere, IsRefusedHere, ReadsHere, IsUnopened}
 use Rattle.abt_explain.specs.Explained.{IsExplained, IsRefused}
 use Rattle.abt_explain.specs.declared.plan.ExplainPlan.{ExplainPlan}
+use Rattle.abt_parts.specs.Texts.{IsAllowedPlan, IsAnswered}
+use Rattle.abt_parts.specs.Texts as texts
+use Rattle.abt_parts.specs.declared.plan.PartsPlan.{PartsPlan}
 use Rattle.abt_tasks.specs.declared.task.Task.{Task}
-use Rattle.abt_tasks.specs.declared.task.Task.TheVariants.{Plan, Explain}
+use Rattle.abt_tasks.specs.declared.task.Task.TheVariants.{Plan, Explain, Parts}
 
 abbrev pub IsAllowed : Task → Type 0
 IsAllowed (Plan plan) = IsWithinLimits plan
 IsAllowed (Explain plan) = ⊤
+IsAllowed (Parts plan) = IsAllowedPlan plan
 
 -- the file whose scenario is to be explained
 abbrev pub file_of : ExplainPlan → Option Text
@@ -42,17 +46,43 @@ IsUnexplainedHere plan left old new errors_old errors_new = MatchOption (file_of
     (IsRefused left old new errors_old errors_new)
     (λ name. IsUnopened old new errors_old errors_new ⊎ IsRefusedOver old new errors_old errors_new)
 
+-- The same of a plan whose part answers lines.
+pub record IsAnsweredOver (plan : PartsPlan) (old new : Option Text) : Type 0 where
+  pub left : Option Text
+  pub answered : IsAnswered plan left old new
+
+pub record IsUnansweredOver (plan : PartsPlan) (old new errors_old errors_new : Option Text) : Type 0 where
+  pub left : Option Text
+  pub refused : texts.IsRefused plan left old new errors_old errors_new
+
+-- what answering takes of the input that is there
+abbrev pub TakesToAnswer : PartsPlan → (old new : Option Text) → Type 0
+TakesToAnswer plan old new = MatchOption (texts.file_of plan) (ConsumesAtMost old new (text_max + 1)) (λ name. Keeps old new)
+
+-- the answers went out, all of them
+abbrev pub IsAnsweredHere : PartsPlan → (left old new : Option Text) → Type 0
+IsAnsweredHere plan left old new = MatchOption (texts.file_of plan) (IsAnswered plan left old new) (λ name. IsAnsweredOver plan old new)
+
+-- there is a fault, which is told
+abbrev pub IsUnansweredHere : PartsPlan → (left old new errors_old errors_new : Option Text) → Type 0
+IsUnansweredHere plan left old new errors_old errors_new = MatchOption (texts.file_of plan)
+    (texts.IsRefused plan left old new errors_old errors_new)
+    (λ name. IsUnopened old new errors_old errors_new ⊎ IsUnansweredOver plan old new errors_old errors_new)
+
 -- what a task takes of the input that is there
 abbrev pub TakesOf : Task → (old new : Option Text) → Type 0
 TakesOf (Plan plan) old new = ReadsHere plan old new
 TakesOf (Explain plan) old new = TakesToExplain plan old new
+TakesOf (Parts plan) old new = TakesToAnswer plan old new
 
 -- what the task prints went out, all of it
 abbrev pub IsCarriedOut : Task → (left old new : Option Text) → Type 0
 IsCarriedOut (Plan plan) left old new = IsDoneHere plan left old new
 IsCarriedOut (Explain plan) left old new = IsExplainedHere plan left old new
+IsCarriedOut (Parts plan) left old new = IsAnsweredHere plan left old new
 
 -- the task has a fault, which is told
 abbrev pub IsNotCarriedOut : Task → (left old new errors_old errors_new : Option Text) → Type 0
 IsNotCarriedOut (Plan plan) left old new errors_old errors_new = IsRefusedHere plan left old new errors_old errors_new
 IsNotCarriedOut (Explain plan) left old new errors_old errors_new = IsUnexplainedHere plan left old new errors_old errors_new
+IsNotCarriedOut (Parts plan) left old new errors_old errors_new = IsUnansweredHere plan left old new errors_old errors_new

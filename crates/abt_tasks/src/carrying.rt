@@ -3,6 +3,7 @@ ghost use Rattle.std.specs.Prelude.{◌≡◌, ◌⊎◌};
 ghost use Rattle.std.specs.Io.KnownBytes.{Keeps};
 ghost use Rattle.abt_tasks.specs.Tasks.{IsAllowed, IsCarriedOut, IsNotCarriedOut, TakesOf};
 
+use crate::answering::answer;
 use crate::explaining::explain;
 use crate::task::Task;
 use abt_commands::carry_out;
@@ -34,5 +35,6 @@ where
     match task {
         Task::Plan(plan) => carry_out(rt, plan, input, out, errors),
         Task::Explain(plan) => explain(rt, plan, input, out, errors),
+        Task::Parts(plan) => answer(rt, plan, input, out, errors),
     }
 }

@@ -1,6 +1,7 @@
 //! What the program does from its words on: the commands of all crates behind one command line, and what each is carried out by.
 #![tactic(auto)]
 
+mod answering;
 mod carrying;
 mod environment;
 mod explaining;

@@ -1,5 +1,6 @@
 //! What the words of a command line ask for.
 use abt_explain::ExplainPlan;
+use abt_parts::PartsPlan;
 use abt_perform::Plan;
 
 /// What to do, by the crate whose command asks for it.
@@ -9,4 +10,6 @@ pub enum Task {
     Plan(Plan),
     /// Run a scenario, and tell each of its events with its reason.
     Explain(ExplainPlan),
+    /// Have a policer or a shaper answer the lines of a text.
+    Parts(PartsPlan),
 }
