@@ -4,17 +4,21 @@ NAME.toml is run by `abt run NAME.toml` in the folder scenarios/, and from the s
 it, one a line, such as those of `abt threads NAME.toml --workers 4`: the file's name comes behind the first. NAME.toml.stdout is what it
 has to print, NAME.toml.stderr what it has to tell (nothing, if the file isn't there), NAME.toml.status the exit status (0). The model of
 scenarios/model has to say the same of each sample, and of stories that were worked out by hand. What no file can show is made here: a
-text that is too long, a file that isn't there, an output that takes nothing, and words that are refused.
+text that is too long, a file that isn't there, an output that takes nothing, and words that are refused. The worked explanation of
+docs/EXPLAIN.md has to be what `abt explain` prints of its scenario.
 
 usage: scenarios.py [PROGRAM..]    as each of these programs prints it, else the proved program, which `./abt --prove` makes where need be
 """
+import re
 import subprocess
 import sys
+import tempfile
 from pathlib import Path
 
 ROOT = Path(__file__).resolve().parent.parent
 FOLDER = ROOT / "scenarios"
 INDEX = ROOT / "docs" / "SCENARIOS.md"
+EXPLAINED = ROOT / "docs" / "EXPLAIN.md"
 LONGEST = 16_777_216
 
 
@@ -55,6 +59,8 @@ def of_files_and_outputs(program):
         ("the longest text", ["run"], b"\n" * LONGEST, "fault: MissingKey ports\n"),
         ("threads over no file", ["threads", "none.toml", "--workers", "1"], b"", "fault: open\n"),
         ("threads over a folder", ["threads", ".", "--workers", "1"], b"", "fault: read\n"),
+        ("an explanation of no file", ["explain", "none.toml"], b"", "fault: open\n"),
+        ("an explanation of a folder", ["explain", "."], b"", "fault: read\n"),
     ]:
         yield from differences(name, ("", line, 1), run(program, words, text))
     beyond = "one_source.toml/x"
@@ -66,7 +72,7 @@ def of_files_and_outputs(program):
     ]:
         yield from differences(name, ("", "fault: open\n", 1), run(program, words))
     if Path("/dev/full").exists():
-        for words in (["run", "one_source.toml"], ["rate", "53e8"], ["--help"], ["help", "port"]):
+        for words in (["run", "one_source.toml"], ["explain", "one_source.toml"], ["rate", "53e8"], ["--help"], ["help", "port"]):
             with open("/dev/full", "wb") as full:
                 done = subprocess.run([program, *words], cwd=FOLDER, stdout=full, stderr=subprocess.PIPE)
             given = ("", done.stderr.decode(), done.returncode)
@@ -101,6 +107,17 @@ def of_words(program):
             yield f"the words {words}: the output is {output!r}, the status {status}, and {told!r} is told"
 
 
+def of_explanation(program):
+    """The worked explanation, of its scenario as a file and from the standard input, where a file that is named is the one that is explained."""
+    scenario, explanation = re.findall(r"^```\n(.*?)^```$", EXPLAINED.read_text(), flags=re.M | re.S)[:2]
+    wanted = (explanation, "", 0)
+    with tempfile.NamedTemporaryFile(suffix=".toml") as file:
+        file.write(scenario.encode())
+        file.flush()
+        yield from differences("the worked explanation", wanted, run(program, ["explain", file.name], b"ports = []"))
+    yield from differences("the worked explanation from standard input", wanted, run(program, ["explain"], scenario.encode()))
+
+
 def of_model():
     for name in ("rows.py", "samples.py"):
         done = subprocess.run([sys.executable, "-B", FOLDER / "model" / name], capture_output=True, text=True)
@@ -117,6 +134,7 @@ def main(programs):
         told = [line for sample in samples for line in of_sample(program, sample)]
         told += of_files_and_outputs(program)
         told += of_words(program)
+        told += of_explanation(program)
         found += [f"{program.name}: {line}" for line in told]
     for line in found:
         print(f"scenarios: {line}")
