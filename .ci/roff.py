@@ -1,0 +1,70 @@
+"""Makes a manual page of a document in Markdown: headings, paragraphs, lists, tables and blocks of code, as the documents here have them."""
+import re
+
+
+def escaped(text):
+    """A text for roff, with nothing in it that roff would read as its own."""
+    text = text.replace("\\", "\\e").replace("-", "\\-")
+    return re.sub(r"^([.'])", r"\\&\1", text, flags=re.M)
+
+
+def inline(text):
+    """A line of Markdown: code and what is strong become bold, a link its text."""
+    text = re.sub(r"\[([^\]]+)\]\([^)]+\)", r"\1", text)
+    parts = re.split(r"(`[^`]+`|\*\*[^*]+\*\*)", text)
+    told = [f"\\fB{escaped(it.strip('`*'))}\\fR" if re.match(r"`[^`]|\*\*", it) else escaped(it).replace("\\&", "") for it in parts]
+    told = "".join(told)
+    return "\\&" + told if told[:1] in (".", "'") else told
+
+
+def table(rows):
+    """A table: its first column is a tag, the others stand below it, each behind its heading."""
+    cells = [[cell.strip() for cell in re.split(r"(?<!\\)\|", row.strip().strip("|"))] for row in rows]
+    heads, out = cells[0], []
+    for row in cells[2:]:
+        rest = "; ".join(f"{head}: {cell}" if head and len(row) > 2 else cell for head, cell in list(zip(heads, row))[1:] if cell)
+        out.append(f".TP\n{inline(row[0])}\n{inline(rest)}" if row[0] else f".IP\n{inline(rest)}")
+    return out
+
+
+def page_of(text, name, number, version):
+    """The manual page of a document."""
+    lines, out, at = text.split("\n"), [], 0
+    title = lines[0].removeprefix("# ")
+    out.append(f'.\\" Written by .ci/pages.py from a document.\n.TH {name.upper()} {number} "" "abt {version}" "File Formats"')
+    out.append(f".SH NAME\n{name} \\- {escaped(title[0].lower() + title[1:])}\n.SH DESCRIPTION")
+    at = 1
+    while at < len(lines):
+        line = lines[at]
+        if line.startswith("```"):
+            end = next(k for k in range(at + 1, len(lines)) if lines[k].startswith("```"))
+            out += [".PP\n.nf\n.RS 4", *(escaped(it) or "\\&" for it in lines[at + 1 : end]), ".RE\n.fi"]
+            at = end + 1
+            continue
+        if line.startswith("|"):
+            end = next((k for k in range(at, len(lines)) if not lines[k].startswith("|")), len(lines))
+            out += table(lines[at:end])
+            at = end
+            continue
+        if line.startswith("#"):
+            depth, heading = re.match(r"(#+)\s+(.*)", line).groups()
+            out.append(f"{'.SH' if len(depth) == 2 else '.SS'} {inline(heading)}")
+        elif item := re.match(r"\s*(?:[-*]|\d+\.)\s+(.*)", line):
+            out.append(f".IP \\(bu 2\n{inline(item[1])}")
+        elif not line.strip():
+            out.append(".PP")
+        else:
+            out.append(inline(line.strip()))
+        at += 1
+    return "\n".join(merged(out)) + "\n"
+
+
+def merged(lines):
+    """Lines without a paragraph's beginning where another request begins one anyway, or nothing follows."""
+    for at, line in enumerate(lines):
+        behind = lines[at + 1] if at + 1 < len(lines) else ".SH"
+        if line == ".PP" and behind.startswith((".SH", ".SS", ".TP", ".IP", ".PP")):
+            continue
+        if line == ".PP" and at and lines[at - 1].startswith((".SH", ".SS")):
+            continue
+        yield line

@@ -1,0 +1,72 @@
+"""Tries the manual pages with man, and the completions with each shell that is there.
+
+usage: test_pages.py
+"""
+import os
+import re
+import shutil
+import subprocess
+import sys
+from pathlib import Path
+
+ROOT = Path(__file__).resolve().parent.parent
+
+
+def ran(*words, **how):
+    return subprocess.run(words, stdin=subprocess.DEVNULL, capture_output=True, text=True, check=False, cwd=ROOT, **how)
+
+
+def warnings(page):
+    """What man has against a page."""
+    environment = {**os.environ, "LC_ALL": "C.UTF-8", "MANWIDTH": "100"}
+    done = ran("man", "--warnings", "-E", "UTF-8", "-l", "-Tutf8", "-Z", str(page), env=environment)
+    return done.stderr.strip() or (f"status {done.returncode}" if done.returncode else "")
+
+
+def shown(page):
+    """A page as a reader has it, without emphasis."""
+    done = ran("man", "-E", "UTF-8", "-l", "-Tutf8", str(page), env={**os.environ, "LC_ALL": "C.UTF-8", "MANWIDTH": "1000", "MAN_KEEP_FORMATTING": ""})
+    return re.sub(r"\x1b\[[0-9;]*m|.\x08", "", done.stdout)
+
+
+def completed(*words):
+    """What bash completes at the last of some words."""
+    given = " ".join(f"'{word}'" for word in words)
+    script = f"source completions/abt.bash; COMP_WORDS=({given}); COMP_CWORD={len(words) - 1}; _abt; printf '%s\\n' \"${{COMPREPLY[@]}}\""
+    return ran("bash", "-c", script).stdout.split()
+
+
+def faults():
+    texts = {file.name: file.read_text() for file in (ROOT / "man" / "help").iterdir()}
+    names = re.findall(r"^  ([a-z]+)  ", texts["abt"].split("Commands:\n", 1)[1].split("\n\n", 1)[0], re.M)
+    flags = {name: re.findall(r"(?<![\w-])--?[a-z][\w-]*", texts[f"abt-{name}"].partition("\nOptions:\n")[2].partition("\n\n")[0]) for name in names}
+    if shutil.which("man"):
+        for page in sorted((ROOT / "man").glob("*.[1-9]")):
+            if told := warnings(page):
+                yield f"{page.name}: man warns: {told[:200]}"
+        text = shown(ROOT / "man" / "abt.1")
+        for name in names:
+            part = re.split(rf"\n +abt {name}\n", text)[-1]
+            missing = [flag for flag in flags[name] if flag not in part]
+            if f"abt {name}\n" not in text or missing:
+                yield f"abt.1 doesn't name abt {name} {' '.join(missing)}"
+    if shutil.which("bash"):
+        if sorted(completed("abt", "")) != sorted([*names, "-h", "--help", *(["-V", "--version"] if "--version" in texts["abt"] else [])]):
+            yield f"bash completes no command as {completed('abt', '')}"
+        for name in names:
+            if completed("abt", name) != [name]:
+                yield f"bash completes {name} as {completed('abt', name)}"
+            if missing := sorted({*flags[name]} - {*completed("abt", name, "-")}):
+                yield f"bash doesn't complete {missing} of abt {name}"
+        if "docs/" not in " ".join(completed("abt", "run", "doc")) and "docs" not in completed("abt", "run", "doc"):
+            yield "bash completes no file behind abt run"
+    for shell, file in (("zsh", "_abt"), ("fish", "abt.fish")):
+        if shutil.which(shell) and (done := ran(shell, "-n", f"completions/{file}")).returncode:
+            yield f"{file}: {done.stderr[:200]}"
+
+
+found = list(faults())
+for fault in found:
+    print(f"test_pages: {fault}")
+print(f"test_pages: {len(found)} faults")
+sys.exit(1 if found else 0)

@@ -1,0 +1,19 @@
+# Completions of abt for bash. Written by .ci/pages.py from the help of the program.
+_abt() {
+    local word=${COMP_WORDS[COMP_CWORD]}
+    if [ "$COMP_CWORD" -eq 1 ]; then
+        COMPREPLY=($(compgen -W "rate cell port run threads explain help -h --help" -- "$word"))
+        return
+    fi
+    case ${COMP_WORDS[1]} in
+        rate) COMPREPLY=($(compgen -W "-h --help" -- "$word")) ;;
+        cell) COMPREPLY=($(compgen -W "-h --help" -- "$word")) ;;
+        port) COMPREPLY=($(compgen -W "-h --help" -- "$word")) ;;
+        run) COMPREPLY=($(compgen -f -W "-h --help" -- "$word")) ;;
+        threads) COMPREPLY=($(compgen -f -W "--workers -h --help" -- "$word")) ;;
+        explain) COMPREPLY=($(compgen -f -W "-h --help" -- "$word")) ;;
+        help) COMPREPLY=($(compgen -W "rate cell port run threads explain help" -- "$word")) ;;
+        *) COMPREPLY=() ;;
+    esac
+}
+complete -F _abt abt
