@@ -1,4 +1,4 @@
-"""Compares the help that `./abt` shows before there is a program, in man/help, with what the program shows.
+"""Compares the help that `./abt` shows before there is a program, in man/help, with what the program shows, and its version with CHANGELOG.md.
 
 usage: help_texts.py PROGRAM            compares
        help_texts.py PROGRAM --write    writes the texts anew
@@ -21,7 +21,7 @@ def texts_of(program):
     """The texts by their file: the whole help, that of each command, and what is told where no words are given."""
     whole = shown(program, "--help")
     commands = re.findall(r"^  ([a-z]+)  ", whole.split("Commands:\n", 1)[1].split("\n\n", 1)[0], re.M)
-    texts = {"abt": whole, "none": shown(program)}
+    texts = {"abt": whole, "none": shown(program), "version": shown(program, "--version")}
     for command in commands:
         texts[f"abt-{command}"] = shown(program, "help", command)
     return texts
@@ -37,6 +37,10 @@ def main(program, *options):
     found = sorted(name for name in texts.keys() | kept.keys() if texts.get(name) != kept.get(name))
     for name in found:
         print(f"help_texts: man/help/{name} isn't what the program shows")
+    version = re.search(r"^## ([0-9.]+)", (FOLDER.parent.parent / "CHANGELOG.md").read_text(), re.M)[1]
+    if texts["version"] != f"abt {version}\n":
+        print("help_texts: CHANGELOG.md begins with another version than the program tells")
+        found.append("CHANGELOG.md")
     print(f"help_texts: {len(texts)} texts, {len(found)} differences")
     sys.exit(1 if found else 0)
 

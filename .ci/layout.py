@@ -81,7 +81,8 @@ def faults():
         if name not in WITHOUT_BODIES and not any((root / "must-fail").glob("*.edit")):
             yield f"{name} has no edit that must fail"
         for source in sorted(root.glob("src/**/*.rt")):
-            length = source.read_text().count("\n")
+            # The numbers of a table stand one a line and aren't counted.
+            length = len(re.findall(r"^(?!\s*[\d_]+,$).*\n", source.read_text(), re.M))
             if length > LONGEST_FILE:
                 yield f"{source} has {length} lines"
         for proof in sorted(root.glob("proofs/**/*.antt")) + sorted(root.glob("specs/*.antt")):

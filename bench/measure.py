@@ -26,11 +26,20 @@ TESTED = [
     ("one-port", 1024),
     ("many-ports", 16),
     ("many-ports", 1024),
+    ("long-paths", 16),
     ("repeats", 16),
     ("cells", 16),
     ("cells", 1024),
     ("again", 1),
 ]
+# Steps of a world: the kind that has them, how many of its events in so many are other ones, the kind that has these alone, and how many
+# instructions a step should take at most.
+STEPS = [
+    ("a step that isn't enabled", "not-enabled", 1, None, 150),
+    ("an ask", "asks", 1, None, None),
+    ("a request at one hop", "requests", 2, "asks", 700),
+]
+STEP = "abt_world::world::World::step"
 # What the figures should keep to.
 MOST_INSTRUCTIONS = 2500
 MOST_GROWTH = 1.05
@@ -69,7 +78,7 @@ class Bench:
         """Status, seconds and mebibytes of the fastest run of some."""
         return min((self.once(file) for _ in range(self.runs)), key=lambda run: run[1])
 
-    def looked_at(self):
+    def looked_at(self, is_enabled=True):
         """The number of events of the report, which has to be that of a run as it should be."""
         # Line by line, so that this script stays small: what it took counts for the peaks of later runs.
         events, enabled, last = 0, 0, ""
@@ -79,7 +88,7 @@ class Bench:
                     events = int(line.removeprefix("events "))
                 enabled += line[0].isdigit() and " not-enabled " not in line
                 last = line
-        if enabled != events or last != "safe\n":
+        if is_enabled and enabled != events or last != "safe\n":
             sys.exit(f"measure.py: {enabled} of {events} events are enabled, and the report ends with {last!r}")
         return events
 
@@ -91,6 +100,16 @@ class Bench:
         self.looked_at()
         totals = [line for line in (self.folder / "calls").read_text().split("\n") if line.startswith("totals: ")]
         return int(totals[0].removeprefix("totals: "))
+
+    def in_steps(self, kind, events):
+        """How many instructions a run takes in the steps of its world."""
+        file = self.scenario(kind, "--connections", "16", "--events", str(events))
+        words = ["valgrind", "--tool=callgrind", f"--toggle-collect={STEP}", f"--callgrind-out-file={self.folder / 'calls'}", self.program, "run", file]
+        with (self.folder / "report").open("wb") as report:
+            subprocess.run(words, stdout=report, stderr=subprocess.DEVNULL, check=True)
+        self.looked_at(kind != "not-enabled")
+        totals = [line for line in (self.folder / "calls").read_text().split("\n") if line.startswith("totals: ")]
+        return int(totals[0].removeprefix("totals: ")) or sys.exit(f"measure.py: the program has no function {STEP}")
 
     def heaviest(self, count):
         """The lines of the functions that cost most in the run that was counted last."""
@@ -138,6 +157,21 @@ def count_instructions(bench, tested, low, high, listed):
         print(f"\nAt a port of 1,024 connections an event costs {ratio:.3f} times one at a port of 16.")
         if ratio > MOST_FOR_FULL_PORT:
             short.append(f"one-port: at 1,024 connections more than {MOST_FOR_FULL_PORT} times as much as at 16")
+    return short
+
+
+def count_steps(bench, low, high):
+    """The table of single steps; gives what falls short."""
+    heading("step", "wanted", "instructions")
+    short = []
+    for name, kind, share, other, most in STEPS:
+        steps = (high - low) // share
+        taken = bench.in_steps(kind, high) - bench.in_steps(kind, low)
+        if other:
+            taken -= bench.in_steps(other, high // share) - bench.in_steps(other, low // share)
+        row(name, most and f"at most {most}" or "", f"{taken / steps:,.0f}")
+        if most and taken > most * steps:
+            short.append(f"{name}: more than {most} instructions")
     return short
 
 
@@ -204,7 +238,7 @@ def main():
     parser.add_argument("--runs", type=int, default=3, metavar="N", help="how many runs, of which the fastest counts; without it, 3")
     parser.add_argument("--processor", action="store_true", help="take the seconds that the processor worked, and not those that went by")
     parser.add_argument("--calls", type=int, default=0, metavar="N", help="list the N functions that cost most in each longer run")
-    parser.add_argument("--only", choices=["instructions", "seconds", "longest", "refused"], help="only this table")
+    parser.add_argument("--only", choices=["instructions", "steps", "seconds", "longest", "refused"], help="only this table")
     words = parser.parse_args()
     tested = [one for one in TESTED if not words.kinds or one[0] in words.kinds.split(",")]
     short = []
@@ -212,6 +246,8 @@ def main():
         bench = Bench(words.program.resolve(), folder, words.runs, words.processor)
         if words.only in (None, "instructions"):
             short += count_instructions(bench, tested, *words.counted, words.calls)
+        if words.only in (None, "steps"):
+            short += count_steps(bench, *words.counted)
         if words.only in (None, "seconds"):
             short += measure_seconds(bench, tested, words.sizes)
         if words.only in (None, "longest"):

@@ -1,12 +1,16 @@
 #!/usr/bin/env python3
-"""Writes a long scenario for measurements. Every event of it is enabled.
+"""Writes a long scenario for measurements. Every event of it is enabled, but for those of the kind not-enabled.
 
 kinds:
   one-port    sources ask again and again over one port, and every fourth request is refused
   many-ports  the same over paths of eight of 64 ports, and the fourth hop refuses
+  long-paths  the same over paths of sixteen of them
   repeats     as one-port, and after each request ten messages of old ones come once more
   cells       sources were granted a rate and send cells at it, of which each sixteenth gets lost
   again       sources send one request again and again: events that have hardly any text, so of one length the scenario with most events
+  asks        sources ask again and again, and nothing comes of it
+  requests    the same, and each request comes to its first hop
+  not-enabled what the last hop is to turn into a yes was never asked
   too-many    different connections, far more than a net may have, and no events: the net is refused
 
 The events of the connections alternate, so each event is of another connection than the one before. The same words give the same text.
@@ -26,7 +30,8 @@ SPACING = 1_666_666_667
 SMALL_PORT = 1_000_000_000
 # Has room for the greatest rate of each of them.
 GREAT_PORT = 2**60
-HOPS, PORTS, FIRST_SMALL = 8, 64, 4
+# Hops of a path, of a long one, and ports.
+HOPS, MOST_HOPS, PORTS, FIRST_SMALL = 8, 16, 64, 4
 SECOND = 10**12
 DELAY, TAU = 1000, 200
 
@@ -86,13 +91,36 @@ def agains(conn, hops):
         yield f"again {conn}"
 
 
-# What the connections do in the kinds that have events, and whether their paths are long.
+def asks(conn, hops):
+    yield f"start {conn} 0"
+    for seq in count(1):
+        yield f"ask {conn} {RATES[seq % 2]}"
+
+
+def asks_that_come(conn, hops):
+    yield f"start {conn} 0"
+    for seq in count(1):
+        yield f"ask {conn} {RATES[seq % 2]}"
+        yield f"request {conn} 1 {seq}"
+
+
+def turns(conn, hops):
+    yield f"start {conn} 0"
+    while True:
+        yield f"turn {conn} 1"
+
+
+# What the connections do in the kinds that have events, and how many hops their paths have.
 KINDS = {
-    "one-port": (requests, False),
-    "many-ports": (requests, True),
-    "repeats": (repeats, False),
-    "cells": (cells, False),
-    "again": (agains, False),
+    "one-port": (requests, 1),
+    "many-ports": (requests, HOPS),
+    "long-paths": (requests, MOST_HOPS),
+    "repeats": (repeats, 1),
+    "cells": (cells, 1),
+    "again": (agains, 1),
+    "asks": (asks, 1),
+    "requests": (asks_that_come, 1),
+    "not-enabled": (turns, 1),
 }
 
 
@@ -118,10 +146,10 @@ def lines_within(lines, octets):
 
 def eventful(kind, connections, events, octets):
     """A scenario of so many events, or one of so many octets."""
-    source, is_long = KINDS[kind]
-    if is_long:
+    source, hops = KINDS[kind]
+    if hops > 1:
         ports = [SMALL_PORT if (port + 1) % FIRST_SMALL == 0 else GREAT_PORT for port in range(PORTS)]
-        paths = [[(FIRST_SMALL * conn + hop) % PORTS for hop in range(HOPS)] for conn in range(connections)]
+        paths = [[(FIRST_SMALL * conn + hop) % PORTS for hop in range(hops)] for conn in range(connections)]
     else:
         ports = [SMALL_PORT]
         paths = [[0]] * connections

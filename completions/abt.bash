@@ -2,14 +2,14 @@
 _abt() {
     local word=${COMP_WORDS[COMP_CWORD]}
     if [ "$COMP_CWORD" -eq 1 ]; then
-        COMPREPLY=($(compgen -W "rate cell port run threads explain help -h --help" -- "$word"))
+        COMPREPLY=($(compgen -W "rate cell port run threads explain help -h --help -V --version" -- "$word"))
         return
     fi
     case ${COMP_WORDS[1]} in
-        rate) COMPREPLY=($(compgen -W "-h --help" -- "$word")) ;;
-        cell) COMPREPLY=($(compgen -W "-h --help" -- "$word")) ;;
+        rate) COMPREPLY=($(compgen -W "--json -h --help" -- "$word")) ;;
+        cell) COMPREPLY=($(compgen -W "--json -h --help" -- "$word")) ;;
         port) COMPREPLY=($(compgen -W "-h --help" -- "$word")) ;;
-        run) COMPREPLY=($(compgen -f -W "-h --help" -- "$word")) ;;
+        run) COMPREPLY=($(compgen -f -W "--json -h --help" -- "$word")) ;;
         threads) COMPREPLY=($(compgen -f -W "--workers -h --help" -- "$word")) ;;
         explain) COMPREPLY=($(compgen -f -W "-h --help" -- "$word")) ;;
         help) COMPREPLY=($(compgen -W "rate cell port run threads explain help" -- "$word")) ;;

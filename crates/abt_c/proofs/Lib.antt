@@ -1,1 +1,1 @@
-mod Verdicts
+mod Spacings

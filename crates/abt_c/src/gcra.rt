@@ -10,7 +10,7 @@ ghost use Rattle.abt_c.specs.States.{IsChecked, policing_of, gcra_kind, IsPolici
 
 use crate::outcome::{self, CLOCK_BACK, DONE, NO_STATE, SPACING_RANGE, TAU_RANGE, TIME_RANGE};
 use crate::state::{AbtPolicing, GCRA_KIND};
-use abt_gcra::{Gcra, GcraFault, SPACING_MAX};
+use abt_gcra::{ARRIVE_MAX, Gcra, SPACING_MAX};
 use abt_rate::TAU_MAX;
 
 /// Makes a state that of an algorithm of a tolerance that has met no cell, whatever it was before.
@@ -32,7 +32,6 @@ pub extern "C" fn abt_raw_gcra_init(state: &mut AbtPolicing, tau: u64) -> u32
 
 /// The verdict on a cell that arrives at a moment, with the spacing from it to the next one.
 #[unsafe(no_mangle)]
-#[tactic(auto, unfolding(abt_gcra::specs::Policing::checked))]
 pub extern "C" fn abt_raw_gcra_check(state: &mut AbtPolicing, at: u64, spacing: u64) -> u32
     ensures no_state { (result ≡ no_state) ↔ (¬ IsPolicing gcra_kind state.old) }
     ensures spacing_range { (result ≡ spacing_range) ↔
@@ -53,18 +52,17 @@ pub extern "C" fn abt_raw_gcra_check(state: &mut AbtPolicing, at: u64, spacing: 
         StandsFor (policing_of state.new) (taken_after taken (arrival at spacing) verdict) }
     ensures same { first_fault ≤ result → state.new ≡ state.old }
 {
-    let Some(mut gcra) = state.gcra() else {
+    if !state.is(GCRA_KIND) {
         return NO_STATE;
-    };
+    }
     if spacing == 0 || spacing > SPACING_MAX {
         return SPACING_RANGE;
     }
-    match gcra.check(at, spacing) {
-        Ok(verdict) => {
-            state.take_over(verdict, gcra.tat(), gcra.clock());
-            outcome::of_verdict(verdict)
-        }
-        Err(GcraFault::ClockBack) => CLOCK_BACK,
-        Err(GcraFault::TimeRange) => TIME_RANGE,
+    if at < state.clock {
+        return CLOCK_BACK;
     }
+    if at > ARRIVE_MAX {
+        return TIME_RANGE;
+    }
+    outcome::of_verdict(state.check(at, spacing))
 }

@@ -17,4 +17,5 @@ mod record;
 mod shaper;
 mod source;
 mod source_state;
+mod spacing;
 mod state;

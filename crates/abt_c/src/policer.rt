@@ -11,8 +11,8 @@ ghost use Rattle.abt_c.specs.States.{policing_of, policer_kind, IsPolicing};
 
 use crate::outcome::{self, CLOCK_BACK, DONE, NO_STATE, TAU_RANGE, TIME_RANGE};
 use crate::state::{AbtPolicing, POLICER_KIND};
-use abt_gcra::{GcraFault, Policer};
-use abt_rate::{Rate, TAU_MAX};
+use abt_gcra::{ARRIVE_MAX, Policer};
+use abt_rate::TAU_MAX;
 
 /// Makes a state that of a policer of a tolerance that has met no cell, whatever it was before.
 #[unsafe(no_mangle)]
@@ -33,7 +33,6 @@ pub extern "C" fn abt_raw_policer_init(state: &mut AbtPolicing, tau: u64) -> u32
 
 /// The verdict on a cell that arrives at a moment, where a rate of this code is held for its connection.
 #[unsafe(no_mangle)]
-#[tactic(auto, unfolding(abt_gcra::specs::Policing::checked, abt_gcra::specs::Policing::policed))]
 pub extern "C" fn abt_raw_policer_arrive(state: &mut AbtPolicing, at: u64, held: u16) -> u32
     ensures no_state { (result ≡ no_state) ↔ (¬ IsPolicing policer_kind state.old) }
     ensures clock_back { (result ≡ clock_back) ↔
@@ -53,15 +52,14 @@ pub extern "C" fn abt_raw_policer_arrive(state: &mut AbtPolicing, at: u64, held:
         (taken_after taken (arrival at (spacing_of (units_of held))) verdict) }
     ensures same { first_fault ≤ result → state.new ≡ state.old }
 {
-    let Some(mut policer) = state.policer() else {
+    if !state.is(POLICER_KIND) {
         return NO_STATE;
-    };
-    match policer.arrive(at, Rate::from_code(held)) {
-        Ok(verdict) => {
-            state.take_over(verdict, policer.tat(), policer.clock());
-            outcome::of_verdict(verdict)
-        }
-        Err(GcraFault::ClockBack) => CLOCK_BACK,
-        Err(GcraFault::TimeRange) => TIME_RANGE,
     }
+    if at < state.clock {
+        return CLOCK_BACK;
+    }
+    if at > ARRIVE_MAX {
+        return TIME_RANGE;
+    }
+    outcome::of_verdict(state.police(at, held))
 }

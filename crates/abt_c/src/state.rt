@@ -1,10 +1,13 @@
 //! The states that a C program keeps. Moments and durations are picoseconds.
-ghost use Rattle.std.specs.Prelude.{◌≡◌, ◌≢◌, ◌+◌, ◌↔◌, ◌==◌, Some, None, IsSome, IfSome, if◌then◌else◌};
-ghost use Rattle.std.specs.Option.{option_map};
-ghost use Rattle.abt_gcra.specs.Policing.{Policing};
+ghost use Rattle.std.specs.Prelude.{◌≡◌, ◌+◌, ◌≤◌, ◌↔◌, ◌==◌, Some, None, IsSome, IfSome, IsTrue, if◌then◌else◌};
+ghost use Rattle.abt_rate.specs.Limits.{arrive_max, spacing_max};
+ghost use Rattle.abt_rate.specs.Rate.{units_of};
+ghost use Rattle.abt_gcra.specs.Policing.{IsKept, checked, policed};
 ghost use Rattle.abt_c.specs.States.{policing_of, gcra_kind, policer_kind, IsPolicing, bucket_of, bucket_kind, IsBucket, shaping_of, shaper_kind, IsShaper};
 
-use abt_gcra::{Bucket, Gcra, Policer, Verdict};
+use crate::spacing::spacing_of_code;
+use abt_gcra::{ARRIVE_MAX, Bucket, SPACING_MAX, Verdict};
+use abt_rate::TAU_MAX;
 use abt_shaper::Shaper;
 
 /// The kinds, eight letters each (docs/C.md, "States").
@@ -15,6 +18,9 @@ pub const POLICER_KIND: u64 = 0x6162_7420_706f_6c69;
 const BUCKET_KIND: u64 = 0x6162_7420_6275_636b;
 
 const SHAPER_KIND: u64 = 0x6162_7420_7368_6170;
+
+/// The greatest theoretical arrival time, in picoseconds: the greatest arrival, tolerance and spacing added up.
+const TAT_MAX: u64 = ARRIVE_MAX + TAU_MAX + SPACING_MAX;
 
 /// The state of the algorithm by virtual scheduling, or of a policer.
 #[repr(C)]
@@ -49,15 +55,11 @@ pub struct AbtShaper {
 }
 
 impl AbtPolicing {
-    /// The algorithm that the state stands for.
-    pub fn gcra(&self) -> Option<Gcra>
-        ensures some { IsSome result ↔ IsPolicing gcra_kind self.now }
-        ensures value { IfSome result (λ gcra. gcra ≡ policing_of self.now) }
+    /// Whether the state is one of that kind, an algorithm's or a policer's.
+    pub fn is(&self, kind: u64) -> bool
+        ensures { IsTrue result ↔ IsPolicing kind self.now }
     {
-        if self.kind != GCRA_KIND {
-            return None;
-        }
-        Gcra::of_parts(self.tau, present(self.tat, self.tat), self.clock)
+        self.kind == kind && self.tau <= TAU_MAX && self.tat <= TAT_MAX
     }
 
     /// Makes the state that of an algorithm, or of a policer, of a tolerance that has met no cell.
@@ -72,29 +74,40 @@ impl AbtPolicing {
         };
     }
 
-    /// Takes over what a verdict moved. The theoretical arrival time is written only if the cell was taken: where it isn't, the
-    /// next call doesn't wait for it.
-    pub fn take_over(&mut self, verdict: Verdict, tat: Option<u64>, clock: u64)
-        requires taken { tat ≢ Some 0 }
-        requires early { verdict ≢ Verdict.Conforming → (policing_of self.old).tat ≡ tat }
-        ensures value { policing_of self.new ≡ record { tau = self.old.tau; tat = tat; clock = clock } }
-        ensures kind { self.new.kind ≡ self.old.kind }
+    /// Gives a cell at a moment its verdict, with the spacing from it to the next one. A theoretical arrival time of 0, which stands for
+    /// none, is before each arrival, so it is looked at as one.
+    #[tactic(auto, unfolding(abt_gcra::specs::Policing::checked))]
+    pub fn check(&mut self, at: u64, spacing: u64) -> Verdict
+        requires kept { IsKept (policing_of self.old) }
+        requires arrival { at ≤ arrive_max }
+        requires least { 1 ≤ spacing }
+        requires greatest { spacing ≤ spacing_max }
+        ensures value { (result, policing_of self.new) ≡ checked (policing_of self.old) at spacing }
+        ensures state { IsPolicing self.old.kind self.new }
     {
-        if verdict == Verdict::Conforming {
-            self.tat = tat.unwrap_or(0);
+        self.clock = at;
+        if self.tat > at + self.tau {
+            return Verdict::TooEarly;
         }
-        self.clock = clock;
+        self.tat = at.max(self.tat) + spacing;
+        Verdict::Conforming
     }
 
-    /// The policer that the state stands for.
-    pub fn policer(&self) -> Option<Policer>
-        ensures some { IsSome result ↔ IsPolicing policer_kind self.now }
-        ensures value { IfSome result (λ policer. policer ≡ policing_of self.now) }
+    /// Gives a cell at a moment its verdict, where a rate of this code is held.
+    #[tactic(auto, unfolding(abt_gcra::specs::Policing::policed))]
+    pub fn police(&mut self, at: u64, held: u16) -> Verdict
+        requires kept { IsKept (policing_of self.old) }
+        requires arrival { at ≤ arrive_max }
+        ensures value { (result, policing_of self.new) ≡ policed (policing_of self.old) at (units_of held) }
+        ensures state { IsPolicing self.old.kind self.new }
     {
-        if self.kind != POLICER_KIND {
-            return None;
+        match spacing_of_code(held) {
+            Some(spacing) => self.check(at, spacing),
+            None => {
+                self.clock = at;
+                Verdict::NoRate
+            }
         }
-        Policer::of_parts(self.tau, present(self.tat, self.tat), self.clock)
     }
 }
 

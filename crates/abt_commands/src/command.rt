@@ -15,13 +15,20 @@ pub const CAPACITY: &str = "CAPACITY";
 /// The scenario of `abt run` and of `abt threads`.
 pub const FILE: &str = "FILE";
 
+/// Whether `abt rate`, `abt cell` or `abt run` answers as JSON.
+pub const JSON: &str = "json";
+
 /// How many link workers `abt threads` has.
 pub const WORKERS: &str = "workers";
+
+/// The version that `abt --version` tells; CHANGELOG.md tells what each is.
+pub const VERSION: &str = "0.1.0";
 
 /// The command line behind the program's name, without a command yet.
 pub fn program<'a>(alloc: Global) -> Result<Command<'a>, AllocError> {
     let program = Command::new(alloc, "abt")
         .bin_name("abt")?
+        .version(VERSION)
         .about("A bandwidth controller for ATM block transfer with delayed transmission")
         .no_binary_name(true)
         .subcommand_required(true)
@@ -46,7 +53,8 @@ fn rate_command<'a>(alloc: Global) -> Result<Command<'a>, AllocError> {
     Command::new(alloc, "rate")
         .about("Say what a rate code means")
         .after_help(RATE_EXAMPLE)
-        .arg(code)
+        .arg(code)?
+        .arg(json_flag(alloc))
 }
 
 fn cell_command<'a>(alloc: Global) -> Result<Command<'a>, AllocError> {
@@ -56,7 +64,8 @@ fn cell_command<'a>(alloc: Global) -> Result<Command<'a>, AllocError> {
     Command::new(alloc, "cell")
         .about("Say what an RM cell says")
         .after_help(CELL_EXAMPLE)
-        .arg(hex)
+        .arg(hex)?
+        .arg(json_flag(alloc))
 }
 
 fn port_command<'a>(alloc: Global) -> Result<Command<'a>, AllocError> {
@@ -80,7 +89,8 @@ fn run_command<'a>(alloc: Global) -> Result<Command<'a>, AllocError> {
     Command::new(alloc, "run")
         .about("Run a scenario, and report what each of its events answered")
         .after_help(RUN_EXAMPLE)
-        .arg(file_argument(alloc))
+        .arg(file_argument(alloc))?
+        .arg(json_flag(alloc))
 }
 
 fn threads_command<'a>(alloc: Global) -> Result<Command<'a>, AllocError> {
@@ -101,6 +111,13 @@ fn file_argument<'a>(alloc: Global) -> Arg<'a> {
     Arg::new(alloc, FILE).help(
         "The scenario, a TOML text; without a file it is read from the standard input",
     )
+}
+
+fn json_flag<'a>(alloc: Global) -> Arg<'a> {
+    Arg::new(alloc, JSON)
+        .long("json")
+        .action(ArgAction::SetTrue)
+        .help("Answer as JSON, one object a line")
 }
 
 const EXAMPLES: &str = "Examples:

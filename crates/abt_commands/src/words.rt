@@ -2,7 +2,7 @@
 ghost use Rattle.std.specs.Prelude.{IfOk, IfSome};
 ghost use Rattle.abt_perform.specs.Plans.{IsWithinLimits};
 
-use crate::command::{CAPACITY, CODE, FILE, HEX, WORKERS, add_commands, program};
+use crate::command::{CAPACITY, CODE, FILE, HEX, JSON, WORKERS, add_commands, program};
 use abt_perform::{Plan, WordsFault};
 use abt_rate::{CAPACITY_MAX, WORKERS_MAX};
 use clap::ArgMatches;
@@ -35,7 +35,8 @@ pub fn plan_words<'a>(alloc: Global, words: &'a [&'a str]) -> Result<Plan, Words
     }
 }
 
-/// The plan of a command of this crate, by what `clap` found behind its name; None if the name is no such command's.
+/// The plan of a command of this crate, by what `clap` found behind its name; None if the name is no such command's, or it is to answer as
+/// JSON.
 pub fn plan_of(
     alloc: Global,
     name: &str,
@@ -43,6 +44,9 @@ pub fn plan_of(
 ) -> Result<Option<Plan>, WordsFault>
     ensures limits { IfOk result (λ plan. IfSome plan IsWithinLimits) }
 {
+    if found.get_flag(JSON) {
+        return Ok(None);
+    }
     let plan = match name {
         "rate" => Plan::Rate(text_of(alloc, found, CODE)?),
         "cell" => Plan::Cell(text_of(alloc, found, HEX)?),
@@ -110,14 +114,14 @@ pub fn no_plan(alloc: Global, why: &str) -> Result<Plan, WordsFault>
     Err(WordsFault::Words(text))
 }
 
-/// What `clap` refuses, as it says so; the help that was asked for; or want of memory.
+/// What `clap` refuses, as it says so; the help or the version that was asked for; or want of memory.
 pub fn refusal(alloc: Global, error: &clap::Error) -> WordsFault {
     let Ok(text) = format!(in alloc; "{error}") else {
         return WordsFault::Memory;
     };
     match error.kind() {
         ErrorKind::OutOfMemory => WordsFault::Memory,
-        ErrorKind::DisplayHelp => WordsFault::Help(text),
+        ErrorKind::DisplayHelp | ErrorKind::DisplayVersion => WordsFault::Help(text),
         _ => WordsFault::Words(text),
     }
 }

@@ -11,7 +11,7 @@ mod port;
 mod rate;
 mod telling;
 
-pub use cell::message_hex;
+pub use cell::{message_hex, message_of};
 pub use fault::Fault;
 pub use performing::perform;
 pub use plan::{Plan, WordsFault};

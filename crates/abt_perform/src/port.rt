@@ -1,15 +1,16 @@
 //! The text of `abt port`.
-ghost use Rattle.std.specs.Prelude.{◌≡◌, ◌≤◌, ◌+◌, ◌++◌, IfOk, OnOk, IfErr, string_bytes};
+ghost use Rattle.std.specs.Prelude.{◌≡◌, ◌≤◌, ◌++◌, IfOk, OnOk, string_bytes};
 ghost use Rattle.abt_rate.specs.Limits.{capacity_max};
 ghost use Rattle.abt_perform.specs.Plans.{texts_of};
 ghost use Rattle.abt_perform.specs.PortText.{port_text, line_of, table_past, served_text, table_served, table_knowing, decision_text, table_decided, onward_text, back_text, drop_text, fault_text};
 ghost use Rattle.abt_cell.specs.Codec.{request_of};
-ghost use Rattle.abt_perform.specs.CellText.{message_of};
+ghost use Rattle.abt_perform.specs.CellText.{message_hex, message_of};
 
 use crate::cell::{message_hex, message_of};
 use crate::fault::Fault;
 use abt_cell::Rm;
 use abt_node::{AddFault, Back, DropCause, Onward, Port};
+use itoa::Buffer;
 use std::alloc::{AllocError, Global};
 
 /// The lines of some cells, which a new port serves in turn, and the line of the total that it then holds.
@@ -22,8 +23,7 @@ pub fn port_text(alloc: Global, capacity: u64, cells: &[String]) -> Result<Strin
     let mut port = Port::new(alloc, 0, capacity)?;
     let mut text = String::new(alloc);
     for (index, cell) in cells.iter().enumerate() {
-        let line = line_of(alloc, &mut port, index as u64 + 1, cell.as_str())?;
-        text.push_str(line.as_str())?;
+        push_line(alloc, &mut text, &mut port, index as u64 + 1, cell.as_str())?;
     }
     let total = port.total();
     let last = format!(in alloc; "total {total}\n")?;
@@ -31,81 +31,98 @@ pub fn port_text(alloc: Global, capacity: u64, cells: &[String]) -> Result<Strin
     Ok(text)
 }
 
-// The line of one cell.
-fn line_of(alloc: Global, port: &mut Port, number: u64, hex: &str) -> Result<String, AllocError>
-    ensures line { IfOk result (λ line. string_bytes line ≡ line_of port.old number hex.now) }
+// Adds the line of one cell. There may be many lines, so none is a text of its own.
+fn push_line(
+    alloc: Global,
+    text: &mut String,
+    port: &mut Port,
+    number: u64,
+    hex: &str,
+) -> Result<(), AllocError>
+    ensures line { OnOk result
+        (string_bytes text.new ≡ string_bytes text.old ++ line_of port.old number hex.now) }
     ensures table { OnOk result (port.new ≡ table_past port.old (message_of hex.now)) }
 {
-    let answer = match message_of(alloc, hex) {
-        Ok(rm) => served_text(alloc, port, &rm)?,
+    let mut digits = Buffer::new();
+    text.push_str(digits.format(number))?;
+    text.push_str(" ")?;
+    match message_of(alloc, hex) {
+        Ok(rm) => push_served(alloc, text, port, &rm)?,
         Err(Fault::Memory) => return Err(AllocError),
-        Err(fault) => fault_text(alloc, fault)?,
-    };
-    format!(in alloc; "{number} {answer}\n")
+        Err(fault) => push_fault(text, fault)?,
+    }
+    text.push_str("\n")
 }
 
-// What the port does with a message, whose connection it adds if it is new.
-fn served_text(alloc: Global, port: &mut Port, rm: &Rm) -> Result<String, AllocError>
-    ensures text { IfOk result (λ text. string_bytes text
-        ≡ served_text (table_knowing port.old (request_of rm.now).vc) rm.now) }
+// Adds what the port does with a message, whose connection it adds if it is new.
+fn push_served(alloc: Global, text: &mut String, port: &mut Port, rm: &Rm) -> Result<(), AllocError>
+    ensures text { OnOk result (string_bytes text.new
+        ≡ string_bytes text.old ++ served_text (table_knowing port.old (request_of rm.now).vc) rm.now) }
     ensures table { OnOk result (port.new
         ≡ table_served port.old (table_knowing port.old (request_of rm.now).vc) rm.now) }
 {
     match port.add(rm.request().vc(), None) {
-        Ok(()) | Err(AddFault::Known) => decision_text(alloc, port, rm),
-        Err(AddFault::Full) => fault_text(alloc, Fault::Full),
+        Ok(()) | Err(AddFault::Known) => push_decision(alloc, text, port, rm),
+        Err(AddFault::Full) => push_fault(text, Fault::Full),
         Err(AddFault::Memory) => Err(AllocError),
     }
 }
 
-// What the port does with a message of a connection that it knows.
-fn decision_text(alloc: Global, port: &mut Port, rm: &Rm) -> Result<String, AllocError>
-    ensures text { IfOk result (λ text. string_bytes text ≡ decision_text port.old rm.now) }
+// Adds what the port does with a message of a connection that it knows.
+fn push_decision(
+    alloc: Global,
+    text: &mut String,
+    port: &mut Port,
+    rm: &Rm,
+) -> Result<(), AllocError>
+    ensures text { OnOk result
+        (string_bytes text.new ≡ string_bytes text.old ++ decision_text port.old rm.now) }
     ensures table { port.new ≡ table_decided port.old rm.now }
 {
     match rm {
-        Rm::Request(request) => onward_text(alloc, rm, port.request(request)),
-        Rm::Answer(answer) => back_text(alloc, rm, port.answer(answer)),
+        Rm::Request(request) => push_onward(alloc, text, rm, port.request(request)),
+        Rm::Answer(answer) => push_back(alloc, text, rm, port.answer(answer)),
     }
 }
 
-fn onward_text(alloc: Global, rm: &Rm, reply: Onward) -> Result<String, AllocError>
-    ensures { IfOk result (λ text. string_bytes text ≡ onward_text rm.now reply) }
+fn push_onward(alloc: Global, text: &mut String, rm: &Rm, reply: Onward) -> Result<(), AllocError>
+    ensures { OnOk result (string_bytes text.new ≡ string_bytes text.old ++ onward_text rm.now reply) }
 {
     match reply {
-        Onward::Pass => {
-            let hex = message_hex(alloc, rm)?;
-            format!(in alloc; "pass {hex}")
-        }
-        Onward::Refuse(answer) => {
-            let hex = message_hex(alloc, &Rm::Answer(answer))?;
-            format!(in alloc; "refuse {hex}")
-        }
-        Onward::Drop(cause) => drop_text(alloc, cause),
+        Onward::Pass => push_message(alloc, text, "pass ", rm),
+        Onward::Refuse(answer) => push_message(alloc, text, "refuse ", &Rm::Answer(answer)),
+        Onward::Drop(cause) => push_drop(text, cause),
     }
 }
 
-fn back_text(alloc: Global, rm: &Rm, reply: Back) -> Result<String, AllocError>
-    ensures { IfOk result (λ text. string_bytes text ≡ back_text rm.now reply) }
+fn push_back(alloc: Global, text: &mut String, rm: &Rm, reply: Back) -> Result<(), AllocError>
+    ensures { OnOk result (string_bytes text.new ≡ string_bytes text.old ++ back_text rm.now reply) }
 {
     match reply {
-        Back::Pass => {
-            let hex = message_hex(alloc, rm)?;
-            format!(in alloc; "pass {hex}")
-        }
-        Back::Drop(cause) => drop_text(alloc, cause),
+        Back::Pass => push_message(alloc, text, "pass ", rm),
+        Back::Drop(cause) => push_drop(text, cause),
     }
 }
 
-fn drop_text(alloc: Global, cause: DropCause) -> Result<String, AllocError>
-    ensures { IfOk result (λ text. string_bytes text ≡ drop_text cause) }
+// Adds a word, and then the cell that is written for a message.
+fn push_message(alloc: Global, text: &mut String, word: &str, rm: &Rm) -> Result<(), AllocError>
+    ensures { OnOk result
+        (string_bytes text.new ≡ string_bytes text.old ++ (word.now ++ message_hex rm.now)) }
 {
-    let name = cause.name();
-    format!(in alloc; "drop {name}")
+    let hex = message_hex(alloc, rm)?;
+    text.push_str(word)?;
+    text.push_str(hex.as_str())
 }
 
-fn fault_text(alloc: Global, fault: Fault) -> Result<String, AllocError>
-    ensures { IfOk result (λ text. string_bytes text ≡ fault_text fault) }
+fn push_drop(text: &mut String, cause: DropCause) -> Result<(), AllocError>
+    ensures { OnOk result (string_bytes text.new ≡ string_bytes text.old ++ drop_text cause) }
 {
-    format!(in alloc; "fault {fault}")
+    text.push_str("drop ")?;
+    text.push_str(cause.name())
+}
+
+fn push_fault(text: &mut String, fault: Fault) -> Result<(), AllocError>
+    ensures { OnOk result (string_bytes text.new ≡ string_bytes text.old ++ fault_text fault) }
+{
+    write!(text, "fault {fault}")
 }

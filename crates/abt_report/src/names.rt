@@ -8,8 +8,8 @@ use abt_model::{Cause, Heard};
 use abt_node::CapacityFault;
 use abt_source::{AskFault, StartFault};
 
-// Why an event could not happen.
-pub(crate) fn cause_name(cause: Cause) -> &'static str
+/// Why an event could not happen (docs/FORMATS.md, "Report").
+pub fn cause_name(cause: Cause) -> &'static str
     ensures { result.now ≡ cause_name cause }
 {
     match cause {
@@ -24,8 +24,8 @@ pub(crate) fn cause_name(cause: Cause) -> &'static str
     }
 }
 
-// What the policer says of a cell.
-pub(crate) fn verdict_name(verdict: Verdict) -> &'static str
+/// What the policer says of a cell (docs/FORMATS.md, "Report").
+pub fn verdict_name(verdict: Verdict) -> &'static str
     ensures { result.now ≡ verdict_name verdict }
 {
     match verdict {
@@ -35,8 +35,8 @@ pub(crate) fn verdict_name(verdict: Verdict) -> &'static str
     }
 }
 
-// What a source made of an answer.
-pub(crate) fn heard_name(heard: Heard) -> &'static str
+/// What a source made of an answer (docs/FORMATS.md, "Report").
+pub fn heard_name(heard: Heard) -> &'static str
     ensures { result.now ≡ heard_name heard }
 {
     match heard {
@@ -46,8 +46,8 @@ pub(crate) fn heard_name(heard: Heard) -> &'static str
     }
 }
 
-// Why a source didn't start.
-pub(crate) fn start_fault_name(fault: StartFault) -> &'static str
+/// Why a source didn't start (docs/FORMATS.md, "Report").
+pub fn start_fault_name(fault: StartFault) -> &'static str
     ensures { result.now ≡ start_fault_name fault }
 {
     match fault {
@@ -56,8 +56,8 @@ pub(crate) fn start_fault_name(fault: StartFault) -> &'static str
     }
 }
 
-// Why a source didn't ask.
-pub(crate) fn ask_fault_name(fault: AskFault) -> &'static str
+/// Why a source didn't ask (docs/FORMATS.md, "Report").
+pub fn ask_fault_name(fault: AskFault) -> &'static str
     ensures { result.now ≡ ask_fault_name fault }
 {
     match fault {
@@ -66,8 +66,8 @@ pub(crate) fn ask_fault_name(fault: AskFault) -> &'static str
     }
 }
 
-// Why a capacity wasn't set.
-pub(crate) fn capacity_fault_name(fault: CapacityFault) -> &'static str
+/// Why a capacity wasn't set (docs/FORMATS.md, "Report").
+pub fn capacity_fault_name(fault: CapacityFault) -> &'static str
     ensures { result.now ≡ capacity_fault_name fault }
 {
     match fault {

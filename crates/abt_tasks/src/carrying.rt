@@ -4,6 +4,7 @@ ghost use Rattle.std.specs.Io.KnownBytes.{Keeps};
 ghost use Rattle.abt_tasks.specs.Tasks.{IsAllowed, IsCarriedOut, IsNotCarriedOut, TakesOf};
 
 use crate::explaining::explain;
+use crate::json::say_as_json;
 use crate::task::Task;
 use abt_commands::carry_out;
 use std::alloc::AllocGlobal;
@@ -34,5 +35,6 @@ where
     match task {
         Task::Plan(plan) => carry_out(rt, plan, input, out, errors),
         Task::Explain(plan) => explain(rt, plan, input, out, errors),
+        Task::Json(plan) => say_as_json(rt, plan, input, out, errors),
     }
 }

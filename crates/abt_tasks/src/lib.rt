@@ -4,6 +4,7 @@
 mod carrying;
 mod environment;
 mod explaining;
+mod json;
 mod task;
 mod words;
 

@@ -1,5 +1,6 @@
 //! What the words of a command line ask for.
 use abt_explain::ExplainPlan;
+use abt_json::JsonPlan;
 use abt_perform::Plan;
 
 /// What to do, by the crate whose command asks for it.
@@ -9,4 +10,6 @@ pub enum Task {
     Plan(Plan),
     /// Run a scenario, and tell each of its events with its reason.
     Explain(ExplainPlan),
+    /// Say what a rate, a cell or a run is, as JSON.
+    Json(JsonPlan),
 }

@@ -2,6 +2,7 @@
 ghost use Rattle.std.specs.Prelude.{IfOk};
 ghost use Rattle.abt_tasks.specs.Tasks.{IsAllowed};
 
+use crate::json::json_plan_of;
 use crate::task::Task;
 use abt_commands::{add_commands, no_plan, plan_of, program, refusal};
 use abt_perform::{Plan, WordsFault};
@@ -33,6 +34,9 @@ fn whole_program<'a>(alloc: Global) -> Result<Command<'a>, AllocError> {
 fn task_of(alloc: Global, name: &str, found: &ArgMatches<'_>) -> Result<Task, WordsFault>
     ensures { IfOk result IsAllowed }
 {
+    if let Some(plan) = json_plan_of(alloc, name, found)? {
+        return Ok(Task::Json(plan));
+    }
     if let Some(plan) = plan_of(alloc, name, found)? {
         return Ok(Task::Plan(plan));
     }

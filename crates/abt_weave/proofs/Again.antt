@@ -33,7 +33,7 @@ use Rattle.abt_woven.specs.Projections.{is_enabled, past_of, entries_on}
 use Rattle.abt_weave.specs.Candidates.{is_own_of, is_told}
 use Rattle.abt_weave.specs.Leaving.{facts_done}
 use Rattle.abt_weave.proofs.OwnReplays.{own_replayed}
-use Rattle.abt_weave.proofs.SentBelow.{IsBelow, back_below, shut_below}
+use Rattle.abt_weave.proofs.SentBelow.{IsBelow, IsHopOf, AreBegunAt, begun_at, back_below, shut_below}
 use Rattle.abt_weave.proofs.OwnFacts.{own, state_of-own, clock_of-own, last_of-own, rate_of-own, next_of-own, emitted_of-own, floor_of-own, ask_of-own, writes-own}
 
 -- what a source answers is what its own facts say
@@ -118,12 +118,14 @@ home_told : (facts : List Fact) (c seq : ℕ) (granted : Bool) (b : Bool) → is
 home_told facts c seq granted true on = refl
 home_told facts c seq granted false on = absurd (false≢true on)
 
-home_below : (net : Topology) → IsWithinRules net → (c : ℕ) (conn : Conn) → conn_at net c ≡ Some conn → (less more : List Event) → IsBelow net less more → (seq : ℕ) (granted : Bool) →
+-- each path has a first hop
+pub hop_one : (net : Topology) → IsWithinRules net → (c : ℕ) (conn : Conn) → conn_at net c ≡ Some conn → IsHopOf net c conn 1
+hop_one net rules c conn known = record { rules = rules; known = known; low = omega arith; high = (let h = (conn_within net rules c conn known).has_hop in omega (arith, h)) }
+
+home_below : (net : Topology) → IsWithinRules net → (c : ℕ) (conn : Conn) → conn_at net c ≡ Some conn → (less more : List Event) → AreBegunAt net conn 1 less more → (seq : ℕ) (granted : Bool) →
     answer_is_home (facts_of c (past_of net less)) seq granted ≡ true → answer_is_home (facts_of c (past_of net more)) seq granted ≡ true
-home_below net rules c conn known less more below seq true home =
-    back_below net c conn seq 1 (record { rules = rules; known = known; low = omega arith; high = (let h = (conn_within net rules c conn known).has_hop in omega (arith, h)) }) less more below home
-home_below net rules c conn known less more below seq false home =
-    shut_below net c conn seq 1 (record { rules = rules; known = known; low = omega arith; high = (let h = (conn_within net rules c conn known).has_hop in omega (arith, h)) }) less more below home
+home_below net rules c conn known less more begins seq true home = back_below net c conn seq 1 (hop_one net rules c conn known) less more begins home
+home_below net rules c conn known less more begins seq false home = shut_below net c conn seq 1 (hop_one net rules c conn known) less more begins home
 
 at_source : (net : Topology) (past : Past) (c : ℕ) (conn : Conn) (event : Event) → conn_of event ≡ Some c → conn_at net c ≡ Some conn → is_told event && not (is_enabled (outcome_of net past event)) ≡ false → IsAtSource (facts_of c past) event
 at_source net past c conn (Told d seq granted) whose known on =
@@ -135,18 +137,24 @@ at_source net past c conn (Told d seq granted) whose known on =
     on_is false h = sym h
 at_source net past c conn other whose known on = tt
 
-source_below : (net : Topology) → IsWithinRules net → (c : ℕ) (conn : Conn) (less more : List Event) → IsBelow net less more → (event : Event) → conn_at net c ≡ Some conn → IsAtSource (facts_of c (past_of net less)) event →
+source_below : (net : Topology) → IsWithinRules net → (c : ℕ) (conn : Conn) (less more : List Event) → AreBegunAt net conn 1 less more → (event : Event) → conn_at net c ≡ Some conn → IsAtSource (facts_of c (past_of net less)) event →
     IsAtSource (facts_of c (past_of net more)) event
-source_below net rules c conn less more below (Told d seq granted) known home = home_below net rules c conn known less more below seq granted home
-source_below net rules c conn less more below other known home = tt
+source_below net rules c conn less more begins (Told d seq granted) known home = home_below net rules c conn known less more begins seq granted home
+source_below net rules c conn less more begins other known home = tt
 
--- what a source did where its journal stood so, it does again there
+-- what a source did where its journal stood so, it does again there; an answer comes to it from the first hop alone
+pub own_repeats : (net : Topology) → IsWithinRules net → (less more : List Event) (c : ℕ) (conn : Conn) → AreBegunAt net conn 1 less more → (event : Event) → conn_of event ≡ Some c → conn_at net c ≡ Some conn → is_own_of c event ≡ true →
+    is_told event && not (is_enabled (outcome_of net (past_of net less) event)) ≡ false → entries_on net c less ≡ entries_on net c more →
+    outcome_of net (past_of net less) event ≡ outcome_of net (past_of net more) event
+own_repeats net rules less more c conn begins event whose known mine on same =
+    let home = at_source net (past_of net less) c conn event whose known on in
+    let facts : own (facts_of c (past_of net less)) ≡ own (facts_of c (past_of net more)) = own_replayed net c less ∙ ap (facts_done []) same ∙ sym (own_replayed net c more) in
+    outcome_of-known net (past_of net less) event c conn whose known
+    ∙ own_answer conn c _ _ _ _ (facts_of c (past_of net less)) (facts_of c (past_of net more)) facts event mine home (source_below net rules c conn less more begins event known home)
+    ∙ sym (outcome_of-known net (past_of net more) event c conn whose known)
+
 pub own_again : (net : Topology) → IsWithinRules net → (less more : List Event) → IsBelow net less more → (c : ℕ) (conn : Conn) (event : Event) → conn_of event ≡ Some c → conn_at net c ≡ Some conn → is_own_of c event ≡ true →
     is_told event && not (is_enabled (outcome_of net (past_of net less) event)) ≡ false → entries_on net c less ≡ entries_on net c more →
     outcome_of net (past_of net less) event ≡ outcome_of net (past_of net more) event
 own_again net rules less more below c conn event whose known mine on same =
-    let home = at_source net (past_of net less) c conn event whose known on in
-    let facts : own (facts_of c (past_of net less)) ≡ own (facts_of c (past_of net more)) = own_replayed net c less ∙ ap (facts_done []) same ∙ sym (own_replayed net c more) in
-    outcome_of-known net (past_of net less) event c conn whose known
-    ∙ own_answer conn c _ _ _ _ (facts_of c (past_of net less)) (facts_of c (past_of net more)) facts event mine home (source_below net rules c conn less more below event known home)
-    ∙ sym (outcome_of-known net (past_of net more) event c conn whose known)
+    own_repeats net rules less more c conn (begun_at net c conn 1 (hop_one net rules c conn known) less more below) event whose known mine on same

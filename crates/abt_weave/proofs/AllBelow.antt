@@ -29,7 +29,8 @@ use Rattle.abt_weave.specs.Candidates.{is_told}
 use Rattle.abt_weave.proofs.Again.{own_again}
 use Rattle.abt_weave.proofs.Ends.{own_or_visit}
 use Rattle.abt_weave.proofs.Leavings.{all_reversed}
-use Rattle.abt_weave.proofs.NoneWoven.{AreBegun, begun_before, HaveEnded, cases_less, step_due, entry_due, PortHas, ConnHas, below_on, visit_low, fits_again, run_of, again_at, ArrivesAlone}
+use Rattle.abt_weave.proofs.AgainAt.{again_at, ArrivesAlone}
+use Rattle.abt_weave.proofs.NoneWoven.{AreBegun, begun_before, HaveEnded, cases_less, step_due, entry_due, PortHas, ConnHas, below_on, visit_low, fits_again, run_of}
 use Rattle.abt_weave.proofs.OwnEvents.{own_here, made_own, own_fits}
 use Rattle.abt_weave.specs.OneFault.{AreJournalsOf}
 use Rattle.abt_weave.proofs.Places.{less_if, Names, IsFirstStep, named_now, named_low, step_named}

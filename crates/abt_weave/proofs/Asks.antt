@@ -1,5 +1,5 @@
 -- What was asked after some events was asked, with the same terms, after all events that the same journals go on with.
-use Rattle.std.proofs.Common.{◌≡◌, ℕ, ◌+◌, ◌<◌, ◌≤◌, length, inl, inr, refl, ap, Bool, true, false, List, [], ◌∷◌, ◌++◌, ◌∙◌, sym, subst, Some, arith}
+use Rattle.std.proofs.Common.{◌≡◌, ℕ, ◌+◌, ◌<◌, ◌≤◌, length, reverse, inl, inr, refl, ap, Bool, true, false, List, [], ◌∷◌, ◌++◌, ◌∙◌, sym, subst, Some, arith}
 use Rattle.std.specs.Prelude.{◌⊎◌, ◌||◌, ◌==◌}
 use Rattle.std.specs.List.{list_any}
 use Rattle.std.proofs.lemmas.Bool.{false≢true}
@@ -18,11 +18,13 @@ use Rattle.abt_model.proofs.Lawful.{Route, route_of, IsLawful}
 use Rattle.abt_source_journal.specs.declared.entry.SourceEntry.{SourceEntry}
 use Rattle.abt_source_journal.specs.declared.entry.SourceEntry.TheVariants.{Did, Sent, Arrived as ArrivedAt}
 use Rattle.abt_woven.specs.Projections.{past_of, entries_on}
+use Rattle.abt_woven.specs.Stuck.{IsBeginning}
+use Rattle.abt_woven.specs.Asked.{floor_in, ask_in}
+use Rattle.abt_woven.proofs.Asked.{floor_told, ask_told}
 use Rattle.abt_weave.specs.Leaving.{facts_done}
 use Rattle.abt_weave.proofs.OwnFacts.{own, floor_of-own, ask_of-own}
 use Rattle.abt_weave.proofs.OwnReplays.{done-append, own_replayed}
 use Rattle.abt_weave.proofs.Prefixes.{any_rest}
-use Rattle.abt_weave.proofs.SentBelow.{IsBelow}
 
 pub was_asked-own : (facts : List Fact) (s : ℕ) → was_asked (own facts) s ≡ was_asked facts s
 was_asked-own [] s = refl
@@ -49,9 +51,8 @@ done_grows facts (Sent place ∷ entries) = done_grows facts entries
 done_grows facts (ArrivedAt cell place ∷ entries) = done_grows facts entries
 
 -- the source's own facts are more
-own_below : (net : Topology) (c : ℕ) → c < length net.conns → (less more : List Event) → IsBelow net less more → (added : List Fact) × (own (facts_of c (past_of net more)) ≡ added ++ own (facts_of c (past_of net less)))
-own_below net c low less more below =
-    let begins = below.conns c low in
+own_below : (net : Topology) (c : ℕ) (less more : List Event) → IsBeginning (entries_on net c less) (entries_on net c more) → (added : List Fact) × (own (facts_of c (past_of net more)) ≡ added ++ own (facts_of c (past_of net less)))
+own_below net c less more begins =
     let grown = done_grows (facts_done [] (entries_on net c less)) begins.0 in (
       grown.0,
       own_replayed net c more ∙ ap (facts_done []) begins.1 ∙ done-append [] (entries_on net c less) begins.0 ∙ grown.1 ∙ ap (λ (l : List Fact). grown.0 ++ l) (sym (own_replayed net c less)),
@@ -60,9 +61,9 @@ own_below net c low less more below =
 asked_rest : (facts added base : List Fact) (s : ℕ) → own facts ≡ added ++ base → was_asked base s ≡ true → was_asked facts s ≡ true
 asked_rest facts added base s is h = sym (was_asked-own facts s) ∙ ap (λ l. was_asked l s) is ∙ any_rest (is_ask_of s) added base h
 
-pub asked_below : (net : Topology) (c s : ℕ) → c < length net.conns → (less more : List Event) → IsBelow net less more → was_asked (facts_of c (past_of net less)) s ≡ true → was_asked (facts_of c (past_of net more)) s ≡ true
-asked_below net c s low less more below h =
-    let grown = own_below net c low less more below in
+pub asked_below : (net : Topology) (c s : ℕ) (less more : List Event) → IsBeginning (entries_on net c less) (entries_on net c more) → was_asked (facts_of c (past_of net less)) s ≡ true → was_asked (facts_of c (past_of net more)) s ≡ true
+asked_below net c s less more begins h =
+    let grown = own_below net c less more begins in
     asked_rest (facts_of c (past_of net more)) grown.0 (own (facts_of c (past_of net less))) s grown.1 (was_asked-own (facts_of c (past_of net less)) s ∙ h)
 
 own_cons : (f : Fact) (facts : List Fact) → (own (f ∷ facts) ≡ own facts) ⊎ (own (f ∷ facts) ≡ f ∷ own facts)
@@ -102,10 +103,17 @@ terms_kept k (f ∷ facts) lawful added base s is h =
       ])
     ]
 
-pub terms_below : (net : Topology) (c s : ℕ) (conn : Conn) → c < length net.conns → (less more : List Event) → IsLawful (route_of conn) (facts_of c (past_of net more)) → IsBelow net less more → was_asked (facts_of c (past_of net less)) s ≡ true →
+pub terms_below : (net : Topology) (c s : ℕ) (conn : Conn) (less more : List Event) → IsLawful (route_of conn) (facts_of c (past_of net more)) → IsBeginning (entries_on net c less) (entries_on net c more) → was_asked (facts_of c (past_of net less)) s ≡ true →
     AreTerms (facts_of c (past_of net more)) (facts_of c (past_of net less)) s
-terms_below net c s conn low less more lawful below h =
-    let grown = own_below net c low less more below in
+terms_below net c s conn less more lawful begins h =
+    let grown = own_below net c less more begins in
     let base = facts_of c (past_of net less) in
     let kept = terms_kept (route_of conn) (facts_of c (past_of net more)) lawful grown.0 (own base) s grown.1 (was_asked-own base s ∙ h) in
     (kept.0 ∙ floor_of-own base s, kept.1 ∙ ask_of-own base s)
+
+-- where the source has had the same entries, it asked the same
+pub told_alike : (net : Topology) (one other : List Event) (c s : ℕ) → entries_on net c one ≡ entries_on net c other → AreTerms (facts_of c (past_of net one)) (facts_of c (past_of net other)) s
+told_alike net one other c s same = (
+  floor_told net c s one ∙ ap (λ (l : List SourceEntry). floor_in (reverse l) s) same ∙ sym (floor_told net c s other),
+  ask_told net c s one ∙ ap (λ (l : List SourceEntry). ask_in (reverse l) s) same ∙ sym (ask_told net c s other),
+)

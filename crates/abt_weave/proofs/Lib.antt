@@ -28,6 +28,8 @@ pub mod LineFacts
 pub mod LineReplays
 pub mod Again
 pub mod VisitAgain
+pub mod AgainAt
+pub mod MismatchAgain
 pub mod NoneWoven
 pub mod AllBelow
 pub mod OneFault
@@ -36,7 +38,10 @@ pub mod Needed
 pub mod Stopping
 pub mod Alike
 pub mod Unmoved
+pub mod FarOff
+pub mod Waiting
 pub mod Remains
 pub mod Rates
 pub mod Queues
+pub mod Touching
 pub mod Settling

@@ -31,12 +31,12 @@ use Rattle.abt_weave.proofs.Places.{less_if, step_made, entries_made}
 use Rattle.abt_weave.proofs.PortEvents.{IsVisit, visit_cases, visit_is, has_reply, reply_enabled, some_same}
 use Rattle.abt_weave.proofs.PortLooks.{first_hop}
 use Rattle.abt_weave.proofs.Candidates.{and_both}
+use Rattle.abt_weave.proofs.AgainAt.{AgainAt, IsRun}
 use Rattle.abt_weave.proofs.Alone.{capped_by}
 use Rattle.std.proofs.lemmas.List.Elements.{All-cons}
 use Rattle.abt_weave.proofs.Prefixes.{get_whole, begins_next, get_last}
 use Rattle.abt_weave.proofs.Replays.{no_visit, past_lawful}
-use Rattle.abt_weave.proofs.SentBelow.{IsBelow, passed_below, back_below, shut_below}
-use Rattle.abt_weave.proofs.VisitAgain.{AreBoth, ComesAgain, came_back, capacity_again, request_again, answer_again, arrival_again}
+use Rattle.abt_weave.proofs.SentBelow.{IsBelow}
 
 -- events that are beginnings of the journals, as far as the net goes
 pub record AreBegun (net : Topology) (js : Journaled) (events : List Event) : Type 0 where
@@ -133,12 +133,6 @@ visit_low net rules past event v is = elim (visit_cases net past event v is) [
   | inr alone ↦ (capped_by net past v.port alone.capacity v.reply (ap (λ e. reply_of (outcome_of net past e)) (sym alone.event_is) ∙ alone.reply)).0
 ]
 
--- An event comes again where all has ended, also after Turns.
-pub record AgainAt (net : Topology) (ended earlier : List Event) (event : Event) (v : Visit) : Type 0 where
-  pub turns : List Event
-  pub all : AreTurns net ended turns
-  pub again : ComesAgain net earlier (turns ++ ended) event v
-
 -- what stands in the way of an end: an event that fits
 pub fits_again : (net : Topology) (js : Journaled) (ended earlier : List Event) (event : Event) (v : Visit) → HaveEnded net js ended → AreBegun net js (event ∷ earlier) → AgainAt net ended earlier event v → visit net (past_of net earlier) event ≡ Some v →
     steps_on net v.port earlier ≡ steps_on net v.port ended → ((c : ℕ) (x : SourceEntry) → conn_of event ≡ Some c → entry_made net earlier event ≡ Some x → entries_on net c earlier ≡ entries_on net c ended) → ⊥
@@ -163,139 +157,5 @@ fits_again net js ended earlier event v end begun at is same beside =
           ∙ entry_due net js event earlier c x begun whose c_low made);
     })
 
--- A list of events over a net, each of whose rates a code can name.
-pub record IsRun (net : Topology) (ended : List Event) : Type 0 where
-  pub rules : IsWithinRules net
-  pub rates : All AsksRate ended
-
 pub run_of : (net : Topology) (js : Journaled) (ended : List Event) → HaveEnded net js ended → IsRun net ended
 run_of net js ended end = record { rules = end.rules; rates = end.rates }
-
-pub both_are : (net : Topology) (ended earlier : List Event) → IsRun net ended → All AsksRate earlier → IsBelow net earlier ended → AreBoth net earlier ended
-both_are net ended earlier end rates below = record { rules = end.rules; one = rates; other = end.rates; below = below }
-
-both_turned : (net : Topology) (ended earlier : List Event) → IsRun net ended → All AsksRate earlier → IsBelow net earlier ended → (c seq : ℕ) → AreBoth net earlier (Turn c seq ∷ ended)
-both_turned net ended earlier end rates below c seq = record {
-  rules = end.rules;
-  one = rates;
-  other = All-cons AsksRate (Turn c seq) ended tt end.rates;
-  below = record {
-    ports = λ p low. subst (λ l. IsBeginning (steps_on net p earlier) l) (sym (steps_turn net ended c seq p)) (below.ports p low);
-    conns = λ d low. subst (λ l. IsBeginning (entries_on net d earlier) l) (sym (entries_turn net ended c seq d)) (below.conns d low);
-  };
-}
-
--- a yes that was turned is turned already, or can be
-record CanTurn (net : Topology) (ended : List Event) (c seq : ℕ) : Type 0 where
-  turns : List Event
-  all : AreTurns net ended turns
-  is : (turns ≡ []) ⊎ (turns ≡ Turn c seq ∷ [])
-  turned : was_turned (facts_of c (past_of net (turns ++ ended))) seq ≡ true
-
-turn_on : (b : Bool) → b ≡ true → (if not b then NotEnabled NotSent else Turned) ≡ Turned
-turn_on true h = refl
-turn_on false h = absurd (false≢true h)
-
-can_turn : (net : Topology) (ended earlier : List Event) → IsRun net ended → All AsksRate earlier → IsBelow net earlier ended → (c seq : ℕ) (conn : Conn) → conn_at net c ≡ Some conn →
-    was_turned (facts_of c (past_of net earlier)) seq ≡ true → CanTurn net ended c seq
-can_turn net ended earlier end rates below c seq conn known turned =
-    let past = past_of net ended in
-    let facts = facts_of c past in
-    elim (cases_Bool (was_turned facts seq)) [
-      | inl already ↦ record { turns = []; all = tt; is = inl refl; turned = already }
-      | inr before ↦ (
-          let within = conn_within net end.rules c conn known in
-          let passed = turned_passed (route_of conn) (facts_of c (past_of net earlier)) (lawful_at net (past_of net earlier) (past_lawful net earlier rates) c conn known) seq turned in
-          let through = passed_below net c conn seq (length conn.path) (record { rules = end.rules; known = known; low = (let h = within.has_hop in omega (arith, h)); high = omega arith }) earlier ended below passed in
-          let happens : outcome_of net past (Turn c seq) ≡ Turned = outcome_of-known net past (Turn c seq) c conn refl known ∙ turn_on (was_passed facts seq (length conn.path)) through in
-          let now : facts_of c (past_of net (Turn c seq ∷ ended)) ≡ FactTurned seq ∷ facts = facts_of-own net past (Turn c seq) c refl ∙ ap (λ o. facts_added facts (Turn c seq) o ++ facts) happens in
-          record {
-            turns = Turn c seq ∷ [];
-            all = (record { conn = c; seq = seq; is = refl; happens = happens }, tt);
-            is = inr refl;
-            turned = ap (λ l. was_turned l seq) now ∙ ap (λ b. b || was_turned facts seq) (eq-eqb seq seq refl);
-          })
-    ]
-
-both_by : (net : Topology) (ended earlier : List Event) → IsRun net ended → All AsksRate earlier → IsBelow net earlier ended → (c seq : ℕ) (turns : List Event) → (turns ≡ []) ⊎ (turns ≡ Turn c seq ∷ []) → AreBoth net earlier (turns ++ ended)
-both_by net ended earlier end rates below c seq turns (inl none) = subst (λ l. AreBoth net earlier (l ++ ended)) (sym none) (both_are net ended earlier end rates below)
-both_by net ended earlier end rates below c seq turns (inr one) = subst (λ l. AreBoth net earlier (l ++ ended)) (sym one) (both_turned net ended earlier end rates below c seq)
-
--- an answer comes again
-yes_sent : (hops hop seq : ℕ) (facts : List Fact) → (hop ≡ hops → was_turned facts seq ≡ true) → (hop ≢ hops → was_back facts seq (hop + 1) ≡ true) → answer_is_at hops facts seq hop true ≡ true
-yes_sent hops hop seq facts last other = elim (cases_eq hop hops) [
-  | inl same ↦ cond-true _ _ _ (eq-eqb hop hops same) ∙ last same
-  | inr differ ↦ cond-false _ _ _ (ne_eqb hop hops differ) ∙ other differ
-]
-
-yes_was : (hops hop seq : ℕ) (facts : List Fact) → answer_is_at hops facts seq hop true ≡ true → (hop ≡ hops → was_turned facts seq ≡ true) × (hop ≢ hops → was_back facts seq (hop + 1) ≡ true)
-yes_was hops hop seq facts h = (λ same. sym (cond-true _ _ _ (eq-eqb hop hops same)) ∙ h, λ differ. sym (cond-false _ _ _ (ne_eqb hop hops differ)) ∙ h)
-
-yes_again : (net : Topology) (ended earlier : List Event) → IsRun net ended → All AsksRate earlier → IsBelow net earlier ended → (c hop seq : ℕ) (v : Visit) → visit net (past_of net earlier) (Answer c hop seq true) ≡ Some v →
-    steps_on net v.port earlier ≡ steps_on net v.port ended → AgainAt net ended earlier (Answer c hop seq true) v
-yes_again net ended earlier end rates below c hop seq v is same =
-    let back = came_back net earlier c hop seq true v is in
-    let conn = back.conn in
-    let hops = length conn.path in
-    let within = is_hop_tells hops hop back.within in
-    let was = yes_was hops hop seq (facts_of c (past_of net earlier)) back.sent in
-    elim (cases_eq hop hops) [
-      | inr differ ↦ (
-          let behind = back_below net c conn seq (hop + 1) (record { rules = end.rules; known = back.known; low = omega arith; high = omega (arith, within.1, differ) }) earlier ended below (was.1 differ) in
-          let both = both_are net ended earlier end rates below in
-          record {
-            turns = [];
-            all = tt;
-            again = answer_again net earlier ended both c hop seq true v is same (λ k known. (
-                let its : conn ≡ k = some_same (sym back.known ∙ known) in
-                subst (λ (w : Conn). answer_is_at (length w.path) (facts_of c (past_of net ended)) seq hop true ≡ true) its
-                (yes_sent hops hop seq (facts_of c (past_of net ended)) (λ e. absurd (differ e)) (λ e. behind))));
-          })
-      | inl last ↦ (
-          let turn = can_turn net ended earlier end rates below c seq conn back.known (was.0 last) in
-          let more = turn.turns ++ ended in
-          let both = both_by net ended earlier end rates below c seq turn.turns turn.is in
-          record {
-            turns = turn.turns;
-            all = turn.all;
-            again = answer_again net earlier more both c hop seq true v is (same ∙ sym (steps_turns net ended turn.turns turn.all v.port)) (λ k known. (
-                let its : conn ≡ k = some_same (sym back.known ∙ known) in
-                subst (λ (w : Conn). answer_is_at (length w.path) (facts_of c (past_of net more)) seq hop true ≡ true) its
-                (yes_sent hops hop seq (facts_of c (past_of net more)) (λ e. turn.turned) (λ differ. absurd (differ last)))));
-          })
-    ]
-
-no_again : (net : Topology) (ended earlier : List Event) → IsRun net ended → All AsksRate earlier → IsBelow net earlier ended → (c hop seq : ℕ) (v : Visit) → visit net (past_of net earlier) (Answer c hop seq false) ≡ Some v →
-    steps_on net v.port earlier ≡ steps_on net v.port ended → AgainAt net ended earlier (Answer c hop seq false) v
-no_again net ended earlier end rates below c hop seq v is same =
-    let back = came_back net earlier c hop seq false v is in
-    let conn = back.conn in
-    let hops = length conn.path in
-    let was = and_both (nat_lt hop hops) (was_shut (facts_of c (past_of net earlier)) seq (hop + 1)) back.sent in
-    let low : hop < hops = less_if hop hops was.0 in
-    let shut = shut_below net c conn seq (hop + 1) (record { rules = end.rules; known = back.known; low = omega arith; high = omega (arith, low) }) earlier ended below was.1 in
-    record {
-      turns = [];
-      all = tt;
-      again = answer_again net earlier ended (both_are net ended earlier end rates below) c hop seq false v is same (λ k known. (
-          let its : conn ≡ k = some_same (sym back.known ∙ known) in
-          subst (λ (w : Conn). answer_is_at (length w.path) (facts_of c (past_of net ended)) seq hop false ≡ true) its
-          (ap (λ b. b && was_shut (facts_of c (past_of net ended)) seq (hop + 1)) was.0 ∙ shut)));
-    }
-
--- whatever comes to a port comes again, where its actors stand as they stood
-abbrev pub ArrivesAlone : Topology → List Event → List Event → Event → Type 0
-ArrivesAlone net earlier ended (Arrive c cell at) = entries_on net c earlier ≡ entries_on net c ended
-ArrivesAlone net earlier ended event = Unit {0}
-
-pub again_at : (net : Topology) (ended earlier : List Event) → IsRun net ended → All AsksRate earlier → IsBelow net earlier ended → (event : Event) (v : Visit) → visit net (past_of net earlier) event ≡ Some v →
-    steps_on net v.port earlier ≡ steps_on net v.port ended → ArrivesAlone net earlier ended event → AgainAt net ended earlier event v
-again_at net ended earlier end rates below (Request c hop seq) v is same alone =
-    record { turns = []; all = tt; again = request_again net earlier ended (both_are net ended earlier end rates below) c hop seq v is same }
-again_at net ended earlier end rates below (Arrive c cell at) v is same alone =
-    record { turns = []; all = tt; again = arrival_again net earlier ended (both_are net ended earlier end rates below) c cell at v is same alone }
-again_at net ended earlier end rates below (Answer c hop seq true) v is same alone = yes_again net ended earlier end rates below c hop seq v is same
-again_at net ended earlier end rates below (Answer c hop seq false) v is same alone = no_again net ended earlier end rates below c hop seq v is same
-again_at net ended earlier end rates below (Capacity p u) v is same alone =
-    record { turns = []; all = tt; again = capacity_again net earlier ended (both_are net ended earlier end rates below) p u v is same }
-again_at net ended earlier end rates below other v is same alone = (let none = no_visit net (past_of net earlier) other _ refl (λ vc facts. refl) in absurd (cc))

@@ -26,7 +26,8 @@ use Rattle.abt_weave.proofs.Again.{own_again}
 use Rattle.abt_weave.proofs.AllBelow.{all_below, conn_there, alone_if, entries_there}
 use Rattle.abt_weave.proofs.Ends.{whole_beginning}
 use Rattle.abt_weave.proofs.Leavings.{all_reversed}
-use Rattle.abt_weave.proofs.NoneWoven.{AreBegun, HaveEnded, visit_low, run_of, again_at, ArrivesAlone}
+use Rattle.abt_weave.proofs.AgainAt.{turns_ask, again_at, ArrivesAlone}
+use Rattle.abt_weave.proofs.NoneWoven.{AreBegun, HaveEnded, visit_low, run_of}
 use Rattle.abt_weave.proofs.OwnEvents.{own_here, made_own, own_made}
 use Rattle.abt_weave.proofs.PortEvents.{some_same, visit_cases, visit_is}
 use Rattle.abt_weave.proofs.SentBelow.{IsBelow}
@@ -42,10 +43,6 @@ swapped net js one other ends = record { journals = ends.journals; here = ends.t
 
 begins_both : {A : Type 0} → (xs ys : List A) → IsBeginning xs ys → IsBeginning ys xs → xs ≡ ys
 begins_both xs ys a b = whole_beginning xs ys a (let e = ap (λ l. length l) b.1 ∙ length-append ys b.0 in omega (arith, e))
-
-pub turns_ask : (net : Topology) (earlier turns : List Event) → AreTurns net earlier turns → All AsksRate earlier → All AsksRate (turns ++ earlier)
-turns_ask net earlier [] all rates = rates
-turns_ask net earlier (turn ∷ turns) all rates = All-cons AsksRate turn (turns ++ earlier) (subst AsksRate (sym all.0.is) tt) (turns_ask net earlier turns all.1 rates)
 
 turns_begun : (net : Topology) (js : Journaled) (earlier turns : List Event) → AreTurns net earlier turns → ArePlaced net js earlier → AreBegun net js (turns ++ earlier)
 turns_begun net js earlier turns all placed = record {

@@ -12,7 +12,7 @@ use Rattle.abt_weave.specs.Candidates.{is_told}
 use Rattle.abt_weave.specs.OneLaw.{AreBegun, HasSameSource, PortsReplyAgain, SourcesAnswerAgain}
 use Rattle.abt_weave.proofs.Again.{own_again}
 use Rattle.abt_weave.proofs.AllBelow.{conn_there}
-use Rattle.abt_weave.proofs.NoneWoven.{again_at, ArrivesAlone}
+use Rattle.abt_weave.proofs.AgainAt.{again_at, ArrivesAlone}
 use Rattle.abt_weave.proofs.OwnEvents.{own_here, made_own, own_made}
 use Rattle.abt_weave.proofs.SentBelow.{IsBelow}
 

@@ -39,8 +39,8 @@ use Rattle.abt_weave.proofs.Capped.{capacity_only, capacity_differs}
 use Rattle.abt_weave.proofs.Comings.{comes_stop}
 use Rattle.abt_weave.proofs.Ends.{own_or_visit}
 use Rattle.abt_weave.proofs.Growth.{entries_other, entries_none}
-use Rattle.abt_weave.proofs.NoneWoven.{IsRun, AgainAt, again_at, ArrivesAlone}
-use Rattle.abt_weave.proofs.OneFault.{turns_ask}
+use Rattle.abt_weave.proofs.AgainAt.{turns_ask, again_at, ArrivesAlone}
+use Rattle.abt_weave.proofs.MismatchAgain.{mismatch_again, MismatchesAs}
 use Rattle.abt_weave.proofs.OwnEvents.{own_here, made_own, own_made, own_fits, settled_differs, next_turns}
 use Rattle.abt_weave.proofs.Places.{Names}
 use Rattle.abt_weave.proofs.PortEvents.{IsVisit, IsNoCapacity, visit_cases, visit_is, made_beside, some_same, reply_enabled}
@@ -142,44 +142,16 @@ alone_last net js earlier last it p b settled m =
       ])
     ]
 
--- The next entry of a port that mismatched does so still, with the same event and reply.
-pub record MismatchesAs (net : Topology) (js : Journaled) (earlier : List Event) (p : ℕ) (step : Step) (reply : PortReply) : Type 0 where
-  pub mismatch : PortMismatches net js earlier p
-  pub step_is : mismatch.step ≡ step
-  pub reply_is : mismatch.visits.reply ≡ reply
-
 port_on : (net : Topology) (js : Journaled) (earlier : List Event) (last : Event) → IsLast net js earlier last → (p : ℕ) (b : Bool) → IsPortSettled net js earlier p b → (m : PortMismatches net js earlier p) →
     MismatchesAs net js (last ∷ earlier) p m.step m.visits.reply
 port_on net js earlier last it p b settled m =
     let before = m.turns ++ earlier in
     let later = last ∷ earlier in
-    let event = m.event in
     let still : steps_on net p later ≡ steps_on net p earlier = steps_still net earlier last p (elsewhere net js earlier last it p b settled) in
     let level : steps_on net p before ≡ steps_on net p later = steps_turns net earlier m.turns m.turned p ∙ sym still in
-    let at = again_at net later before (record { rules = it.rules; rates = it.rates }) (turns_ask net earlier m.turns m.turned it.before) (below_last net earlier m.turns last m.turned) event m.visits m.comes
+    let at = again_at net later before (record { rules = it.rules; rates = it.rates }) (turns_ask net earlier m.turns m.turned it.before) (below_last net earlier m.turns last m.turned) m.event m.visits m.comes
     (subst (λ q. steps_on net q before ≡ steps_on net q later) (sym m.here) level) (alone_last net js earlier last it p b settled m) in
-    let same : steps_on net p before ≡ steps_on net p (at.turns ++ later) = level ∙ sym (steps_turns net later at.turns at.all p) in
-    record {
-      mismatch = record {
-        turns = at.turns;
-        turned = at.all;
-        event = event;
-        visits = m.visits;
-        comes = at.again.visits;
-        here = m.here;
-        step = m.step;
-        next = ap (λ (l : List Step). slice_get (port_journal js p) (length l)) (sym same) ∙ m.next;
-        place = m.place ∙ ap (λ (l : List Step). length l) same;
-        input = m.input;
-        beside = λ c x whose made.
-            (let was = sym at.again.beside ∙ made in
-            let entries : entries_on net c before ≡ entries_on net c (at.turns ++ later) =
-            entries_turns net earlier m.turns m.turned c ∙ sym (untouched net js earlier last it p b settled m c x whose was) ∙ sym (entries_turns net later at.turns at.all c) in
-            ap (λ (l : List SourceEntry). slice_get (source_journal js c) (length l)) (sym entries) ∙ m.beside c x whose was);
-      };
-      step_is = refl;
-      reply_is = refl;
-    }
+    mismatch_again net js earlier later p m at (sym still) (λ c x whose made. sym (untouched net js earlier last it p b settled m c x whose made))
 
 -- what mismatches has another reply than the entry, as it doesn't fit
 other_reply : (net : Topology) (js : Journaled) (earlier : List Event) (p : ℕ) (b : Bool) → IsPortSettled net js earlier p b → (m : PortMismatches net js earlier p) → m.visits.reply ≢ m.step.reply

@@ -208,11 +208,11 @@ step_fact net c p test M left (event ∷ earlier) i step at m =
       ])
     ]
 
-left_below : (net : Topology) (c p : ℕ) (test : Fact → Bool) (M : Leaving) → IsLeft net c p test M → p < length net.capacities → (less more : List Event) → IsBelow net less more →
+left_below : (net : Topology) (c p : ℕ) (test : Fact → Bool) (M : Leaving) → IsLeft net c p test M → (less more : List Event) → IsBeginning (steps_on net p less) (steps_on net p more) →
     list_any test (facts_of c (past_of net less)) ≡ true → list_any test (facts_of c (past_of net more)) ≡ true
-left_below net c p test M left low less more below h =
+left_below net c p test M left less more begins h =
     let has = fact_step net c p test M left less h in
-    step_fact net c p test M left more has.i has.step (get_whole (steps_on net p less) (steps_on net p more) has.i has.step (below.ports p low) has.at) has.is
+    step_fact net c p test M left more has.i has.step (get_whole (steps_on net p less) (steps_on net p more) has.i has.step begins has.at) has.is
 
 -- the steps that leave a hop's facts of a number
 abbrev pub Passing : Channel → ℕ → Leaving
@@ -268,15 +268,19 @@ own_hop net c conn j its =
     hop_at conn.path (j - 1) (conn_within net its.rules c conn its.known).visits_once (omega (arith, its.low, its.high)) ∙ back
 
 -- what comes to the port of that hop, and is about the connection, comes to that hop
-located : (net : Topology) (c : ℕ) (conn : Conn) (j : ℕ) → IsHopOf net c conn j → (past : Past) (event : Event) (v : Visit) → (parts : IsVisit net past event v) → v.port ≡ slice_index conn.path (j - 1) → parts.conn.vc ≡ conn.vc →
+pub located : (net : Topology) (c : ℕ) (conn : Conn) (j : ℕ) → IsHopOf net c conn j → (past : Past) (event : Event) (v : Visit) → (parts : IsVisit net past event v) → v.port ≡ slice_index conn.path (j - 1) → parts.conn.vc ≡ conn.vc →
     (conn_of event ≡ Some c) × (hop_visited event ≡ j)
 located net c conn j its past event v parts here channel =
     let at_c = own_number net its.rules parts.c c parts.conn conn parts.known its.known channel in
     let same : parts.conn ≡ conn = some_same (sym parts.known ∙ ap (conn_at net) at_c ∙ its.known) in
     (parts.whose ∙ ap Some at_c, sym (hop_here net past its.rules event v parts) ∙ ap (hop_of parts.conn.path) here ∙ ap (λ (k : Conn). hop_of k.path (slice_index conn.path (j - 1))) same ∙ own_hop net c conn j its)
 
-port_low : (net : Topology) (c : ℕ) (conn : Conn) (j : ℕ) → IsHopOf net c conn j → slice_index conn.path (j - 1) < length net.capacities
-port_low net c conn j its = (conn_within net its.rules c conn its.known).in_net (j - 1) 0 (omega (arith, its.low, its.high))
+-- the port of a hop has had no more steps in one list of events than in another
+abbrev pub AreBegunAt : Topology → Conn → (j : ℕ) → (less more : List Event) → Type 0
+AreBegunAt net conn j less more = IsBeginning (steps_on net (slice_index conn.path (j - 1)) less) (steps_on net (slice_index conn.path (j - 1)) more)
+
+pub begun_at : (net : Topology) (c : ℕ) (conn : Conn) (j : ℕ) → IsHopOf net c conn j → (less more : List Event) → IsBelow net less more → AreBegunAt net conn j less more
+begun_at net c conn j its less more below = below.ports (slice_index conn.path (j - 1)) ((conn_within net its.rules c conn its.known).in_net (j - 1) 0 (omega (arith, its.low, its.high)))
 
 both_true : (a b : ℕ) (c d : ℕ) → a ≡ b → c ≡ d → (a == b && c == d) ≡ true
 both_true a b c d one other = ap (λ x. x && c == d) (eq-eqb a b one) ∙ eq-eqb c d other
@@ -308,7 +312,7 @@ quiet_shuts s j = record { started = λ a b. refl; crashed = refl; stored = λ a
 quiet_backs : (s j : ℕ) → IsHopTest (is_sending (FactBack s j))
 quiet_backs s j = record { started = λ a b. refl; crashed = refl; stored = λ a. refl; asked = λ a b c d. refl; heard = λ a b. refl; emitted = λ a b c. refl; delivered = λ a. refl; turned = λ a. refl; arrived = λ a b c d. refl }
 
--- what was passed
+-- what a hop passed stands in the steps of its port alone
 pass_left : (net : Topology) (c : ℕ) (conn : Conn) (s j : ℕ) → IsHopOf net c conn j → IsLeft net c (slice_index conn.path (j - 1)) (is_sending (Passed s j)) (Passing conn.vc s)
 pass_left net c conn s j its = record {
   makes = λ past event whose h.
@@ -339,8 +343,8 @@ pass_left net c conn s j its = record {
       ));
 }
 
-pub passed_below : (net : Topology) (c : ℕ) (conn : Conn) (s j : ℕ) → IsHopOf net c conn j → (less more : List Event) → IsBelow net less more → was_passed (facts_of c (past_of net less)) s j ≡ true → was_passed (facts_of c (past_of net more)) s j ≡ true
-passed_below net c conn s j its less more below h = left_below net c (slice_index conn.path (j - 1)) (is_sending (Passed s j)) (Passing conn.vc s) (pass_left net c conn s j its) (port_low net c conn j its) less more below h
+pub passed_below : (net : Topology) (c : ℕ) (conn : Conn) (s j : ℕ) → IsHopOf net c conn j → (less more : List Event) → AreBegunAt net conn j less more → was_passed (facts_of c (past_of net less)) s j ≡ true → was_passed (facts_of c (past_of net more)) s j ≡ true
+passed_below net c conn s j its less more begins h = left_below net c (slice_index conn.path (j - 1)) (is_sending (Passed s j)) (Passing conn.vc s) (pass_left net c conn s j its) less more begins h
 
 -- what was passed back
 back_left : (net : Topology) (c : ℕ) (conn : Conn) (s j : ℕ) → IsHopOf net c conn j → IsLeft net c (slice_index conn.path (j - 1)) (is_sending (FactBack s j)) (Answering true conn.vc s)
@@ -374,8 +378,8 @@ back_left net c conn s j its = record {
       ));
 }
 
-pub back_below : (net : Topology) (c : ℕ) (conn : Conn) (s j : ℕ) → IsHopOf net c conn j → (less more : List Event) → IsBelow net less more → was_back (facts_of c (past_of net less)) s j ≡ true → was_back (facts_of c (past_of net more)) s j ≡ true
-back_below net c conn s j its less more below h = left_below net c (slice_index conn.path (j - 1)) (is_sending (FactBack s j)) (Answering true conn.vc s) (back_left net c conn s j its) (port_low net c conn j its) less more below h
+pub back_below : (net : Topology) (c : ℕ) (conn : Conn) (s j : ℕ) → IsHopOf net c conn j → (less more : List Event) → AreBegunAt net conn j less more → was_back (facts_of c (past_of net less)) s j ≡ true → was_back (facts_of c (past_of net more)) s j ≡ true
+back_below net c conn s j its less more begins h = left_below net c (slice_index conn.path (j - 1)) (is_sending (FactBack s j)) (Answering true conn.vc s) (back_left net c conn s j its) less more begins h
 
 -- what was shut, by a refusal or by a no
 abbrev pub Shutting : Channel → ℕ → Leaving
@@ -433,5 +437,5 @@ shut_left net c conn s j its = record {
               ∙ first_true (m.0.terms.seq == s && its_event.1 == j) _ (both_true m.0.terms.seq s its_event.1 j m.3 hop),
         )
 
-pub shut_below : (net : Topology) (c : ℕ) (conn : Conn) (s j : ℕ) → IsHopOf net c conn j → (less more : List Event) → IsBelow net less more → was_shut (facts_of c (past_of net less)) s j ≡ true → was_shut (facts_of c (past_of net more)) s j ≡ true
-shut_below net c conn s j its less more below h = left_below net c (slice_index conn.path (j - 1)) (is_sending (Shut s j)) (Shutting conn.vc s) (shut_left net c conn s j its) (port_low net c conn j its) less more below h
+pub shut_below : (net : Topology) (c : ℕ) (conn : Conn) (s j : ℕ) → IsHopOf net c conn j → (less more : List Event) → AreBegunAt net conn j less more → was_shut (facts_of c (past_of net less)) s j ≡ true → was_shut (facts_of c (past_of net more)) s j ≡ true
+shut_below net c conn s j its less more begins h = left_below net c (slice_index conn.path (j - 1)) (is_sending (Shut s j)) (Shutting conn.vc s) (shut_left net c conn s j its) less more begins h

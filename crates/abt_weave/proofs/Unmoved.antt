@@ -21,20 +21,15 @@ use Rattle.abt_journal.specs.declared.input.PortInput.{PortInput}
 use Rattle.abt_journal.specs.declared.input.PortInput.TheVariants.{Request as RequestIn, Answer as AnswerIn, Arrive as ArriveIn, Capacity as CapacityIn}
 use Rattle.abt_source_journal.specs.declared.entry.SourceEntry.{SourceEntry}
 use Rattle.abt_source_journal.specs.declared.entry.SourceEntry.TheVariants.{Did}
-use Rattle.abt_woven.specs.declared.actor.Actor.{Actor}
-use Rattle.abt_woven.specs.declared.actor.Actor.TheVariants.{Source, Port}
 use Rattle.abt_woven.specs.Projections.{Step, Visit, is_enabled, reply_of, place_at_first, past_of, visit, steps_on, entry_made, entries_on}
 use Rattle.abt_woven.specs.Stuck.{Journaled, port_journal, source_journal, next_step, step_next, next_entry, Fits, IsTurn, AreTurns, PortMismatches, SourceMismatches}
 use Rattle.abt_woven.proofs.Turns.{outcome_turns, steps_turn, steps_turns}
-use Rattle.abt_weave.specs.Board.{IsSourceSettled, IsPortSettled, IsActorSettled}
+use Rattle.abt_weave.specs.Board.{IsSourceSettled, IsPortSettled}
 use Rattle.abt_weave.specs.Candidates.{is_own_of, is_told}
 use Rattle.abt_weave.specs.Comes.{input_told, Comes}
-use Rattle.abt_weave.specs.Stops.{IsStop}
-use Rattle.abt_weave.specs.Waking.{PortAwaits, Awaits}
 use Rattle.abt_weave.proofs.Alike.{AreRuns, outcome_alike, capacity_outcome}
 use Rattle.abt_weave.proofs.Alone.{capacity_visit}
 use Rattle.abt_weave.proofs.Capped.{capacity_only}
-use Rattle.abt_weave.proofs.Comings.{comes_stop}
 use Rattle.abt_weave.proofs.Growth.{entries_other, steps_none, steps_other}
 use Rattle.abt_weave.proofs.OwnEvents.{own_input, own_conn, own_here, made_own, own_made, own_turns, next_turns}
 use Rattle.abt_weave.proofs.PortEvents.{IsNoCapacity, some_same, reply_enabled}
@@ -86,15 +81,15 @@ own_alike net one other runs c event own same =
     outcome_alike net one other runs event c (own_conn c event own) same
     (λ conn known input brings. (let clash = sym (own_input c (target_of event) own conn.vc (request_of conn.vc (facts_of c (past_of net one)))) ∙ brings in absurd (cc)))
 
-pub source_back : (net : Topology) (js : Journaled) (earlier : List Event) (last : Event) → AreRuns net (last ∷ earlier) earlier → (c : ℕ) → conn_of last ≢ Some c → SourceMismatches net js (last ∷ earlier) c → SourceMismatches net js earlier c
-source_back net js earlier last runs c apart m =
+-- a source whose next entry mismatches after an event, and which would have answered the same before it
+pub source_same : (net : Topology) (js : Journaled) (earlier : List Event) (last : Event) (c : ℕ) → entries_on net c (last ∷ earlier) ≡ entries_on net c earlier → (m : SourceMismatches net js (last ∷ earlier) c) →
+    outcome_of net (past_of net (m.turns ++ last ∷ earlier)) m.event ≡ outcome_of net (past_of net earlier) m.event → SourceMismatches net js earlier c
+source_same net js earlier last c still m same =
     let later = last ∷ earlier in
     let after = m.turns ++ later in
     let event = m.event in
     let its = made_own (place_at_first net after event) event (outcome_of net (past_of net after) event) event m.outcome m.does in
     let own = own_here its.c c event its.own m.here in
-    let same : outcome_of net (past_of net after) event ≡ outcome_of net (past_of net earlier) event =
-    own_turns net later m.turns m.turned c event own ∙ own_alike net later earlier runs c event own (facts_of-other net (past_of net earlier) last c apart) in
     let enabled : is_told event && not (is_enabled (outcome_of net (past_of net earlier) event)) ≡ false = ap (λ o. is_told event && not (is_enabled o)) (sym same) ∙ its.enabled in
     record {
       turns = [];
@@ -104,8 +99,18 @@ source_back net js earlier last runs c apart m =
       outcome = outcome_of net (past_of net earlier) event;
       does = own_made (place_at_first net earlier event) c event (outcome_of net (past_of net earlier) event) own enabled;
       told = m.told;
-      next = ap (λ (l : List SourceEntry). slice_get (source_journal js c) (length l)) (sym (entries_other net earlier last c apart)) ∙ sym (next_turns net js later m.turns m.turned c) ∙ m.next;
+      next = ap (λ (l : List SourceEntry). slice_get (source_journal js c) (length l)) (sym still) ∙ sym (next_turns net js later m.turns m.turned c) ∙ m.next;
     }
+
+pub source_back : (net : Topology) (js : Journaled) (earlier : List Event) (last : Event) → AreRuns net (last ∷ earlier) earlier → (c : ℕ) → conn_of last ≢ Some c → SourceMismatches net js (last ∷ earlier) c → SourceMismatches net js earlier c
+source_back net js earlier last runs c apart m =
+    let later = last ∷ earlier in
+    let after = m.turns ++ later in
+    let event = m.event in
+    let its = made_own (place_at_first net after event) event (outcome_of net (past_of net after) event) event m.outcome m.does in
+    let own = own_here its.c c event its.own m.here in
+    source_same net js earlier last c (entries_other net earlier last c apart) m
+    (own_turns net later m.turns m.turned c event own ∙ own_alike net later earlier runs c event own (facts_of-other net (past_of net earlier) last c apart))
 
 -- what comes after such an event came before it
 comes_apart : (net : Topology) (js : Journaled) (earlier : List Event) (last : Event) (p place : ℕ) (input : PortInput) (event : Event) → steps_on net p (last ∷ earlier) ≡ steps_on net p earlier →
@@ -135,7 +140,7 @@ step_before : (net : Topology) (js : Journaled) (earlier : List Event) (last : E
 step_before net js earlier last p steps m =
     ap (λ (l : List Step). slice_get (port_journal js p) (length l)) (sym steps) ∙ sym (steps_next net js (last ∷ earlier) m.turns m.turned p) ∙ m.next
 
-capacity_back : (net : Topology) (js : Journaled) (earlier : List Event) (last : Event) → AreRuns net (last ∷ earlier) earlier → (p u : ℕ) → steps_on net p (last ∷ earlier) ≡ steps_on net p earlier →
+pub capacity_back : (net : Topology) (js : Journaled) (earlier : List Event) (last : Event) → AreRuns net (last ∷ earlier) earlier → (p u : ℕ) → steps_on net p (last ∷ earlier) ≡ steps_on net p earlier →
     (m : PortMismatches net js (last ∷ earlier) p) → m.step.input ≡ CapacityIn u → PortMismatches net js earlier p
 capacity_back net js earlier last runs p u steps m input =
     let later = last ∷ earlier in
@@ -162,9 +167,9 @@ comes_here net js earlier one other p place input event comes steps conn known =
     let here : slice_index conn.path (hop_visited event - 1) ≡ p = ap (λ (k : Conn). slice_index k.path (hop_visited event - 1)) (some_same (sym known ∙ comes.known)) ∙ comes.port in
     subst (λ q. steps_on net q one ≡ steps_on net q other) (sym here) steps
 
-visit_back : (net : Topology) (js : Journaled) (earlier : List Event) (last : Event) → AreRuns net (last ∷ earlier) earlier → (p : ℕ) → steps_on net p (last ∷ earlier) ≡ steps_on net p earlier →
-    ((c : ℕ) → conn_of last ≡ Some c → PortAwaits net js earlier p c → ⊥) → (m : PortMismatches net js (last ∷ earlier) p) → IsNoCapacity m.step.input → PortMismatches net js earlier p
-visit_back net js earlier last runs p steps apart m none =
+pub visit_back : (net : Topology) (js : Journaled) (earlier : List Event) (last : Event) → AreRuns net (last ∷ earlier) earlier → (p : ℕ) → steps_on net p (last ∷ earlier) ≡ steps_on net p earlier →
+    (m : PortMismatches net js (last ∷ earlier) p) → IsNoCapacity m.step.input → ((c : ℕ) → conn_of m.event ≡ Some c → conn_of last ≢ Some c) → PortMismatches net js earlier p
+visit_back net js earlier last runs p steps m none apart =
     let later = last ∷ earlier in
     let step = m.step in
     let event = m.event in
@@ -172,7 +177,7 @@ visit_back net js earlier last runs p steps apart m none =
     let would = would_mismatch net js runs.rules later p step (sym (steps_next net js later m.turns m.turned p) ∙ m.next) none m in
     let after = would.comes in
     let c = after.c in
-    let differ : conn_of last ≢ Some c = λ own. apart c own (record { step = step; next = next; hop = hop_visited event; stop = comes_stop net js later p step.place step.input event after }) in
+    let differ = apart c after.whose in
     let comes = comes_apart net js earlier last p step.place step.input event steps after differ in
     let facts = facts_of-other net (past_of net earlier) last c differ in
     let on = reply_enabled (outcome_of net (past_of net (m.turns ++ later)) event) m.visits.reply would.replies in
@@ -199,28 +204,9 @@ visit_back net js earlier last runs p steps apart m none =
           mismatch_at net js runs.rules earlier (turn ∷ []) p step event next (is_turn, tt) comes (ap is_enabled (sym alike) ∙ ap is_enabled (sym own.same) ∙ on))
     ]
 
-pub port_back : (net : Topology) (js : Journaled) (earlier : List Event) (last : Event) → AreRuns net (last ∷ earlier) earlier → (p : ℕ) → steps_on net p (last ∷ earlier) ≡ steps_on net p earlier →
-    ((c : ℕ) → conn_of last ≡ Some c → PortAwaits net js earlier p c → ⊥) → PortMismatches net js (last ∷ earlier) p → PortMismatches net js earlier p
-port_back net js earlier last runs p steps apart m =
-    by_input m.step.input refl
-  where
-    by_input : (input : PortInput) → m.step.input ≡ input → PortMismatches net js earlier p
-    by_input (CapacityIn u) is = capacity_back net js earlier last runs p u steps m is
-    by_input (RequestIn r) is = visit_back net js earlier last runs p steps apart m (λ u e. (let clash = sym is ∙ e in cc))
-    by_input (AnswerIn a) is = visit_back net js earlier last runs p steps apart m (λ u e. (let clash = sym is ∙ e in cc))
-    by_input (ArriveIn vc at) is = visit_back net js earlier last runs p steps apart m (λ u e. (let clash = sym is ∙ e in cc))
-
 -- a port to which an event doesn't come has had the same steps
 pub steps_still : (net : Topology) (earlier : List Event) (last : Event) (p : ℕ) → ((v : Visit) → visit net (past_of net earlier) last ≡ Some v → v.port ≢ p) → steps_on net p (last ∷ earlier) ≡ steps_on net p earlier
 steps_still net earlier last p elsewhere = elim (cases_option (visit net (past_of net earlier) last)) [
   | inl none ↦ steps_none net earlier last p none
   | inr some ↦ steps_other net earlier last p some.0 some.1 (elsewhere some.0 some.1)
 ]
-
--- an actor that doesn't wait for the connection of an event, and isn't the port that it comes to
-pub waits_on : (net : Topology) (js : Journaled) (earlier : List Event) (last : Event) → AreRuns net (last ∷ earlier) earlier → (actor : Actor) → ((c : ℕ) → conn_of last ≡ Some c → Awaits net js earlier c actor → ⊥) →
-    ((v : Visit) → visit net (past_of net earlier) last ≡ Some v → actor ≢ Port v.port) → IsActorSettled net js earlier actor false → IsActorSettled net js (last ∷ earlier) actor false
-waits_on net js earlier last runs (Source d) apart elsewhere settled =
-    source_unmarked net js (last ∷ earlier) d (λ m. settled.marks (source_back net js earlier last runs d (λ own. apart d own refl) m))
-waits_on net js earlier last runs (Port p) apart elsewhere settled =
-    port_unmarked net js (last ∷ earlier) p (λ m. settled.marks (port_back net js earlier last runs p (steps_still net earlier last p (λ v is here. elsewhere v is (ap Port (sym here)))) apart m))

@@ -37,26 +37,36 @@ use Rattle.abt_journal.specs.declared.input.PortReply.TheVariants.{Capped as Cap
 use Rattle.abt_journal.specs.declared.input.PortReply.{PortReply}
 use Rattle.abt_journal.specs.Replay.{reply_by}
 use Rattle.abt_woven.specs.Projections.{Visit, is_enabled, input_of, past_of, visit, steps_on, entry_made, entries_on}
+use Rattle.abt_woven.specs.Stuck.{IsBeginning}
+use Rattle.abt_weave.specs.Waking.{AreNear}
+use Rattle.abt_weave.proofs.Alike.{AreRuns, tables_alike}
 use Rattle.abt_weave.proofs.Asks.{AreTerms, asked_below, terms_below}
 use Rattle.abt_weave.proofs.LineFacts.{line, emitted_of-line, moment_of-line, after_last_of-line, last_arrival_of-line, delivered_mark_of-line}
 use Rattle.abt_weave.proofs.LineReplays.{lined, line_replayed}
 use Rattle.abt_weave.proofs.Alone.{answer_told, capped_by, capped_at, capacity_visit, capacity_visits}
 use Rattle.abt_weave.proofs.PortEvents.{known_at, input_at, IsVisit, visit_is, visit_made, has_reply, reply_enabled, made_beside, some_same}
 use Rattle.abt_weave.proofs.PortLooks.{first_hop}
-use Rattle.abt_weave.proofs.Replays.{replayed, past_lawful, event_made, tables_replayed}
-use Rattle.abt_weave.proofs.SentBelow.{IsBelow, passed_below}
+use Rattle.abt_weave.proofs.Replays.{past_lawful, event_made}
+use Rattle.abt_weave.proofs.SentBelow.{IsBelow, IsHopOf, AreBegunAt, begun_at, passed_below}
 
--- Events at which both lists are lawful, and one is below the other.
-pub record AreBoth (net : Topology) (less more : List Event) : Type 0 where
-  pub rules : IsWithinRules net
-  pub one : All AsksRate less
-  pub other : All AsksRate more
-  pub below : IsBelow net less more
+-- What can send to a hop of a connection has done no more in one list of events than in another: the ports of that hop and of those beside it, and at the
+-- first hop the source. Under a number that was asked for in both the same was asked.
+pub record IsSentBelow (net : Topology) (less more : List Event) (c hop : ℕ) : Type 0 where
+  pub ports : (conn : Conn) (j : ℕ) → IsHopOf net c conn j → AreNear hop j → AreBegunAt net conn j less more
+  pub source : hop ≡ 1 → IsBeginning (entries_on net c less) (entries_on net c more)
+  pub terms : (s : ℕ) → was_asked (facts_of c (past_of net less)) s ≡ true → was_asked (facts_of c (past_of net more)) s ≡ true → AreTerms (facts_of c (past_of net more)) (facts_of c (past_of net less)) s
 
--- a port has the same table where it has had the same steps
-tables_same : (net : Topology) (less more : List Event) → AreBoth net less more → (p : ℕ) → steps_on net p less ≡ steps_on net p more → port_table net (past_of net less) p ≡ port_table net (past_of net more) p
-tables_same net less more both p same =
-    tables_replayed net both.rules less both.one p ∙ ap (replayed (port_table net [] p)) same ∙ sym (tables_replayed net both.rules more both.other p)
+conn_low : (net : Topology) (c : ℕ) (conn : Conn) → conn_at net c ≡ Some conn → c < length net.conns
+conn_low net c conn known = slice_get_within net.conns c conn known
+
+pub below_sent : (net : Topology) (less more : List Event) → AreRuns net less more → IsBelow net less more → (c hop : ℕ) (conn : Conn) → conn_at net c ≡ Some conn → IsSentBelow net less more c hop
+below_sent net less more runs below c hop conn known =
+    let begins = below.conns c (conn_low net c conn known) in
+    record {
+      ports = λ k j its near. begun_at net c k j its less more below;
+      source = λ first. begins;
+      terms = λ s was also. terms_below net c s conn less more (lawful_at net (past_of net more) (past_lawful net more runs.second) c conn known) begins was;
+    }
 
 -- the event comes again, as it came
 pub record ComesAgain (net : Topology) (less more : List Event) (event : Event) (v : Visit) : Type 0 where
@@ -71,19 +81,19 @@ visit_made_of port other input also reply back ports inputs replies =
     ∙ ap (λ r. (let w : Visit = record { port = other; input = also; reply = r } in w)) replies
 
 -- where an event happens again and brings the same, it comes again
-comes_again : (net : Topology) (less more : List Event) → AreBoth net less more → (event : Event) (v : Visit) → (parts : IsVisit net (past_of net less) event v) → (c : ℕ) → conn_of event ≡ Some c → visit net (past_of net less) event ≡ Some v →
+comes_again : (net : Topology) (less more : List Event) → AreRuns net less more → (event : Event) (v : Visit) → (parts : IsVisit net (past_of net less) event v) → (c : ℕ) → conn_of event ≡ Some c → visit net (past_of net less) event ≡ Some v →
     steps_on net v.port less ≡ steps_on net v.port more → input_of parts.conn.vc (facts_of c (past_of net more)) event ≡ Some v.input → is_enabled (outcome_of net (past_of net more) event) ≡ true → ComesAgain net less more event v
-comes_again net less more both event v parts c whose is same brings on =
+comes_again net less more runs event v parts c whose is same brings on =
     let before = past_of net less in
     let past = past_of net more in
     let conn = parts.conn in
     let known = known_at net before c event v parts whose in
-    let found = has_reply net past event c conn v.input whose known (first_hop net both.rules c conn known) brings on in
+    let found = has_reply net past event c conn v.input whose known (first_hop net runs.rules c conn known) brings on in
     let made = visit_made net past event c conn v.input found.reply whose known brings found.is in
-    let one = (event_made net before both.rules (past_lawful net less both.one) event v is).0 in
-    let other = (event_made net past both.rules (past_lawful net more both.other) event (record { port = slice_index conn.path (hop_visited event - 1); input = v.input; reply = found.reply }) made).0 in
+    let one = (event_made net before runs.rules (past_lawful net less runs.first) event v is).0 in
+    let other = (event_made net past runs.rules (past_lawful net more runs.second) event (record { port = slice_index conn.path (hop_visited event - 1); input = v.input; reply = found.reply }) made).0 in
     let reply : found.reply ≡ v.reply =
-    other ∙ ap (λ p. reply_by (port_table net past p) v.input) parts.port ∙ ap (λ (t : Table). reply_by t v.input) (sym (tables_same net less more both v.port same)) ∙ sym one in
+    other ∙ ap (λ p. reply_by (port_table net past p) v.input) parts.port ∙ ap (λ (t : Table). reply_by t v.input) (sym (tables_alike net less more runs v.port same)) ∙ sym one in
     let n = length (steps_on net v.port less) in
     let enabled = reply_enabled (outcome_of net before event) v.reply parts.reply in
     record {
@@ -93,39 +103,36 @@ comes_again net less more both event v parts c whose is same brings on =
     }
 
 -- so does a capacity
-pub capacity_again : (net : Topology) (less more : List Event) → AreBoth net less more → (p u : ℕ) (v : Visit) → visit net (past_of net less) (Capacity p u) ≡ Some v → steps_on net v.port less ≡ steps_on net v.port more →
+pub capacity_again : (net : Topology) (less more : List Event) → AreRuns net less more → (p u : ℕ) (v : Visit) → visit net (past_of net less) (Capacity p u) ≡ Some v → steps_on net v.port less ≡ steps_on net v.port more →
     ComesAgain net less more (Capacity p u) v
-capacity_again net less more both p u v is same =
+capacity_again net less more runs p u v is same =
     let before = past_of net less in
     let past = past_of net more in
     let parts = capacity_visits net before p u v is in
     let low = (capped_by net before p u v.reply parts.2).0 in
     let reply = CappedOut (answer_told net past p u) in
     let made = capacity_visit net past p u reply (capped_at net past p u low) in
-    let one = (event_made net before both.rules (past_lawful net less both.one) (Capacity p u) v is).0 in
-    let other = (event_made net past both.rules (past_lawful net more both.other) (Capacity p u) (record { port = p; input = CapacityIn u; reply = reply }) made).0 in
+    let one = (event_made net before runs.rules (past_lawful net less runs.first) (Capacity p u) v is).0 in
+    let other = (event_made net past runs.rules (past_lawful net more runs.second) (Capacity p u) (record { port = p; input = CapacityIn u; reply = reply }) made).0 in
     let replies : reply ≡ v.reply =
-    other ∙ ap (λ q. reply_by (port_table net past q) (CapacityIn u)) parts.0 ∙ ap (λ (t : Table). reply_by t (CapacityIn u)) (sym (tables_same net less more both v.port same))
+    other ∙ ap (λ q. reply_by (port_table net past q) (CapacityIn u)) parts.0 ∙ ap (λ (t : Table). reply_by t (CapacityIn u)) (sym (tables_alike net less more runs v.port same))
     ∙ ap (reply_by (port_table net before v.port)) (sym parts.1) ∙ sym one in
     record {
       visits = made ∙ ap (λ (w : Visit). Some w) (visit_made_of p v.port (CapacityIn u) v.input reply v.reply parts.0 (sym parts.1) replies);
       beside = refl;
     }
 
-conn_low : (net : Topology) (c : ℕ) (conn : Conn) → conn_at net c ≡ Some conn → c < length net.conns
-conn_low net c conn known = slice_get_within net.conns c conn known
-
 -- a request that was sent
-sent_below : (net : Topology) (less more : List Event) → AreBoth net less more → (c : ℕ) (conn : Conn) (seq hop : ℕ) → conn_at net c ≡ Some conn → (1 ≤ hop) × (hop ≤ length conn.path) →
+sent_below : (net : Topology) (less more : List Event) → IsWithinRules net → (c : ℕ) (conn : Conn) (seq hop : ℕ) → IsSentBelow net less more c hop → conn_at net c ≡ Some conn → (1 ≤ hop) × (hop ≤ length conn.path) →
     request_is_at (facts_of c (past_of net less)) seq hop ≡ true → request_is_at (facts_of c (past_of net more)) seq hop ≡ true
-sent_below net less more both c conn seq hop known within h = elim (cases_eq hop 1) [
+sent_below net less more rules c conn seq hop below known within h = elim (cases_eq hop 1) [
   | inl one ↦ (
       let asked : was_asked (facts_of c (past_of net less)) seq ≡ true = sym (cond-true _ _ _ (eq-eqb hop 1 one)) ∙ h in
-      cond-true _ _ _ (eq-eqb hop 1 one) ∙ asked_below net c seq (conn_low net c conn known) less more both.below asked)
+      cond-true _ _ _ (eq-eqb hop 1 one) ∙ asked_below net c seq less more (below.source one) asked)
   | inr later ↦ (
       let passed : was_passed (facts_of c (past_of net less)) seq (hop - 1) ≡ true = sym (cond-false _ _ _ (ne_eqb hop 1 later)) ∙ h in
-      cond-false _ _ _ (ne_eqb hop 1 later)
-      ∙ passed_below net c conn seq (hop - 1) (record { rules = both.rules; known = known; low = omega (arith, within.0, later); high = omega (arith, within.1) }) less more both.below passed)
+      let before : IsHopOf net c conn (hop - 1) = record { rules = rules; known = known; low = omega (arith, within.0, later); high = omega (arith, within.1) } in
+      cond-false _ _ _ (ne_eqb hop 1 later) ∙ passed_below net c conn seq (hop - 1) before less more (below.ports conn (hop - 1) before (omega (arith, within.0), omega arith)) passed)
 ]
 
 sent_of : (a b : Bool) (onward : Onward) → is_enabled (if not a then NotEnabled Unknown else (if not b then NotEnabled NotSent else Requested onward)) ≡ true → (a ≡ true) × (b ≡ true)
@@ -143,9 +150,9 @@ terms_same vc facts others seq terms =
     ap (λ (n : ℕ). (let made : Terms = record { vc = vc; seq = seq; floor = n; ask = ask_of others seq } in made)) terms.0
     ∙ ap (λ (n : ℕ). (let made : Terms = record { vc = vc; seq = seq; floor = floor_of facts seq; ask = n } in made)) terms.1
 
-pub request_again : (net : Topology) (less more : List Event) → AreBoth net less more → (c hop seq : ℕ) (v : Visit) → visit net (past_of net less) (Request c hop seq) ≡ Some v → steps_on net v.port less ≡ steps_on net v.port more →
+pub request_again : (net : Topology) (less more : List Event) → AreRuns net less more → (c hop seq : ℕ) (v : Visit) → IsSentBelow net less more c hop → visit net (past_of net less) (Request c hop seq) ≡ Some v → steps_on net v.port less ≡ steps_on net v.port more →
     ComesAgain net less more (Request c hop seq) v
-request_again net less more both c hop seq v is same =
+request_again net less more runs c hop seq v below is same =
     let event = Request c hop seq in
     let before = past_of net less in
     let past = past_of net more in
@@ -159,10 +166,11 @@ request_again net less more both c hop seq v is same =
     let enabled = reply_enabled (outcome_of net before event) v.reply parts.reply in
     let sent = sent_of (is_hop (length conn.path) hop) (request_is_at facts seq hop) _ (sym (ap is_enabled known) ∙ enabled) in
     let within = is_hop_tells (length conn.path) hop sent.0 in
-    let still = sent_below net less more both c conn seq hop there within sent.1 in
-    let asked = at_asked (route_of conn) facts (lawful_at net before (past_lawful net less both.one) c conn there) seq hop (request_at_tells facts seq hop within.0 sent.1) in
-    let terms = terms_below net c seq conn (conn_low net c conn there) less more (lawful_at net past (past_lawful net more both.other) c conn there) both.below asked in
-    comes_again net less more both event v parts c refl is same
+    let still = sent_below net less more runs.rules c conn seq hop below there within sent.1 in
+    let asked = at_asked (route_of conn) facts (lawful_at net before (past_lawful net less runs.first) c conn there) seq hop (request_at_tells facts seq hop within.0 sent.1) in
+    let also = at_asked (route_of conn) others (lawful_at net past (past_lawful net more runs.second) c conn there) seq hop (request_at_tells others seq hop within.0 still) in
+    let terms = below.terms seq asked also in
+    comes_again net less more runs event v parts c refl is same
     (ap (λ (t : Terms). Some (RequestIn t)) (terms_same conn.vc facts others seq terms) ∙ input_at net before c event v parts refl)
     (ap is_enabled now ∙ sent_on (is_hop (length conn.path) hop) (request_is_at others seq hop) _ sent.0 still)
 
@@ -194,9 +202,17 @@ came_back net less c hop seq granted v is =
     let sent = told_of (is_hop (length parts.conn.path) hop) (answer_is_at (length parts.conn.path) (facts_of c past) seq hop granted) _ (sym (ap is_enabled known) ∙ enabled) in
     record { conn = parts.conn; known = there; within = sent.0; sent = sent.1 }
 
-pub answer_again : (net : Topology) (less more : List Event) → AreBoth net less more → (c hop seq : ℕ) (granted : Bool) (v : Visit) → visit net (past_of net less) (Answer c hop seq granted) ≡ Some v → steps_on net v.port less ≡ steps_on net v.port more →
-    ((conn : Conn) → conn_at net c ≡ Some conn → answer_is_at (length conn.path) (facts_of c (past_of net more)) seq hop granted ≡ true) → ComesAgain net less more (Answer c hop seq granted) v
-answer_again net less more both c hop seq granted v is same sent =
+-- whose number was asked for
+pub answered_asked : (net : Topology) (earlier : List Event) → IsWithinRules net → All AsksRate earlier → (c : ℕ) (conn : Conn) (hop seq : ℕ) (granted : Bool) → conn_at net c ≡ Some conn → is_hop (length conn.path) hop ≡ true →
+    answer_is_at (length conn.path) (facts_of c (past_of net earlier)) seq hop granted ≡ true → was_asked (facts_of c (past_of net earlier)) seq ≡ true
+answered_asked net earlier rules rates c conn hop seq granted known within sent =
+    let facts = facts_of c (past_of net earlier) in
+    let lawful = lawful_at net (past_of net earlier) (past_lawful net earlier rates) c conn known in
+    passed_asked (route_of conn) facts lawful seq hop (answer_passed (route_of conn) facts lawful seq hop granted (is_hop_tells (length conn.path) hop within) sent).0
+
+pub answer_again : (net : Topology) (less more : List Event) → AreRuns net less more → (c hop seq : ℕ) (granted : Bool) (v : Visit) → IsSentBelow net less more c hop → visit net (past_of net less) (Answer c hop seq granted) ≡ Some v →
+    steps_on net v.port less ≡ steps_on net v.port more → ((conn : Conn) → conn_at net c ≡ Some conn → answer_is_at (length conn.path) (facts_of c (past_of net more)) seq hop granted ≡ true) → ComesAgain net less more (Answer c hop seq granted) v
+answer_again net less more runs c hop seq granted v below is same sent =
     let event = Answer c hop seq granted in
     let before = past_of net less in
     let past = past_of net more in
@@ -210,13 +226,10 @@ answer_again net less more both c hop seq granted v is same sent =
     let its : back.conn ≡ conn = some_same (sym back.known ∙ there) in
     let within : is_hop (length conn.path) hop ≡ true = subst (λ (k : Conn). is_hop (length k.path) hop ≡ true) its back.within in
     let was : answer_is_at (length conn.path) facts seq hop granted ≡ true = subst (λ (k : Conn). answer_is_at (length k.path) facts seq hop granted ≡ true) its back.sent in
-    let lawful = lawful_at net before (past_lawful net less both.one) c conn there in
-    let hops = is_hop_tells (length conn.path) hop within in
-    let passed = (answer_passed (route_of conn) facts lawful seq hop granted hops was).0 in
-    let asked = passed_asked (route_of conn) facts lawful seq hop passed in
-    let terms = terms_below net c seq conn (conn_low net c conn there) less more (lawful_at net past (past_lawful net more both.other) c conn there) both.below asked in
-    comes_again net less more both event v parts c refl is same
-    (ap (λ (t : Terms). Some (AnswerIn (answer_to t granted))) (terms_same conn.vc facts others seq terms) ∙ input_at net before c event v parts refl)
+    let asked = answered_asked net less runs.rules runs.first c conn hop seq granted there within was in
+    let also = answered_asked net more runs.rules runs.second c conn hop seq granted there within (sent conn there) in
+    comes_again net less more runs event v parts c refl is same
+    (ap (λ (t : Terms). Some (AnswerIn (answer_to t granted))) (terms_same conn.vc facts others seq (below.terms seq asked also)) ∙ input_at net before c event v parts refl)
     (ap is_enabled now ∙ told_on (is_hop (length conn.path) hop) (answer_is_at (length conn.path) others seq hop granted) _ refl within (sent conn there))
 
 -- whether a cell can arrive, by the four causes against it
@@ -254,9 +267,9 @@ arrives_alike conn facts others cell at same =
     ∙ ap (λ (l : List Fact). arrives_by conn cell at (emitted_of l) (after_last_of l) (delivered_mark_of l) (moment_of l cell) (last_arrival_of l)) same
     ∙ line_says conn others cell at ∙ sym (by others)
 
-pub arrival_again : (net : Topology) (less more : List Event) → AreBoth net less more → (c cell at : ℕ) (v : Visit) → visit net (past_of net less) (Arrive c cell at) ≡ Some v → steps_on net v.port less ≡ steps_on net v.port more →
+pub arrival_again : (net : Topology) (less more : List Event) → AreRuns net less more → (c cell at : ℕ) (v : Visit) → visit net (past_of net less) (Arrive c cell at) ≡ Some v → steps_on net v.port less ≡ steps_on net v.port more →
     entries_on net c less ≡ entries_on net c more → ComesAgain net less more (Arrive c cell at) v
-arrival_again net less more both c cell at v is same entries =
+arrival_again net less more runs c cell at v is same entries =
     let event = Arrive c cell at in
     let before = past_of net less in
     let past = past_of net more in
@@ -268,6 +281,6 @@ arrival_again net less more both c cell at v is same entries =
     let enabled = reply_enabled (outcome_of net before event) v.reply parts.reply in
     let steps : steps_on net (slice_index conn.path 0) less ≡ steps_on net (slice_index conn.path 0) more = subst (λ p. steps_on net p less ≡ steps_on net p more) (sym parts.port) same in
     let line_same : line (facts_of c before) ≡ line (facts_of c past) =
-    line_replayed net both.rules c conn there less ∙ ap (λ s. lined s [] (entries_on net c less)) steps ∙ ap (lined (steps_on net (slice_index conn.path 0) more) []) entries ∙ sym (line_replayed net both.rules c conn there more) in
-    comes_again net less more both event v parts c refl is same (input_at net before c event v parts refl)
+    line_replayed net runs.rules c conn there less ∙ ap (λ s. lined s [] (entries_on net c less)) steps ∙ ap (lined (steps_on net (slice_index conn.path 0) more) []) entries ∙ sym (line_replayed net runs.rules c conn there more) in
+    comes_again net less more runs event v parts c refl is same (input_at net before c event v parts refl)
     (ap is_enabled now ∙ sym (arrives_alike conn (facts_of c before) (facts_of c past) cell at line_same) ∙ sym (ap is_enabled known) ∙ enabled)

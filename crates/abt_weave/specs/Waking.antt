@@ -1,5 +1,5 @@
 -- What a look has placed, and who can have waited for it. Events are listed with the newest first, but for those that a look adds to.
-use Rattle.std.specs.Prelude.{◌≡◌, ℕ, ◌+◌, ◌-◌, ◌<◌, Bool, true, List, [], ◌∷◌, ◌++◌, Some, length, slice_index, ◌⊎◌}
+use Rattle.std.specs.Prelude.{◌≡◌, ℕ, ◌+◌, ◌-◌, ◌<◌, ◌≤◌, Bool, true, List, [], ◌∷◌, ◌++◌, Some, length, slice_index, ◌⊎◌}
 use Rattle.abt_cell.specs.Channel.{Channel}
 use Rattle.abt_net.specs.declared.conn.Conn.{Conn}
 use Rattle.abt_net.specs.Topology.{Topology, conn_at}
@@ -15,23 +15,14 @@ use Rattle.abt_woven.specs.Stuck.{Journaled, next_step}
 use Rattle.abt_weave.specs.Actors.{actor_at, actor_count}
 use Rattle.abt_weave.specs.Candidates.{channel_of}
 use Rattle.abt_weave.specs.Comes.{IsTurnOf}
-use Rattle.abt_weave.specs.Stops.{IsStop}
-
--- the next step of a port is about the channel of a connection that goes through it
-pub record PortAwaits (net : Topology) (js : Journaled) (earlier : List Event) (p c : ℕ) : Type 0 where
-  pub step : Step
-  pub next : next_step net js earlier p ≡ Some step
-  pub hop : ℕ
-  pub stop : IsStop net step.input p c hop
-
--- The next entry of an actor can wait for an event of a connection: of its own, if it is a source, and of that which the step is about, if it is a port.
-abbrev pub Awaits : Topology → Journaled → List Event → (c : ℕ) → Actor → Type 0
-Awaits net js earlier c (Source d) = d ≡ c
-Awaits net js earlier c (Port p) = PortAwaits net js earlier p c
 
 -- The event was placed behind the old ones, where it needed one with its Turn before it. These lists have the oldest first.
 abbrev pub HasPlaced : Topology → Event → (old new : List Event) → Type 0
 HasPlaced net event old new = (new ≡ old ++ event ∷ []) ⊎ ((turn : Event) × IsTurnOf net event turn × (new ≡ (old ++ turn ∷ []) ++ event ∷ []))
+
+-- a hop is another one, or stands beside it on a path: the source stands before the first, at 0
+abbrev pub AreNear : (hop other : ℕ) → Type 0
+AreNear hop other = (hop ≤ other + 1) × (other ≤ hop + 1)
 
 -- the next step of a port is about this channel
 pub record IsAbout (net : Topology) (js : Journaled) (earlier : List Event) (p : ℕ) (vc : Channel) : Type 0 where
@@ -39,7 +30,7 @@ pub record IsAbout (net : Topology) (js : Journaled) (earlier : List Event) (p :
   pub next : next_step net js earlier p ≡ Some step
   pub channel : channel_of step.input ≡ Some vc
 
--- A port stands on the path of the connection of an event, which came to it, or whose channel its next step is about.
+-- A port stands on the path of the connection of an event, which came to it, or whose channel its next step is about and which came to a hop beside it.
 pub record IsPassed (net : Topology) (js : Journaled) (earlier : List Event) (event : Event) (p : ℕ) : Type 0 where
   pub c : ℕ
   pub whose : conn_of event ≡ Some c
@@ -48,12 +39,12 @@ pub record IsPassed (net : Topology) (js : Journaled) (earlier : List Event) (ev
   pub hop : ℕ
   pub within : is_hop (length conn.path) hop ≡ true
   pub port : slice_index conn.path (hop - 1) ≡ p
-  pub why : (hop ≡ hop_visited event) ⊎ IsAbout net js earlier p conn.vc
+  pub why : (hop ≡ hop_visited event) ⊎ (AreNear hop (hop_visited event) × IsAbout net js earlier p conn.vc)
 
--- An event, the last of these, is one that an actor can have waited for: of its own connection, if it is a source; for a port one that came to it, or of the
--- connection that its next step is about.
+-- An event, the last of these, is one that an actor can have waited for: for a source one of its connection that happened there or at the first hop; for a port one
+-- that came to it, or to a hop beside it of the connection that its next step is about.
 abbrev pub Touches : Topology → Journaled → List Event → Event → Actor → Type 0
-Touches net js earlier event (Source d) = conn_of event ≡ Some d
+Touches net js earlier event (Source d) = (conn_of event ≡ Some d) × (hop_visited event ≤ 1)
 Touches net js earlier event (Port p) = ((u : ℕ) × (event ≡ Capacity p u)) ⊎ IsPassed net js earlier event p
 
 -- the actors of these numbers
@@ -64,15 +55,19 @@ AreTouched net js earlier event i = (i < actor_count net) × Touches net js earl
 abbrev pub IsPortFor : Topology → Journaled → List Event → (p : ℕ) (came : Bool) → Channel → (i : ℕ) → Type 0
 IsPortFor net js earlier p came vc i = (i ≡ length net.conns + p) × ((came ≡ true) ⊎ IsAbout net js earlier p vc)
 
--- the ports on the path of a connection to whose hop an event came, or whose next steps are about the connection, by their numbers
+-- the port at the hop of a connection to which an event came, and those beside it whose next steps are about the connection, by their numbers
 pub record AreOnPath (net : Topology) (js : Journaled) (earlier : List Event) (c hop i : ℕ) : Type 0 where
   pub conn : Conn
   pub known : conn_at net c ≡ Some conn
   pub place : ℕ
   pub low : place < length conn.path
   pub number : i ≡ length net.conns + slice_index conn.path place
-  pub why : (place + 1 ≡ hop) ⊎ IsAbout net js earlier (slice_index conn.path place) conn.vc
+  pub why : (place + 1 ≡ hop) ⊎ (AreNear (place + 1) hop × IsAbout net js earlier (slice_index conn.path place) conn.vc)
 
--- those, and the source of the connection
+-- the source of a connection, if an event happened there or came to the first hop
+abbrev pub IsSourceFor : (c hop i : ℕ) → Type 0
+IsSourceFor c hop i = (i ≡ c) × (hop ≤ 1)
+
+-- those, and that source
 abbrev pub AreOfConn : Topology → Journaled → List Event → (c hop i : ℕ) → Type 0
-AreOfConn net js earlier c hop i = ((i ≡ c) × (c < length net.conns)) ⊎ AreOnPath net js earlier c hop i
+AreOfConn net js earlier c hop i = (IsSourceFor c hop i × (c < length net.conns)) ⊎ AreOnPath net js earlier c hop i

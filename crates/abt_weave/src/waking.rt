@@ -8,7 +8,7 @@ ghost use Rattle.abt_weave.specs.Actors.{actor_count};
 ghost use Rattle.abt_weave.specs.Board.{journaled, IsBoard};
 ghost use Rattle.abt_weave.specs.Candidates as candidates;
 ghost use Rattle.abt_weave.specs.Queue.{IsQueue, Wakes};
-ghost use Rattle.abt_weave.specs.Waking.{IsAbout, AreTouched, IsPortFor, AreOnPath, AreOfConn};
+ghost use Rattle.abt_weave.specs.Waking.{IsAbout, AreTouched, IsPortFor, AreOnPath, IsSourceFor, AreOfConn};
 
 use crate::actors::port_number;
 use crate::board::Board;
@@ -72,7 +72,8 @@ fn wake_port(
     queue.wake(port_number(given.net, port))
 }
 
-// Wakes the ports on the path of a connection to which an event came, or whose next entry is about the connection.
+// Wakes the port at a hop of the path of a connection to which an event came, and those beside it whose next entries are about
+// the connection. A connection's message can be sent to a hop from no other.
 fn wake_path(
     given: &Given,
     board: &Board,
@@ -90,14 +91,30 @@ fn wake_path(
 {
     let conn = &given.net.conns()[usize::from(conn)];
     let ports = conn.path.as_slice();
-    for place in 0..ports.len() {
-        let came = place + 1 == usize::from(hop);
+    let visited = usize::from(hop);
+    let first = visited.saturating_sub(2);
+    let past = ports.len().min(visited + 1);
+    for place in first..past {
+        let came = place + 1 == visited;
         wake_port(given, board, ports[place], came, conn.vc, queue)?;
     }
     Ok(())
 }
 
-// Wakes a source, and ports on its path.
+// Wakes a source, if an event happened there or came to the first hop.
+fn wake_source(conn: u16, hop: u16, queue: &mut Queue) -> Result<(), AllocError>
+    requires queue { IsQueue (length queue.old.woken.items) queue.old }
+    requires low { conn < length queue.old.woken.items }
+    ensures queue { OnOk result (IsQueue (length queue.old.woken.items) queue.new) }
+    ensures wakes { OnOk result (Wakes (IsSourceFor conn hop) queue.old queue.new) }
+{
+    if hop > 1 {
+        return Ok(());
+    }
+    queue.wake(conn)
+}
+
+// Wakes a source and ports on its path, as far as an event at this hop can have been waited for there.
 fn wake_connection(
     given: &Given,
     board: &Board,
@@ -116,12 +133,12 @@ fn wake_connection(
     if usize::from(conn) >= given.net.conns().len() {
         return Ok(());
     }
-    queue.wake(conn)?;
+    wake_source(conn, hop, queue)?;
     wake_path(given, board, conn, hop, queue)
 }
 
-/// Wakes whom an event, the last that was placed, can have been waited for by: its source, the port that it came to, and those
-/// ports on the path of its connection whose next entries are about this.
+/// Wakes whom an event, the last that was placed, can have been waited for by: the port that it came to, those beside it on the
+/// path of its connection whose next entries are about this, and its source, if it happened there or at the first hop.
 pub(crate) fn wake_for(
     given: &Given,
     board: &Board,

@@ -196,12 +196,12 @@ fn help_shows_each_command_with_an_example(rt: HostRuntime) -> Result<(), Fail> 
     for (word, usage, example) in [
         (
             "rate",
-            "Usage: abt rate <CODE>",
+            "Usage: abt rate [OPTIONS] <CODE>",
             "53e8 units 512000 spacing 1000000000",
         ),
         (
             "cell",
-            "Usage: abt cell <HEX>",
+            "Usage: abt cell [OPTIONS] <HEX>",
             "request vpi 1 vci 100 seq 1 floor 0000 ask 5258",
         ),
         (
@@ -211,7 +211,7 @@ fn help_shows_each_command_with_an_example(rt: HostRuntime) -> Result<(), Fail> 
         ),
         (
             "run",
-            "Usage: abt run [FILE]",
+            "Usage: abt run [OPTIONS] [FILE]",
             "port 0 total 0 capacity 512000",
         ),
         (
@@ -222,7 +222,8 @@ fn help_shows_each_command_with_an_example(rt: HostRuntime) -> Result<(), Fail> 
     ] {
         is_helped(&rt, alloc, &[word, "--help"], &[usage, example])?;
     }
-    is_helped(&rt, alloc, &["--help"], &["abt port 512000"])
+    is_helped(&rt, alloc, &["--help"], &["abt port 512000"])?;
+    is_helped(&rt, alloc, &["--version"], &["abt 0.1.0\n"])
 }
 
 // Demands help that says all of these.

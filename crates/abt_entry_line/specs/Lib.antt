@@ -1,0 +1,5 @@
+pub mod Words
+pub mod PortLines
+pub mod SourceLines
+pub mod NetLines
+pub mod Lines

@@ -1,0 +1,83 @@
+-- What goes out as JSON.
+use Rattle.std.specs.Prelude.{◌≡◌, ℕ, ◌+◌, true, Option, IfSome, Result, Ok, Err, IsOkAnd, Vec, string_bytes}
+use Rattle.std.specs.Io.KnownBytes.{Appends, Keeps}
+use Rattle.std.specs.declared.alloc.Global.{Global}
+use Rattle.abt_text.specs.Text.{Text}
+use Rattle.abt_text.specs.Streams.{AppendsPrefix, ConsumesAtMost, text_max}
+use Rattle.abt_trace.specs.Traces.{IsTrace}
+use Rattle.abt_trace.specs.declared.trace.Trace.{Trace}
+use Rattle.abt_scenario.specs.Scenarios.{Reads}
+use Rattle.abt_scenario.specs.Engine.{Explains}
+use Rattle.abt_scenario.specs.declared.scenario.Scenario as declared
+use Rattle.abt_scenario.specs.declared.engine.EngineFault.{EngineFault}
+use Rattle.abt_scenario.specs.declared.engine.EngineFault.TheVariants as engine
+use Rattle.abt_perform.specs.Names.{fault_line, fault_of_engine}
+use Rattle.abt_perform.specs.Plans.{EndsTextBy, Tells}
+use Rattle.abt_perform.specs.declared.fault.Fault.{Fault}
+use Rattle.abt_json.specs.Objects.{rate_json, cell_json, trace_objects}
+use Rattle.abt_json.specs.declared.plan.JsonPlan.{JsonPlan}
+use Rattle.abt_json.specs.declared.plan.JsonPlan.TheVariants.{Rate, Cell, Run}
+
+-- The text is the report of the scenario's run, which is safe: so its last object says.
+pub record IsRunJson (scenario : declared.Scenario) (text : Text) : Type 0 where
+  pub trace : Trace
+  pub is_trace : IsTrace scenario.net scenario.events trace
+  pub is_safe : trace.safe ≡ true
+  pub is_report : text ≡ trace_objects trace
+
+-- The text is the report of the scenario that was read.
+pub record IsRunJsonOf (left : Option Text) (text : Text) : Type 0 where
+  pub scenario : declared.Scenario
+  pub read : IfSome left (λ source. Reads source (Ok scenario))
+  pub reported : IsRunJson scenario text
+
+-- That report went out, and nothing else.
+pub record Reports (left old new : Option Text) : Type 0 where
+  pub text : Text
+  pub report : IsRunJsonOf left text
+  pub written : Appends old new text
+
+-- A part of it went out, from its beginning, and not all of it.
+pub record ReportsPart (left old new : Option Text) : Type 0 where
+  pub text : Text
+  pub report : IsRunJsonOf left text
+  pub written : AppendsPrefix old new text
+
+-- what a fault says, and what it leaves with the writer: a part of the report where that failed, and else what was there
+abbrev pub Leaves : EngineFault → (left old new : Option Text) → Type 0
+Leaves engine.Write left old new = ReportsPart left old new
+Leaves fault left old new = IfSome left (Explains fault) × Keeps old new
+
+-- what a plan prints went out, all of it, where this is what the reader had left
+abbrev pub Prints : JsonPlan → (left old new : Option Text) → Type 0
+Prints (Rate code) left old new = IsOkAnd (rate_json (string_bytes code)) (Appends old new)
+Prints (Cell hex) left old new = IsOkAnd (cell_json (string_bytes hex)) (Appends old new)
+Prints (Run file) left old new = Reports left old new
+
+-- what went out of a run's report where it isn't printed for this fault
+pub record EndsRunBy (fault : Fault) (left old new : Option Text) : Type 0 where
+  pub engine_fault : EngineFault
+  pub named : fault ≡ fault_of_engine engine_fault
+  pub leaves : Leaves engine_fault left old new
+
+-- the same of each plan
+abbrev pub EndsBy : Fault → JsonPlan → (left old new : Option Text) → Type 0
+EndsBy fault (Rate code) left old new = EndsTextBy fault (rate_json (string_bytes code)) old new
+EndsBy fault (Cell hex) left old new = EndsTextBy fault (cell_json (string_bytes hex)) old new
+EndsBy fault (Run file) left old new = EndsRunBy fault left old new
+
+-- what a plan takes of the reader: nothing, but a scenario's text
+abbrev pub ReadsFor : JsonPlan → (old new : Option Text) → Type 0
+ReadsFor (Run file) old new = ConsumesAtMost old new (text_max + 1)
+ReadsFor _ old new = Keeps old new
+
+-- A plan that isn't done: why, what went out of its text, and what was told.
+pub record IsRefused (plan : JsonPlan) (left old new errors_old errors_new : Option Text) : Type 0 where
+  pub fault : Fault
+  pub printed : EndsBy fault plan left old new
+  pub told : Tells (fault_line fault) errors_old errors_new
+
+-- a text without where it lies in memory
+abbrev pub text_seen : Result (Vec ℕ Global) Fault → Result Text Fault
+text_seen (Ok text) = Ok text.items
+text_seen (Err fault) = Err fault

@@ -1,0 +1,12 @@
+//! What is asked for as JSON.
+
+/// What to say as JSON, one object a line.
+#[derive(Drop)]
+pub enum JsonPlan {
+    /// What a rate code means.
+    Rate(String),
+    /// What the RM cell says that a text spells.
+    Cell(String),
+    /// What a scenario's run answers: that of this file, or of the standard input.
+    Run(Option<String>),
+}

@@ -1,0 +1,37 @@
+//! What `abt rate --json` says.
+ghost use Rattle.std.specs.Prelude.{◌≡◌, ◌⊎◌, ◌++◌, Ok, IfOk, IfErr, OnOk, Err};
+ghost use Rattle.abt_perform.specs.declared.fault.Fault.TheVariants.{Memory};
+ghost use Rattle.abt_json.specs.Objects.{rate_json, rate_object};
+
+use crate::members::{begin, end, push_number, push_rate};
+use abt_grammar::rate_of;
+use abt_perform::Fault;
+use abt_rate::Rate;
+use std::alloc::{AllocError, Global};
+
+/// What a rate code means, as an object on a line: its canonical form, its units of 1/512 cell/s and its spacing in picoseconds.
+pub fn rate_json(alloc: Global, code: &str) -> Result<Vec<u8>, Fault>
+    ensures ok { IfOk result (λ text. rate_json code.now ≡ Ok text.items) }
+    ensures err { IfErr result (λ fault. (fault ≡ Memory) ⊎ (rate_json code.now ≡ Err fault)) }
+{
+    match rate_of(code) {
+        Some(rate) => Ok(rate_object(alloc, rate)?),
+        None => Err(Fault::Code),
+    }
+}
+
+fn rate_object(alloc: Global, rate: Rate) -> Result<Vec<u8>, AllocError>
+    ensures { IfOk result (λ text. text.items ≡ rate_object rate) }
+{
+    let mut text = Vec::new(alloc);
+    let mut object = begin(alloc, &mut text)?;
+    push_rate(alloc, &mut object, "code", rate)?;
+    push_number(&mut object, "units", rate.units())?;
+    object.key("spacing")?;
+    match rate.spacing() {
+        Some(spacing) => object.u64(spacing)?,
+        None => object.null()?,
+    }
+    end(object, &mut text)?;
+    Ok(text)
+}

@@ -1,0 +1,5 @@
+pub mod Members
+pub mod Reading
+pub mod Values
+pub mod Cells
+pub mod Written

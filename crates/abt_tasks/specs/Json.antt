@@ -1,0 +1,37 @@
+-- What saying as JSON leaves, over the file that is named or over the input that is there.
+use Rattle.std.specs.Prelude.{◌⊎◌, Option, None, MatchOption, string_bytes}
+use Rattle.std.specs.Option.{option_map}
+use Rattle.std.specs.Io.KnownBytes.{Keeps}
+use Rattle.abt_text.specs.Text.{Text}
+use Rattle.abt_commands.specs.Carried.{IsUnopened}
+use Rattle.abt_json.specs.Printed.{Prints, IsRefused, ReadsFor}
+use Rattle.abt_json.specs.declared.plan.JsonPlan.{JsonPlan}
+use Rattle.abt_json.specs.declared.plan.JsonPlan.TheVariants.{Rate, Cell, Run}
+
+-- the file whose scenario is to be run
+abbrev pub file_of : JsonPlan → Option Text
+file_of (Run file) = option_map string_bytes file
+file_of _ = None
+
+-- A plan that names a file has some reader in place of the input that is there.
+pub record IsSaidOver (plan : JsonPlan) (old new : Option Text) : Type 0 where
+  pub left : Option Text
+  pub said : Prints plan left old new
+
+pub record IsRefusedOver (plan : JsonPlan) (old new errors_old errors_new : Option Text) : Type 0 where
+  pub left : Option Text
+  pub refused : IsRefused plan left old new errors_old errors_new
+
+-- what a plan takes of the input that is there
+abbrev pub TakesToSay : JsonPlan → (old new : Option Text) → Type 0
+TakesToSay plan old new = MatchOption (file_of plan) (ReadsFor plan old new) (λ name. Keeps old new)
+
+-- what the plan asks for went out, all of it
+abbrev pub IsSaidHere : JsonPlan → (left old new : Option Text) → Type 0
+IsSaidHere plan left old new = MatchOption (file_of plan) (Prints plan left old new) (λ name. IsSaidOver plan old new)
+
+-- there is a fault, which is told
+abbrev pub IsUnsaidHere : JsonPlan → (left old new errors_old errors_new : Option Text) → Type 0
+IsUnsaidHere plan left old new errors_old errors_new = MatchOption (file_of plan)
+    (IsRefused plan left old new errors_old errors_new)
+    (λ name. IsUnopened old new errors_old errors_new ⊎ IsRefusedOver plan old new errors_old errors_new)

@@ -1,0 +1,77 @@
+//! What is said as JSON, over the file that is named or over the input that is there.
+ghost use Rattle.std.specs.Prelude.{◌≡◌, ◌⊎◌};
+ghost use Rattle.std.specs.Io.KnownBytes.{Keeps};
+ghost use Rattle.std.specs.Option.{option_map};
+ghost use Rattle.abt_tasks.specs.Json.{IsSaidHere, IsUnsaidHere, TakesToSay};
+ghost use Rattle.abt_tasks.specs.Json as json;
+
+use abt_commands::{CODE, FILE, HEX, JSON, line_of_unopened};
+use abt_json::{JsonPlan, perform_json};
+use abt_perform::{WordsFault, tell_text};
+use clap::ArgMatches;
+use std::alloc::{AllocError, AllocGlobal, Global};
+use std::fs::File;
+use std::io::{Read, Write};
+use std::rt::Files;
+
+// The plan of a command that is to answer as JSON, by what `clap` found behind its name; None if it isn't.
+pub(crate) fn json_plan_of(
+    alloc: Global,
+    name: &str,
+    found: &ArgMatches<'_>,
+) -> Result<Option<JsonPlan>, WordsFault> {
+    if !found.get_flag(JSON) {
+        return Ok(None);
+    }
+    let plan = match name {
+        "rate" => JsonPlan::Rate(text_of(alloc, found, CODE)?),
+        "cell" => JsonPlan::Cell(text_of(alloc, found, HEX)?),
+        "run" => JsonPlan::Run(match found.get_str(FILE) {
+            Some(file) => Some(String::from_str(alloc, file)?),
+            None => None,
+        }),
+        _ => return Ok(None),
+    };
+    Ok(Some(plan))
+}
+
+fn text_of(alloc: Global, found: &ArgMatches<'_>, id: &str) -> Result<String, AllocError> {
+    String::from_str(alloc, found.get_str(id).unwrap_or(""))
+}
+
+// Says as JSON what a plan asks for, over the file that it names or over an input that is there, and gives the exit status.
+pub(crate) fn say_as_json<T: Files + AllocGlobal, R: Read, W: Write, E: Write>(
+    rt: &T,
+    plan: &JsonPlan,
+    input: &mut R,
+    out: &mut W,
+    errors: &mut E,
+) -> u8
+    ensures status { (result ≡ 0) ⊎ (result ≡ 1) }
+    ensures reads { TakesToSay plan.now (R.remaining input.old) (R.remaining input.new) }
+    ensures ok { result ≡ 0 → IsSaidHere plan.now (R.remaining input.old) (W.contents out.old) (W.contents out.new) }
+    ensures quiet { result ≡ 0 → Keeps (E.contents errors.old) (E.contents errors.new) }
+    ensures err { result ≡ 1 → IsUnsaidHere plan.now (R.remaining input.old) (W.contents out.old) (W.contents out.new)
+        (E.contents errors.old) (E.contents errors.new) }
+{
+    let Some(name) = file_of(plan) else {
+        return perform_json(rt.alloc(), plan, input, out, errors);
+    };
+    match File::open(rt, name) {
+        Ok(mut file) => perform_json(rt.alloc(), plan, &mut file, out, errors),
+        Err(error) => {
+            tell_text(errors, line_of_unopened(&error));
+            1
+        }
+    }
+}
+
+// The file that a plan names.
+fn file_of(plan: &JsonPlan) -> Option<&str>
+    ensures { option_map (λ name. name.now) result ≡ json.file_of plan.now }
+{
+    match plan {
+        JsonPlan::Run(Some(name)) => Some(name.as_str()),
+        _ => None,
+    }
+}
