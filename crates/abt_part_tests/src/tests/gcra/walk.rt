@@ -41,6 +41,16 @@ fn generated(alloc: Global, numbers: &mut Numbers) -> Result<Vec<(u64, u64)>, Al
     Ok(cells)
 }
 
+// Such cells; where memory is refused, others are generated.
+fn cells(alloc: Global, numbers: &mut Numbers) -> Result<Vec<(u64, u64)>, AllocError>
+    ensures { IfOk result (λ cells. All (λ cell. (1 ≤ cell.1) × (cell.1 ≤ SPACING_MAX)) cells.items) }
+{
+    match generated(alloc, numbers) {
+        Err(_) => generated(alloc, numbers),
+        cells => cells,
+    }
+}
+
 // For any two cells: the earlier one's arrival and the spacings from it up to the later one, less the
 // tolerance, are at most the later one's arrival.
 fn keeps_windows(tau: u64, cells: &[(u64, u64)]) -> bool {
@@ -61,7 +71,7 @@ fn ten_thousand_cells_get_the_verdicts_of_their_windows(rt: HostRuntime) -> Resu
     let mut numbers = Numbers { state: 1 };
     let mut early = 0u64;
     for _ in 0..100 {
-        let cells = generated(rt.alloc(), &mut numbers)?;
+        let cells = cells(rt.alloc(), &mut numbers)?;
         let tau = numbers.below(40);
         let verdicts = listed(rt.alloc(), tau, &cells)?;
         assert_eq!(rt; verdicts.len(), cells.len());
@@ -72,8 +82,23 @@ fn ten_thousand_cells_get_the_verdicts_of_their_windows(rt: HostRuntime) -> Resu
     Ok(())
 }
 
-// Demands the verdicts of a list by its windows and by both forms: how many cells came too early.
+// Demands the verdicts of a list by its windows and by both forms: how many cells came too early. Where memory is refused, it is walked again.
 fn walk(
+    rt: &impl Abort,
+    alloc: Global,
+    tau: u64,
+    cells: &[(u64, u64)],
+    verdicts: &[Verdict],
+) -> Result<u64, AllocError>
+    requires { tau ≤ TAU_MAX }
+{
+    match walk_once(rt, alloc, tau, cells, verdicts) {
+        Err(_) => walk_once(rt, alloc, tau, cells, verdicts),
+        early => early,
+    }
+}
+
+fn walk_once(
     rt: &impl Abort,
     alloc: Global,
     tau: u64,
