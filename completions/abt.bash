@@ -2,7 +2,7 @@
 _abt() {
     local word=${COMP_WORDS[COMP_CWORD]}
     if [ "$COMP_CWORD" -eq 1 ]; then
-        COMPREPLY=($(compgen -W "rate cell port run threads explain help -h --help -V --version" -- "$word"))
+        COMPREPLY=($(compgen -W "rate cell port run threads explain police shape help -h --help -V --version" -- "$word"))
         return
     fi
     case ${COMP_WORDS[1]} in
@@ -12,7 +12,9 @@ _abt() {
         run) COMPREPLY=($(compgen -f -W "--json -h --help" -- "$word")) ;;
         threads) COMPREPLY=($(compgen -f -W "--workers -h --help" -- "$word")) ;;
         explain) COMPREPLY=($(compgen -f -W "-h --help" -- "$word")) ;;
-        help) COMPREPLY=($(compgen -W "rate cell port run threads explain help" -- "$word")) ;;
+        police) COMPREPLY=($(compgen -W "--tau --rate -h --help" -- "$word")) ;;
+        shape) COMPREPLY=($(compgen -W "--rate -h --help" -- "$word")) ;;
+        help) COMPREPLY=($(compgen -W "rate cell port run threads explain police shape help" -- "$word")) ;;
         *) COMPREPLY=() ;;
     esac
 }

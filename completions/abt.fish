@@ -8,6 +8,8 @@ complete -c abt -n __fish_use_subcommand -a port -d 'Serve RM cells at one port 
 complete -c abt -n __fish_use_subcommand -a run -d 'Run a scenario, and report what each of its events answered'
 complete -c abt -n __fish_use_subcommand -a threads -d 'Run a scenario\'s scripts in threads, and say what is shown of the run'
 complete -c abt -n __fish_use_subcommand -a explain -d 'Run a scenario, and tell each of its events with its reason'
+complete -c abt -n __fish_use_subcommand -a police -d 'Judge the arrivals of cells, a line of the standard input each'
+complete -c abt -n __fish_use_subcommand -a shape -d 'Say when cells leave, a line of the standard input each'
 complete -c abt -n __fish_use_subcommand -a help -d 'Print this message or the help of the given subcommand(s)'
 complete -c abt -n '__fish_seen_subcommand_from rate' -l json -d 'Answer as JSON, one object a line'
 complete -c abt -n '__fish_seen_subcommand_from rate' -s h -l help -d 'Print help'
@@ -22,4 +24,9 @@ complete -c abt -n '__fish_seen_subcommand_from threads' -s h -l help -d 'Print 
 complete -c abt -n '__fish_seen_subcommand_from threads' -F
 complete -c abt -n '__fish_seen_subcommand_from explain' -s h -l help -d 'Print help'
 complete -c abt -n '__fish_seen_subcommand_from explain' -F
-complete -c abt -n '__fish_seen_subcommand_from help' -a 'rate cell port run threads explain help'
+complete -c abt -n '__fish_seen_subcommand_from police' -l tau -x -d 'The tolerance in picoseconds, at most 10^12'
+complete -c abt -n '__fish_seen_subcommand_from police' -l rate -x -d 'The rate: a code, four hexadecimal digits'
+complete -c abt -n '__fish_seen_subcommand_from police' -s h -l help -d 'Print help'
+complete -c abt -n '__fish_seen_subcommand_from shape' -l rate -x -d 'The rate: a code, four hexadecimal digits'
+complete -c abt -n '__fish_seen_subcommand_from shape' -s h -l help -d 'Print help'
+complete -c abt -n '__fish_seen_subcommand_from help' -a 'rate cell port run threads explain police shape help'

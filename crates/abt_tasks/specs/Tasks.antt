@@ -8,14 +8,16 @@ use Rattle.abt_perform.specs.Plans.{IsWithinLimits}
 use Rattle.abt_commands.specs.Carried.{IsDoneHere, IsRefusedHere, ReadsHere, IsUnopened}
 use Rattle.abt_explain.specs.Explained.{IsExplained, IsRefused}
 use Rattle.abt_explain.specs.declared.plan.ExplainPlan.{ExplainPlan}
+use Rattle.abt_parts.specs.Answered as parts
 use Rattle.abt_tasks.specs.Json.{TakesToSay, IsSaidHere, IsUnsaidHere}
 use Rattle.abt_tasks.specs.declared.task.Task.{Task}
-use Rattle.abt_tasks.specs.declared.task.Task.TheVariants.{Plan, Explain, Json}
+use Rattle.abt_tasks.specs.declared.task.Task.TheVariants.{Plan, Explain, Json, Parts}
 
 abbrev pub IsAllowed : Task → Type 0
 IsAllowed (Plan plan) = IsWithinLimits plan
 IsAllowed (Explain plan) = ⊤
 IsAllowed (Json plan) = ⊤
+IsAllowed (Parts plan) = parts.IsAllowedPlan plan
 
 -- the file whose scenario is to be explained
 abbrev pub file_of : ExplainPlan → Option Text
@@ -44,20 +46,23 @@ IsUnexplainedHere plan left old new errors_old errors_new = MatchOption (file_of
     (IsRefused left old new errors_old errors_new)
     (λ name. IsUnopened old new errors_old errors_new ⊎ IsRefusedOver old new errors_old errors_new)
 
--- what a task takes of the input that is there
+-- what a task takes of the input that is there; where lines are answered, whatever it likes
 abbrev pub TakesOf : Task → (old new : Option Text) → Type 0
 TakesOf (Plan plan) old new = ReadsHere plan old new
 TakesOf (Explain plan) old new = TakesToExplain plan old new
 TakesOf (Json plan) old new = TakesToSay plan old new
+TakesOf (Parts plan) old new = ⊤
 
 -- what the task prints went out, all of it
 abbrev pub IsCarriedOut : Task → (left old new : Option Text) → Type 0
 IsCarriedOut (Plan plan) left old new = IsDoneHere plan left old new
 IsCarriedOut (Explain plan) left old new = IsExplainedHere plan left old new
 IsCarriedOut (Json plan) left old new = IsSaidHere plan left old new
+IsCarriedOut (Parts plan) left old new = parts.IsAnswered plan left old new
 
 -- the task has a fault, which is told
 abbrev pub IsNotCarriedOut : Task → (left old new errors_old errors_new : Option Text) → Type 0
 IsNotCarriedOut (Plan plan) left old new errors_old errors_new = IsRefusedHere plan left old new errors_old errors_new
 IsNotCarriedOut (Explain plan) left old new errors_old errors_new = IsUnexplainedHere plan left old new errors_old errors_new
 IsNotCarriedOut (Json plan) left old new errors_old errors_new = IsUnsaidHere plan left old new errors_old errors_new
+IsNotCarriedOut (Parts plan) left old new errors_old errors_new = parts.IsRefused plan left old new errors_old errors_new

@@ -7,6 +7,7 @@ use crate::explaining::explain;
 use crate::json::say_as_json;
 use crate::task::Task;
 use abt_commands::carry_out;
+use abt_parts::perform_parts;
 use std::alloc::AllocGlobal;
 use std::io::{Read, Write};
 use std::rt::Files;
@@ -36,5 +37,6 @@ where
         Task::Plan(plan) => carry_out(rt, plan, input, out, errors),
         Task::Explain(plan) => explain(rt, plan, input, out, errors),
         Task::Json(plan) => say_as_json(rt, plan, input, out, errors),
+        Task::Parts(plan) => perform_parts(rt.alloc(), plan, input, out, errors),
     }
 }

@@ -1,6 +1,7 @@
 //! What the words of a command line ask for.
 use abt_explain::ExplainPlan;
 use abt_json::JsonPlan;
+use abt_parts::PartsPlan;
 use abt_perform::Plan;
 
 /// What to do, by the crate whose command asks for it.
@@ -12,4 +13,6 @@ pub enum Task {
     Explain(ExplainPlan),
     /// Say what a rate, a cell or a run is, as JSON.
     Json(JsonPlan),
+    /// Answer each line of the standard input by a policer or a shaper.
+    Parts(PartsPlan),
 }

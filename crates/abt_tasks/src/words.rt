@@ -28,7 +28,8 @@ pub fn task_words<'a>(alloc: Global, words: &'a [&'a str]) -> Result<Task, Words
 // The command line with the commands of all crates.
 fn whole_program<'a>(alloc: Global) -> Result<Command<'a>, AllocError> {
     let program = add_commands(alloc, program(alloc)?)?;
-    abt_explain::add_commands(alloc, program)
+    let program = abt_explain::add_commands(alloc, program)?;
+    abt_parts::add_commands(alloc, program)
 }
 
 fn task_of(alloc: Global, name: &str, found: &ArgMatches<'_>) -> Result<Task, WordsFault>
@@ -42,6 +43,9 @@ fn task_of(alloc: Global, name: &str, found: &ArgMatches<'_>) -> Result<Task, Wo
     }
     if let Some(plan) = abt_explain::plan_of(alloc, name, found)? {
         return Ok(Task::Explain(plan));
+    }
+    if let Some(plan) = abt_parts::plan_of(alloc, name, found)? {
+        return Ok(Task::Parts(plan));
     }
     no_task(alloc)
 }

@@ -1,0 +1,85 @@
+//! Lines of any reader, answered by what a plan asks for.
+ghost use Rattle.std.specs.Prelude.{◌≡◌, ◌⊎◌, OnOk, OnErr};
+ghost use Rattle.std.specs.Io.KnownBytes.{IsAtEnd, Keeps};
+ghost use Rattle.abt_lines.specs.Served.{IsServedPart};
+ghost use Rattle.abt_parts.specs.Answered.{IsAllowedPlan, IsAnswered, IsRefused, answers_to, fault_of_lines};
+
+use crate::plan::PartsPlan;
+use crate::police::PolicedLines;
+use crate::shape::ShapedLines;
+use abt_gcra::Policer;
+use abt_lines::{LinesFault, serve_lines};
+use abt_perform::{Fault, tell_fault};
+use abt_shaper::Shaper;
+use std::alloc::Global;
+use std::io::{Read, Write};
+
+/// Answers all lines of a reader, and gives the exit status: 0 where all answers went out to `writer`, also those that are faults of lines,
+/// and 1 where a line on `errors` tells why not. A line that can't be written there changes no status.
+///
+/// What a read of the input ends is answered, and the answers written, before the next read.
+pub fn perform_parts<R: Read, W: Write, E: Write>(
+    alloc: Global,
+    plan: &PartsPlan,
+    reader: &mut R,
+    writer: &mut W,
+    errors: &mut E,
+) -> u8
+    requires { IsAllowedPlan plan.now }
+    ensures status { (result ≡ 0) ⊎ (result ≡ 1) }
+    ensures end { result ≡ 0 → IsAtEnd (R.remaining reader.new) }
+    ensures ok { result ≡ 0 → IsAnswered plan.now (R.remaining reader.old) (W.contents writer.old) (W.contents writer.new) }
+    ensures quiet { result ≡ 0 → Keeps (E.contents errors.old) (E.contents errors.new) }
+    ensures err { result ≡ 1 → IsRefused plan.now (R.remaining reader.old) (W.contents writer.old) (W.contents writer.new)
+        (E.contents errors.old) (E.contents errors.new) }
+{
+    match answer_lines(alloc, plan, reader, writer) {
+        Ok(()) => 0,
+        Err(fault) => {
+            tell_fault(fault_of_lines(fault), errors);
+            1
+        }
+    }
+}
+
+// Answers all lines of a reader.
+fn answer_lines<R: Read, W: Write>(
+    alloc: Global,
+    plan: &PartsPlan,
+    reader: &mut R,
+    writer: &mut W,
+) -> Result<(), LinesFault>
+    requires { IsAllowedPlan plan.now }
+    ensures end { OnOk result (IsAtEnd (R.remaining reader.new)) }
+    ensures ok { OnOk result (IsAnswered plan.now (R.remaining reader.old) (W.contents writer.old) (W.contents writer.new)) }
+    ensures err { OnErr result (IsServedPart (answers_to plan.now) (R.remaining reader.old)
+        (W.contents writer.old) (W.contents writer.new)) }
+{
+    match *plan {
+        PartsPlan::Police { tau, rate } => {
+            let policer = Policer::new(tau);
+            let mut lines = PolicedLines {
+                policer,
+                held: rate,
+            };
+            serve_lines(alloc, &mut lines, reader, writer)
+        }
+        PartsPlan::Shape { rate } => {
+            let shaper = Shaper::new(0);
+            let mut lines = ShapedLines { shaper, rate };
+            serve_lines(alloc, &mut lines, reader, writer)
+        }
+    }
+}
+
+// What a fault of the lines is to the program.
+fn fault_of_lines(fault: LinesFault) -> Fault
+    ensures { result ≡ fault_of_lines fault }
+{
+    match fault {
+        LinesFault::Read => Fault::Read,
+        LinesFault::TooLong => Fault::TooLong,
+        LinesFault::Write => Fault::Write,
+        LinesFault::Memory => Fault::Memory,
+    }
+}

@@ -1,0 +1,11 @@
+//! What is asked for.
+use abt_rate::Rate;
+
+/// What answers the lines of the standard input.
+#[derive(Clone, Copy, Debug, PartialEq, Eq)]
+pub enum PartsPlan {
+    /// A policer that has taken no cell yet, of a tolerance in picoseconds, where this rate is held all the time.
+    Police { tau: u64, rate: Rate },
+    /// A shaper that may send at once, at this rate all the time.
+    Shape { rate: Rate },
+}
