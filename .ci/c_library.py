@@ -31,6 +31,7 @@ STATES = {
     "AbtSource": {"": "abt_source"},
     "AbtPort": {"": "abt_port"},
     "AbtConnection": {"": "abt_connection"},
+    "AbtTable": {"": "abt_table"},
 }
 # Limits of the header, and the constant of which crate each is.
 LIMITS = {
@@ -104,8 +105,18 @@ def fields_of(struct):
     for source in sorted((CRATE / "src").glob("*.rt")):
         found = re.search(r"#\[repr\(C\)\]\s*(?:#\[[^\n]*\]\s*)*pub struct " + struct + r" \{(.*?)\}", source.read_text(), re.S)
         if found:
-            return re.findall(r"pub (\w+): (\w+),", found[1])
+            return re.findall(r"pub (\w+): ([^,]+),", found[1])
     fail(f"no struct {struct}")
+
+
+def octets_of(kind):
+    """The octets of a field: of a number, an array or a record without gaps."""
+    array = re.fullmatch(r"\[(\w+); (\d+)\]", kind)
+    if array:
+        return int(array[2]) * octets_of(array[1])
+    if kind in PLAIN:
+        return int(kind[1:]) // 8
+    return sum(octets_of(inner) for _, inner in fields_of(kind))
 
 
 def check_records(header):
@@ -117,7 +128,7 @@ def check_records(header):
                 fail(f"{name}: no such struct in the header")
             words = re.search(r"uint64_t private_\[(\d+)\];", body[1])
             if words:
-                same = 8 * int(words[1]) == sum(int(kind[1:]) for _, kind in fields) // 8
+                same = 8 * int(words[1]) == octets_of(struct)
             else:
                 declared = re.findall(r"(\w+) (\w+);", re.sub(r"/\*.*?\*/", "", body[1]))
                 same = declared == [(PLAIN[kind], field) for field, kind in fields]

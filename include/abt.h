@@ -1,6 +1,6 @@
 /*
  * abt.h: proved parts for ATM block transfer: cell rates, RM cells and their check, the generic cell rate algorithm (GCRA), a policer, a
- * shaper, a source and a port. Link with libabt.a and nothing else.
+ * shaper, a source, a port, and a port with a table of its connections. Link with libabt.a and nothing else.
  *
  * What the calls share
  *
@@ -44,7 +44,7 @@ enum {
 
     ABT_PASS = 16,        /* the port passes the message on */
     ABT_REFUSE = 17,      /* the port refuses the request: it goes no further, and its no goes back */
-    ABT_UNKNOWN_VC = 18,  /* the port drops the message: it is another connection's */
+    ABT_UNKNOWN_VC = 18,  /* the port drops the message: it is another connection's, or of none in the table */
     ABT_STALE = 19,       /* the port drops the message: its number is below the newest */
     ABT_CONFLICT = 20,    /* the port drops the message: it isn't what the port decided under its number */
     ABT_FLOOR_ABOVE = 21, /* the port drops the request: its floor is above what is held */
@@ -80,7 +80,10 @@ enum {
     ABT_NOT_KEPT = 70,      /* the record wasn't kept, so the source doesn't ask */
     ABT_RECORD_SPACING = 71, /* no rate has the spacing of the record */
     ABT_BELOW_SUM = 72,      /* the capacity is below the sum of what is held */
-    ABT_CAPACITY_RANGE = 73  /* the capacity is above ABT_CAPACITY_MAX */
+    ABT_CAPACITY_RANGE = 73, /* the capacity is above ABT_CAPACITY_MAX */
+    ABT_KNOWN = 74,          /* the connection is in the table already */
+    ABT_FULL = 75,           /* the table has ABT_TABLE_PLACES connections */
+    ABT_DAMAGED = 76         /* the table isn't in order: its memory was written by something else */
 };
 
 /* ---- limits ---- */
@@ -278,6 +281,55 @@ static inline abt_outcome abt_port_total(const abt_port *port, uint64_t *total);
  * Answers ABT_OK, or ABT_NULL, ABT_NO_STATE. */
 static inline abt_outcome abt_connection_held(const abt_connection *connection, uint16_t *held);
 
+/* ---- a port with a table ----
+ *
+ * A port that finds the connection of a message itself. One state has the port and all of its connections, so what they hold adds up to the
+ * port's sum, call by call, whatever messages come. Connections are taken in once, and stay. A connection is found along a chain of those
+ * whose channels fall together: about one step where VPIs and VCIs differ as usual, and as many as there are connections at worst. */
+
+/* The most connections of a table. */
+#define ABT_TABLE_PLACES 1024
+
+typedef struct abt_table { uint64_t private_[3589]; } abt_table;
+
+/* Makes a state that of a port of a link of a capacity in units, of which nothing is held, and that has no connection, whatever it was
+ * before.
+ * Answers ABT_OK, or ABT_NULL, ABT_CAPACITY_RANGE. */
+static inline abt_outcome abt_table_init(abt_table *table, uint64_t capacity);
+
+/* Takes a connection in, which has asked for nothing.
+ * Answers ABT_OK, or ABT_NULL, ABT_NO_STATE, ABT_VPI_RANGE, ABT_KNOWN, ABT_FULL, ABT_DAMAGED. */
+static inline abt_outcome abt_table_add(abt_table *table, uint16_t vpi, uint16_t vci);
+
+/* Decides a request, as abt_port_request does, of the connection that has its VPI and VCI.
+ * Answers ABT_PASS, ABT_REFUSE, ABT_UNKNOWN_VC, ABT_STALE, ABT_CONFLICT, ABT_FLOOR_ABOVE, or ABT_NULL, ABT_NO_STATE, ABT_KIND (no request),
+ * ABT_VPI_RANGE, ABT_SEQ_ZERO, ABT_RATE_ORDER, ABT_DAMAGED. */
+static inline abt_outcome abt_table_request(abt_table *table, const abt_rm *rm, abt_rm *answer);
+
+/* Takes an answer, as abt_port_answer does, of the connection that has its VPI and VCI.
+ * Answers ABT_PASS, ABT_UNKNOWN_VC, ABT_STALE, ABT_CONFLICT, or ABT_NULL, ABT_NO_STATE, ABT_KIND (no answer), ABT_VPI_RANGE, ABT_SEQ_ZERO,
+ * ABT_RATE_ORDER, ABT_DAMAGED. */
+static inline abt_outcome abt_table_answer(abt_table *table, const abt_rm *rm);
+
+/* Takes an RM cell that came to the port, of ABT_CELL_LENGTH octets: a request that came forward, or an answer that came backward. After
+ * ABT_PASS the cell that goes on is in sent, and after ABT_REFUSE the no that goes back, of as many octets; after any other outcome nothing
+ * is, and the cell goes nowhere. Cell and sent have to be different memory.
+ * Answers as abt_table_request and abt_table_answer do, or ABT_NULL, ABT_NO_STATE, ABT_LENGTH, ABT_NOT_RM, ABT_CRC, ABT_PROTOCOL,
+ * ABT_MAINTENANCE, ABT_ELASTIC, ABT_DIRECTION, ABT_SEQ_ZERO, ABT_RATE_ORDER, ABT_DAMAGED. */
+static inline abt_outcome abt_table_cell(abt_table *table, const uint8_t *cell, size_t length, uint8_t *sent, size_t room);
+
+/* Gives the link another capacity. What was granted stays.
+ * Answers ABT_OK, or ABT_NULL, ABT_NO_STATE, ABT_BELOW_SUM, ABT_CAPACITY_RANGE. */
+static inline abt_outcome abt_table_set_capacity(abt_table *table, uint64_t capacity);
+
+/* Gives the sum of what the connections hold, in units.
+ * Answers ABT_OK, or ABT_NULL, ABT_NO_STATE. */
+static inline abt_outcome abt_table_total(const abt_table *table, uint64_t *total);
+
+/* Gives the canonical code of the rate that a connection holds, at which a policer holds its cells.
+ * Answers ABT_OK, ABT_UNKNOWN_VC, or ABT_NULL, ABT_NO_STATE, ABT_VPI_RANGE, ABT_DAMAGED. */
+static inline abt_outcome abt_table_held(const abt_table *table, uint16_t vpi, uint16_t vci, uint16_t *held);
+
 /* ---- names ---- */
 
 /* The name of an outcome or a fault, for messages. */
@@ -315,6 +367,14 @@ abt_outcome abt_raw_port_answer(abt_port *port, abt_connection *connection, cons
 abt_outcome abt_raw_port_set_capacity(abt_port *port, uint64_t capacity);
 abt_outcome abt_raw_port_total(const abt_port *port, uint64_t *total);
 abt_outcome abt_raw_connection_held(const abt_connection *connection, uint16_t *held);
+abt_outcome abt_raw_table_init(abt_table *table, uint64_t capacity);
+abt_outcome abt_raw_table_add(abt_table *table, uint16_t vpi, uint16_t vci);
+abt_outcome abt_raw_table_request(abt_table *table, const abt_rm *rm, abt_rm *answer);
+abt_outcome abt_raw_table_answer(abt_table *table, const abt_rm *rm);
+abt_outcome abt_raw_table_cell(abt_table *table, const uint8_t *cell, size_t length, uint8_t *sent, size_t room);
+abt_outcome abt_raw_table_set_capacity(abt_table *table, uint64_t capacity);
+abt_outcome abt_raw_table_total(const abt_table *table, uint64_t *total);
+abt_outcome abt_raw_table_held(const abt_table *table, uint16_t vpi, uint16_t vci, uint16_t *held);
 
 static inline abt_outcome abt_rate_at_least(uint64_t units, uint16_t *code)
 {
@@ -456,6 +516,46 @@ static inline abt_outcome abt_connection_held(const abt_connection *connection, 
     return connection && held ? abt_raw_connection_held(connection, held) : (abt_outcome)ABT_NULL;
 }
 
+static inline abt_outcome abt_table_init(abt_table *table, uint64_t capacity)
+{
+    return table ? abt_raw_table_init(table, capacity) : (abt_outcome)ABT_NULL;
+}
+
+static inline abt_outcome abt_table_add(abt_table *table, uint16_t vpi, uint16_t vci)
+{
+    return table ? abt_raw_table_add(table, vpi, vci) : (abt_outcome)ABT_NULL;
+}
+
+static inline abt_outcome abt_table_request(abt_table *table, const abt_rm *rm, abt_rm *answer)
+{
+    return table && rm && answer ? abt_raw_table_request(table, rm, answer) : (abt_outcome)ABT_NULL;
+}
+
+static inline abt_outcome abt_table_answer(abt_table *table, const abt_rm *rm)
+{
+    return table && rm ? abt_raw_table_answer(table, rm) : (abt_outcome)ABT_NULL;
+}
+
+static inline abt_outcome abt_table_cell(abt_table *table, const uint8_t *cell, size_t length, uint8_t *sent, size_t room)
+{
+    return table && cell && sent ? abt_raw_table_cell(table, cell, length, sent, room) : (abt_outcome)ABT_NULL;
+}
+
+static inline abt_outcome abt_table_set_capacity(abt_table *table, uint64_t capacity)
+{
+    return table ? abt_raw_table_set_capacity(table, capacity) : (abt_outcome)ABT_NULL;
+}
+
+static inline abt_outcome abt_table_total(const abt_table *table, uint64_t *total)
+{
+    return table && total ? abt_raw_table_total(table, total) : (abt_outcome)ABT_NULL;
+}
+
+static inline abt_outcome abt_table_held(const abt_table *table, uint16_t vpi, uint16_t vci, uint16_t *held)
+{
+    return table && held ? abt_raw_table_held(table, vpi, vci, held) : (abt_outcome)ABT_NULL;
+}
+
 static inline const char *abt_outcome_name(abt_outcome outcome)
 {
     switch (outcome) {
@@ -504,6 +604,9 @@ static inline const char *abt_outcome_name(abt_outcome outcome)
     case ABT_FLOOR_ABOVE: return "FloorAbove";
     case ABT_BELOW_SUM: return "BelowSum";
     case ABT_CAPACITY_RANGE: return "CapacityRange";
+    case ABT_KNOWN: return "Known";
+    case ABT_FULL: return "Full";
+    case ABT_DAMAGED: return "Damaged";
     default: return "unknown";
     }
 }

@@ -18,6 +18,10 @@ static const uint64_t tau = 2400000; /* some 40 cells */
 static uint64_t at[CALLS], spacings[CALLS], sink;
 static uint16_t codes[CALLS];
 static uint8_t payloads[CALLS][48];
+static abt_rm requests[CALLS];
+static struct plain_rm plain_requests[CALLS];
+static abt_table filled;
+static struct plain_port plain_filled;
 
 static double now(void)
 {
@@ -44,6 +48,67 @@ static void draw_all(void)
         for (int k = 0; k < 48; k++)
             payloads[i][k] = (uint8_t)(seed >> (k % 8 * 8)) ^ (uint8_t)k;
     }
+}
+
+/* A port of 1,024 connections, four VPIs of 256 VCIs, that have asked for nothing; and requests of them in no order, each with a number of its
+ * own, for rates of which about half fit. */
+static void fill_port(void)
+{
+    uint64_t seed = 11;
+    abt_table_init(&filled, UINT64_C(1) << 31);
+    plain_filled.capacity = UINT64_C(1) << 31;
+    for (int i = 0; i < ABT_TABLE_PLACES; i++) {
+        abt_table_add(&filled, (uint16_t)(i / 256), (uint16_t)(32 + i % 256));
+        plain_add(&plain_filled, (uint16_t)(i / 256), (uint16_t)(32 + i % 256));
+    }
+    for (int i = 0; i < CALLS; i++) {
+        seed ^= seed << 13;
+        seed ^= seed >> 7;
+        seed ^= seed << 17;
+        uint32_t which = seed >> 30 & 1023;
+        requests[i] = (abt_rm){ABT_REQUEST, (uint32_t)i + 1, (uint16_t)(which / 256), (uint16_t)(32 + which % 256), 0, (uint16_t)(0x5800 | (seed >> 50 & 0x3ff))};
+        plain_requests[i] = (struct plain_rm){ABT_REQUEST, requests[i].seq, requests[i].vpi, requests[i].vci, 0, requests[i].ask};
+    }
+}
+
+static void library_request(void)
+{
+    static abt_table table;
+    abt_rm answer;
+    table = filled;
+    for (int i = 0; i < CALLS; i++)
+        sink += abt_table_request(&table, &requests[i], &answer);
+}
+
+static void plain_c_request(void)
+{
+    static struct plain_port port;
+    struct plain_rm answer;
+    port = plain_filled;
+    for (int i = 0; i < CALLS; i++)
+        sink += (uint64_t)plain_request(&port, &plain_requests[i], &answer);
+}
+
+/* Both decide alike, and both words come about often. */
+static void compare_ports(void)
+{
+    static abt_table table;
+    static struct plain_port port;
+    abt_rm answer;
+    struct plain_rm plain_answer;
+    int times[3] = {0, 0, 0};
+    table = filled;
+    port = plain_filled;
+    for (int i = 0; i < CALLS; i++) {
+        abt_outcome outcome = abt_table_request(&table, &requests[i], &answer);
+        int plain = plain_request(&port, &plain_requests[i], &plain_answer);
+        if (plain != (outcome == ABT_PASS ? 1 : outcome == ABT_REFUSE ? 2 : 0)) {
+            fprintf(stderr, "the ports differ at request %d\n", i);
+            exit(1);
+        }
+        times[plain]++;
+    }
+    printf("requests: %d pass, %d refused, %d dropped\n", times[1], times[2], times[0]);
 }
 
 static void library_check(void)
@@ -137,7 +202,8 @@ static const struct row {
     {"abt_bucket_check", library_bucket},    {"abt_policer_arrive", library_arrive},
     {"plain policer", plain_c_arrive},       {"abt_shaper_emit", library_emit},
     {"plain shaper", plain_c_emit},          {"abt_crc10", library_crc10},
-    {"plain CRC-10 by tables", plain_c_crc10},
+    {"plain CRC-10 by tables", plain_c_crc10}, {"abt_table_request", library_request},
+    {"plain port, open addresses", plain_c_request},
 #ifdef HAS_RTE_METER
     {"rte_meter srTCM, color blind", rte_srtcm},
 #endif
@@ -151,6 +217,8 @@ int main(int count, char **words)
     double fastest[ROWS];
     draw_all();
     plain_crc10_tables();
+    fill_port();
+    compare_ports();
     for (int i = 0; i < ROWS; i++)
         fastest[i] = 1e18;
     for (int round = 0; round < rounds; round++)

@@ -1,1 +1,2 @@
 mod Spacings
+mod TableLemmas

@@ -3,3 +3,5 @@ pub mod States
 pub mod Records
 pub mod Sources
 pub mod Ports
+pub mod Tables
+pub mod TableCells

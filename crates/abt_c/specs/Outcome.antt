@@ -133,3 +133,13 @@ below_sum = 72
 
 abbrev pub capacity_range : ℕ
 capacity_range = 73
+
+-- of a port's table: the connection is known, no row is left, or the table isn't in order
+abbrev pub known : ℕ
+known = 74
+
+abbrev pub full : ℕ
+full = 75
+
+abbrev pub damaged : ℕ
+damaged = 76

@@ -19,3 +19,7 @@ mod source;
 mod source_state;
 mod spacing;
 mod state;
+mod table;
+mod table_cell;
+mod table_message;
+mod table_state;

@@ -69,6 +69,12 @@ pub const BELOW_SUM: u32 = 72;
 
 pub const CAPACITY_RANGE: u32 = 73;
 
+pub const KNOWN: u32 = 74;
+
+pub const FULL: u32 = 75;
+
+pub const DAMAGED: u32 = 76;
+
 /// The number of a verdict.
 pub fn of_verdict(verdict: Verdict) -> u32
     ensures value { result ≡ verdict_number verdict }

@@ -14,7 +14,7 @@ use crate::outcome::{
     self, BELOW_SUM, CAPACITY_RANGE, DONE, NO_STATE, PASS, RATE_ORDER, REFUSE, SEQ_ZERO, VPI_RANGE,
     WRONG_KIND,
 };
-use crate::port_state::{AbtConnection, AbtPort, CONNECTION_KIND, PORT_KIND};
+use crate::port_state::{AbtConnection, AbtPort, PORT_KIND};
 use crate::record::{AbtRm, Lacks};
 use abt_cell::{Rm, Vc};
 use abt_node::{Back, DropCause, Onward};
@@ -53,15 +53,7 @@ pub extern "C" fn abt_raw_connection_init(connection: &mut AbtConnection, vpi: u
     let Some(vc) = Vc::new(vpi, vci) else {
         return VPI_RANGE;
     };
-    *connection = AbtConnection {
-        kind: CONNECTION_KIND,
-        newest: 0,
-        is_open: 0,
-        vpi: vc.vpi(),
-        vci: vc.vci(),
-        floor: 0,
-        ask: 0,
-    };
+    *connection = AbtConnection::first(vc);
     DONE
 }
 

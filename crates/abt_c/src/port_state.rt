@@ -2,7 +2,7 @@
 ghost use Rattle.std.specs.Prelude.{◌≡◌, ◌≢◌, ◌+◌, ◌-◌, ◌<◌, ◌≤◌, ◌^◌, ◌↔◌, IsTrue};
 ghost use Rattle.abt_rate.specs.Rate.{units_of};
 ghost use Rattle.abt_cell.specs.Message.{Reply};
-ghost use Rattle.abt_node.specs.Reservation.{answer_of, decided_as, no_to, pass_or_refuse};
+ghost use Rattle.abt_node.specs.Reservation.{first_reservation, answer_of, decided_as, no_to, pass_or_refuse};
 ghost use Rattle.abt_c.specs.Ports.{IsPort, IsConnection, IsCounted, port_kind, connection_kind, channel_in, reservation_in, held_in, port_after, decision_at};
 
 use abt_cell::{Answer, Request, Vc};
@@ -62,6 +62,23 @@ impl AbtPort {
 }
 
 impl AbtConnection {
+    /// The state of a connection that asked for nothing yet.
+    pub fn first(vc: Vc) -> AbtConnection
+        ensures state { IsConnection result }
+        ensures value { reservation_in result ≡ first_reservation }
+        ensures vc { channel_in result ≡ vc }
+    {
+        AbtConnection {
+            kind: CONNECTION_KIND,
+            newest: 0,
+            is_open: 0,
+            vpi: vc.vpi(),
+            vci: vc.vci(),
+            floor: 0,
+            ask: 0,
+        }
+    }
+
     /// Whether the state is one of a connection.
     pub fn is_connection(&self) -> bool
         ensures { IsTrue result ↔ IsConnection self.now }
