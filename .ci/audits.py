@@ -1,0 +1,196 @@
+"""Audits journals: the run of docs/JOURNALS.md, those that the slow model writes of each sample of scenarios/, and the same with one entry wrong.
+
+Journals that the model writes are woven, also with the lines of different actors mixed anew and spread over two files. With one reply or outcome
+changed no list of events is woven from them. A step of a port that comes twice, is missing or stands before the one before it is a fault of the text, at
+a line that is known. What is told of each fault of a text is compared too.
+
+usage: audits.py PROGRAM..
+"""
+import json
+import random
+import re
+import subprocess
+import sys
+import tempfile
+from pathlib import Path
+
+ROOT = Path(__file__).resolve().parent.parent
+sys.path.insert(0, str(ROOT / "scenarios" / "model"))
+from journals import journals  # noqa: E402
+from reading import Fault  # noqa: E402
+
+WHOLE = (0, "woven\nsafe\n", "")
+END = '{"end":true}'
+
+
+def worked_run():
+    """The lines of the run that docs/JOURNALS.md shows."""
+    text = (ROOT / "docs" / "JOURNALS.md").read_text()
+    found = re.search(r"^```\n(\{\"net\".*?)^```$", text, re.M | re.S)
+    if not found:
+        raise SystemExit("audits: the run of docs/JOURNALS.md isn't found")
+    return found[1].splitlines()
+
+
+def samples():
+    """The journals that the events of each sample leave, by its name."""
+    for sample in sorted((ROOT / "scenarios").glob("*.toml")):
+        try:
+            lines = journals(sample.read_bytes())
+        except Fault:
+            continue
+        yield sample.name, lines
+
+
+class Auditor:
+    def __init__(self, program, folder):
+        self.program, self.folder = program, Path(folder)
+        self.runs, self.found = 0, []
+
+    def audit(self, *texts):
+        """What the program answers of these texts, each in a file of its own."""
+        names = []
+        for number, octets in enumerate(texts):
+            (self.folder / str(number)).write_bytes(octets)
+            names.append(str(number))
+        self.runs += 1
+        done = subprocess.run([self.program, "audit", *names], cwd=self.folder, capture_output=True, timeout=60)
+        return done.returncode, done.stdout.decode(), done.stderr.decode()
+
+    def wants(self, what, answer, *texts):
+        if (given := self.audit(*texts)) != answer:
+            self.found.append(f"{what}: {given} in place of {answer}")
+
+    def wants_unwoven(self, what, text):
+        status, out, told = self.audit(text)
+        if status != 1 or out or not told.startswith(("fault: Mismatch\n", "fault: NoOrder\n")):
+            self.found.append(f"{what}: {(status, out, told)} in place of a fault of weaving")
+
+
+def text_of(lines):
+    return "".join(one + "\n" for one in lines).encode()
+
+
+def actor(one):
+    read = json.loads(one)
+    return ("port", read["port"]) if "port" in read else ("source", read["source"])
+
+
+def mixed(lines, seed):
+    """The same journals as two texts, with the actors in another order."""
+    draw = random.Random(seed)
+    queues = {}
+    for one in lines[1:-1]:
+        queues.setdefault(actor(one), []).append(one)
+    texts = ([lines[0]], [])
+    where = {who: draw.randrange(2) for who in queues}
+    while queues:
+        who = draw.choice(sorted(queues))
+        texts[where[who]].append(queues[who].pop(0))
+        if not queues[who]:
+            del queues[who]
+    return [text_of([*text, END]) for text in texts]
+
+
+def changed(one):
+    """The entry with another reply or outcome, or None."""
+    read = json.loads(one)
+    if "reply" in read:
+        word = "arrived" if "arrive" in read["input"] else None
+        other = {"refused": "BelowSum"} if "capacity" in read["input"] else {word: "NoRate"} if word else {"dropped": "Stale"}
+        read["reply"] = "passed" if read["reply"] == other and not word else {word: "TooEarly"} if read["reply"] == other else other
+        if "capacity" in read["input"] and read["reply"] == "passed":
+            read["reply"] = "set"
+    elif "outcome" in read:
+        read["outcome"] = "crashed" if read["outcome"] != "crashed" else "started"
+    else:
+        return None
+    return json.dumps(read, separators=(",", ":"))
+
+
+def try_sample(auditor, name, lines):
+    auditor.wants(name, WHOLE, text_of(lines))
+    auditor.wants(f"{name}, mixed", WHOLE, *mixed(lines, name))
+    for at in range(1, len(lines) - 1):
+        if other := changed(lines[at]):
+            auditor.wants_unwoven(f"{name}, line {at + 1} changed", text_of([*lines[:at], other, *lines[at + 1 :]]))
+        if '"port"' not in lines[at]:
+            continue
+        place = lambda line: (1, "", f"fault: 0:{line}: Place\n")
+        auditor.wants(f"{name}, line {at + 1} twice", place(at + 2), text_of([*lines[: at + 1], *lines[at:]]))
+        later = [k for k in range(at + 1, len(lines) - 1) if actor(lines[k]) == actor(lines[at])]
+        if later:
+            auditor.wants(f"{name}, line {at + 1} missing", place(later[0]), text_of([*lines[:at], *lines[at + 1 :]]))
+            swapped = list(lines)
+            swapped[at], swapped[later[0]] = lines[later[0]], lines[at]
+            auditor.wants(f"{name}, line {at + 1} later", place(at + 1), text_of(swapped))
+
+
+def try_texts(auditor, lines):
+    """Each fault of a text."""
+    net, *entries, end = lines
+    step = next(one for one in entries if '"port"' in one)
+    turned = lambda one, **members: json.dumps({**json.loads(one), **members}, separators=(",", ":"))
+    far = json.dumps({"net": {**json.loads(net)["net"], "ports": []}}, separators=(",", ":"))
+    rows = [
+        (b"", "1: NoEnd"),
+        (text_of([net, *entries]), f"{len(lines)}: NoEnd"),
+        (text_of([end]), "1: NoNet"),
+        (text_of([*entries, end]), "1: NoNet"),
+        (text_of([net, net, end]), "2: SecondNet"),
+        (text_of([far, end]), "1: Net NoPort 0"),
+        (text_of([net, end, step]), "3: Behind"),
+        (text_of([net, end])[:-1], "2: Cut"),
+        (text_of([net]) + b'{"end"', "2: Cut"),
+        (text_of([net]) + b"\xff\n", "2: NotUtf8"),
+        (text_of([net, "{]"]), "2: Json"),
+        (text_of([net, ""]), "2: Json"),
+        (text_of([net, "{}"]), "2: Kind"),
+        (text_of([net, '{"end":true,"end":true}']), "2: Twice"),
+        (text_of([net, '{"end":1}']), "2: Member end"),
+        (text_of([net, turned(step, place="0")]), "2: Member place"),
+        (text_of([net, turned(step, port=1)]), "2: NoPort"),
+        (text_of([net, turned(step, place=1)]), "2: Place"),
+        (text_of([net, '{"source":1,"sent":0}']), "2: NoSource"),
+        (text_of([net, turned(step, input={"request": "00"})]), "2: hex"),
+        (text_of([net, turned(step, input={"request": "00" * 52})]), "2: NotRm"),
+        (text_of([net]) + b" " * 16777216 + b"\n", "2: TooLong"),
+        (text_of([net]) + b" " * 16777216, "2: TooLong"),
+        (text_of([net]) + b" " * 16777215, "2: Cut"),
+    ]
+    for octets, told in rows:
+        auditor.wants(f"a text that is {told}", (1, "", f"fault: 0:{told}\n"), octets)
+    auditor.wants("a second text without its end", (1, "", "fault: 1:1: NoEnd\n"), text_of(lines), b"")
+    auditor.wants("a second text with a net", (1, "", "fault: 1:1: SecondNet\n"), text_of(lines), text_of([net, end]))
+
+
+def try_other_ways(auditor, lines):
+    """Files that aren't there, and the standard input."""
+    done = subprocess.run([auditor.program, "audit"], input=text_of(lines), capture_output=True, timeout=60)
+    if (done.returncode, done.stdout) != (0, b"woven\nsafe\n"):
+        auditor.found.append(f"the standard input: {done}")
+    done = subprocess.run([auditor.program, "audit"], input=text_of(lines[:-1]), capture_output=True, timeout=60)
+    if (done.returncode, done.stderr) != (1, f"fault: -:{len(lines)}: NoEnd\n".encode()):
+        auditor.found.append(f"the standard input without an end: {done}")
+    done = subprocess.run([auditor.program, "audit", "0", "none"], cwd=auditor.folder, capture_output=True, timeout=60)
+    if (done.returncode, done.stdout, done.stderr) != (1, b"", b"fault: open\n"):
+        auditor.found.append(f"a file that isn't there: {done}")
+
+
+def main(program):
+    with tempfile.TemporaryDirectory() as folder:
+        auditor = Auditor(Path(program).resolve(), folder)
+        worked = worked_run()
+        every = [("docs/JOURNALS.md", worked), *samples()]
+        for name, lines in every:
+            try_sample(auditor, name, lines)
+        try_texts(auditor, worked)
+        try_other_ways(auditor, worked)
+    for difference in auditor.found:
+        print(f"audits: {difference}")
+    print(f"audits: {len(every)} runs, {auditor.runs} audits, {len(auditor.found)} differences")
+    return not auditor.found
+
+
+if __name__ == "__main__":
+    sys.exit(0 if all([main(program) for program in sys.argv[1:]]) else 1)

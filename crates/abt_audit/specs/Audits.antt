@@ -1,0 +1,56 @@
+-- What an audit shows (docs/JOURNALS.md, "Audits").
+use Rattle.std.specs.Prelude.{◌≡◌, ◌⊎◌, ℕ, ◌+◌, true, List, [], ◌∷◌, map, Option, Some}
+use Rattle.abt_text.specs.Text.{Text}
+use Rattle.abt_net.specs.Topology.{Topology}
+use Rattle.abt_model.specs.declared.event.Event.{Event}
+use Rattle.abt_trace.specs.Traces.{IsTrace}
+use Rattle.abt_woven.specs.Stuck.{Journaled}
+use Rattle.abt_woven.specs.Woven.{IsWoven}
+use Rattle.abt_journal_text.specs.Books.{Told, blank, journal_of}
+use Rattle.abt_journal_text.specs.Texts.{IsRead, IsUnread}
+use Rattle.abt_journal_text.specs.declared.fault.TextFault.{TextFault}
+use Rattle.abt_audit.specs.declared.auditing.Audited.{Audited}
+
+-- the texts that readers have left are read one after the other, the first of this number
+abbrev pub AreRead : ℕ → Told → List (Option Text) → Told → Type 0
+AreRead number told [] after = after ≡ told
+AreRead number told (left ∷ more) after = (next : Told) × IsRead number told next left × AreRead (number + 1) next more after
+
+-- some of them are read, and the next one isn't
+abbrev pub IsUnreadAmong : ℕ → Told → List (Option Text) → TextFault → Type 0
+IsUnreadAmong number told [] fault = ⊥
+IsUnreadAmong number told (left ∷ more) fault =
+    IsUnread number told fault left ⊎ ((next : Told) × IsRead number told next left × IsUnreadAmong (number + 1) next more fault)
+
+-- the journals that were told
+abbrev pub journals_of : Told → Journaled
+journals_of told = record { ports = told.ports; sources = map journal_of told.sources }
+
+-- These are the events, with their trace, which is safe.
+pub record IsVerdict (net : Topology) (events : List Event) (audited : Audited) : Type 0 where
+  pub are_events : audited.events ≡ events
+  pub is_trace : IsTrace net events audited.trace
+  pub is_safe : audited.trace.safe ≡ true
+
+-- The events are just these journals, and the trace is that of these events, and safe.
+pub record IsAudited (net : Topology) (journals : Journaled) (audited : Audited) : Type 0 where
+  pub are_woven : IsWoven net journals.ports journals.sources audited.events
+  pub is_trace : IsTrace net audited.events audited.trace
+  pub is_safe : audited.trace.safe ≡ true
+
+-- What was told is a net and journals that are audited.
+pub record IsSafelyTold (told : Told) : Type 0 where
+  pub net : Topology
+  pub net_told : told.net ≡ Some net
+  pub audited : Audited
+  pub is_audited : IsAudited net (journals_of told) audited
+
+-- The texts that readers have left are read, and so is what they tell.
+pub record IsReadAs (lefts : List (Option Text)) (so : Told → Type 0) : Type 0 where
+  pub told : Told
+  pub read : AreRead 1 blank lefts told
+  pub is : so told
+
+-- The texts that readers have left are read, and tell a net and journals that are audited.
+abbrev pub IsShown : List (Option Text) → Type 0
+IsShown lefts = IsReadAs lefts IsSafelyTold

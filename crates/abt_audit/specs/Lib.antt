@@ -1,0 +1,4 @@
+pub mod Audits
+pub mod Names
+pub mod Stuck
+pub mod Performing

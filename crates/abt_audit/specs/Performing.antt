@@ -1,0 +1,79 @@
+-- What `abt audit` leaves, by its exit status.
+use Rattle.std.specs.Prelude.{◌≡◌, ◌⊎◌, List, None, Option, String, codes}
+use Rattle.std.specs.declared.alloc.Global.{Global}
+use Rattle.abt_weave.specs.Faults.{IsWeaveFault, SaysNoneIsWoven}
+use Rattle.std.specs.Io.KnownBytes.{Appends, Keeps}
+use Rattle.abt_text.specs.Text.{Text, ◌⋅◌, newline}
+use Rattle.abt_text.specs.Streams.{AppendsPrefix}
+use Rattle.abt_weave.specs.declared.fault.WeaveFault.{WeaveFault}
+use Rattle.abt_weave.specs.declared.fault.WeaveFault.TheVariants as weave
+use Rattle.abt_journal_text.specs.Books.{Told, IsToldRun, blank}
+use Rattle.abt_journal_text.specs.Entering.{IsOwn}
+use Rattle.abt_journal_text.specs.declared.fault.TextFault.{TextFault}
+use Rattle.abt_journal_text.specs.declared.run.Run.{Run}
+use Rattle.abt_perform.specs.Names.{fault_line}
+use Rattle.abt_perform.specs.Plans.{Tells}
+use Rattle.abt_perform.specs.declared.fault.Fault as program
+use Rattle.abt_perform.specs.declared.fault.Fault.TheVariants as program_fault
+use Rattle.abt_audit.specs.Audits.{IsReadAs, IsUnreadAmong, IsShown, journals_of}
+use Rattle.abt_audit.specs.Names.{text_fault_line}
+use Rattle.abt_audit.specs.Stuck.{stuck_lines, stuck_of}
+use Rattle.abt_audit.specs.declared.fault.AuditFault.{AuditFault}
+use Rattle.abt_audit.specs.declared.fault.AuditFault.TheVariants as fault
+
+-- what goes out where an audit shows all
+abbrev pub shown_text : Text
+shown_text = codes "woven" ⋅ newline ⋅ codes "safe" ⋅ newline
+
+-- The journals that were told aren't woven, and these are the lines of the entries at which they are stuck.
+pub record IsStuckRun (names : List (String Global)) (told : Told) (why : WeaveFault) (lines : Text) : Type 0 where
+  pub run : Run
+  pub is_run : IsToldRun told run
+  pub is_fault : IsWeaveFault run.net (journals_of told) why
+  pub none : SaysNoneIsWoven run.net (journals_of told) why
+  pub are : lines ≡ stuck_lines names run (stuck_of why)
+
+-- why what was told isn't audited
+abbrev pub IsNoRun : List (String Global) → Told → AuditFault → Type 0
+IsNoRun names told fault.Nothing = told.net ≡ None
+IsNoRun names told (fault.Stuck why lines) = IsStuckRun names told why lines.items
+IsNoRun names told fault.Memory = Unit {0}
+IsNoRun names told other = ⊥
+
+-- a text isn't read, or there was something else that kept it from being read
+abbrev pub EndsReading : List (Option Text) → AuditFault → Type 0
+EndsReading lefts why = (of_text : TextFault) × (why ≡ fault.Text of_text) × (IsOwn of_text.cause ⊎ IsUnreadAmong 1 blank lefts of_text)
+
+-- what a fault says of the texts that readers have left, and what went out: a text isn't read; what they tell isn't audited; memory was
+-- refused; or all is audited, and not all could be written
+abbrev pub EndsBy : List (String Global) → List (Option Text) → AuditFault → (old new : Option Text) → Type 0
+EndsBy names lefts why old new =
+    (EndsReading lefts why × Keeps old new)
+    ⊎ (IsReadAs lefts (λ told. IsNoRun names told why) × Keeps old new)
+    ⊎ ((why ≡ fault.Memory) × Keeps old new)
+    ⊎ ((why ≡ fault.Write) × IsShown lefts × AppendsPrefix old new shown_text)
+
+-- what a fault of weaving is to the program
+abbrev pub weave_fault : WeaveFault → program.Fault
+weave_fault (weave.Mismatch actor place) = program_fault.Mismatch
+weave_fault (weave.NoOrder stuck) = program_fault.NoOrder
+weave_fault weave.Memory = program_fault.Memory
+
+-- what is told of a fault: of entries that are stuck their lines
+abbrev pub fault_text : List (String Global) → AuditFault → Text
+fault_text names (fault.Text why) = text_fault_line names why
+fault_text names fault.Nothing = codes "fault: Nothing" ⋅ newline
+fault_text names (fault.Stuck why lines) = fault_line (weave_fault why) ⋅ lines.items
+fault_text names fault.Write = fault_line program_fault.Write
+fault_text names fault.Memory = fault_line program_fault.Memory
+
+-- An audit that doesn't show all: why, what went out, and what was told, if there was memory for it.
+pub record IsNotShown (names : List (String Global)) (lefts : List (Option Text)) (old new errors_old errors_new : Option Text) : Type 0 where
+  pub fault : AuditFault
+  pub ends : EndsBy names lefts fault old new
+  pub told : Tells (fault_text names fault) errors_old errors_new ⊎ Tells (fault_line program_fault.Memory) errors_old errors_new
+
+-- An audit that shows all.
+pub record IsShownWhole (lefts : List (Option Text)) (old new : Option Text) : Type 0 where
+  pub shown : IsShown lefts
+  pub written : Appends old new shown_text

@@ -1,0 +1,45 @@
+//! The journals of a run, judged.
+ghost use Rattle.std.specs.Prelude.{◌≡◌, IfOk, IfErr, length};
+ghost use Rattle.abt_weave.specs.Faults.{IsWeaveFault, SaysNoneIsWoven};
+ghost use Rattle.abt_audit.specs.Audits.{IsAudited, IsVerdict};
+
+use abt_journal_text::Run;
+use abt_list::Sequence;
+use abt_model::Event;
+use abt_net::Net;
+use abt_trace::Trace;
+use abt_weave::{WeaveFault, weave};
+use abt_world::run;
+use std::alloc::{AllocError, Global};
+
+/// The one list of events that journals are, and its trace.
+#[derive(Debug, Drop)]
+pub struct Audited {
+    /// The events, in an order in which they can have happened.
+    pub events: Sequence<Event>,
+    /// What they answer, and what they leave.
+    pub trace: Trace,
+}
+
+/// Weaves the journals of a run into events, and runs these.
+///
+/// # Errors
+/// As [`weave`] has them; also [`WeaveFault::Memory`] where memory is refused for the trace.
+pub fn audit(alloc: Global, told: &Run) -> Result<Audited, WeaveFault>
+    requires ports { length told.now.journals ≡ length told.now.net.capacities }
+    requires sources { length told.now.sources.items ≡ length told.now.net.conns }
+    ensures ok { IfOk result (IsAudited told.now.net (record { ports = told.now.journals; sources = told.now.sources.items })) }
+    ensures err { IfErr result (IsWeaveFault told.now.net (record { ports = told.now.journals; sources = told.now.sources.items })) }
+    ensures none { IfErr result (SaysNoneIsWoven told.now.net (record { ports = told.now.journals; sources = told.now.sources.items })) }
+{
+    let events = weave(alloc, &told.net, &told.journals, told.sources.as_slice())?;
+    Ok(audit_events(alloc, &told.net, events)?)
+}
+
+// Runs events, and keeps them beside their trace.
+fn audit_events(alloc: Global, net: &Net, events: Sequence<Event>) -> Result<Audited, AllocError>
+    ensures { IfOk result (IsVerdict net.now events) }
+{
+    let trace = run(alloc, net, events.as_slice())?;
+    Ok(Audited { events, trace })
+}

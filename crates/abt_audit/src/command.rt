@@ -1,0 +1,57 @@
+//! The words of `abt audit`.
+use crate::plan::AuditPlan;
+use abt_perform::WordsFault;
+use clap::{Arg, ArgAction, ArgMatches, Command};
+use std::alloc::{AllocError, Global};
+
+// The files of `abt audit`.
+const FILES: &str = "FILES";
+
+/// Adds `audit` to the commands of a program.
+pub fn add_commands<'a>(alloc: Global, program: Command<'a>) -> Result<Command<'a>, AllocError> {
+    program.subcommand(audit_command(alloc)?)
+}
+
+fn audit_command<'a>(alloc: Global) -> Result<Command<'a>, AllocError> {
+    let files = Arg::new(alloc, FILES)
+        .value_name("FILE")
+        .action(ArgAction::Append)
+        .num_args(0..)
+        .help("The journals, as JSON Lines; without a file they are read from the standard input");
+    Command::new(alloc, "audit")
+        .about("Say whether journals are those of one safe run")
+        .after_help(AUDIT_EXAMPLE)
+        .arg(files)
+}
+
+/// The plan that the words behind a command's name ask for, or `None` if the command isn't this.
+pub fn plan_of(
+    alloc: Global,
+    name: &str,
+    found: &ArgMatches<'_>,
+) -> Result<Option<AuditPlan>, WordsFault> {
+    if name != "audit" {
+        return Ok(None);
+    }
+    let names = found.get_strs(FILES).unwrap_or(&[]);
+    if names.is_empty() {
+        return Ok(Some(AuditPlan::Input));
+    }
+    let mut files = Vec::new(alloc);
+    for name in names {
+        let name = String::from_str(alloc, name)?;
+        if files.push(name).is_err() {
+            return Err(WordsFault::Memory);
+        }
+    }
+    Ok(Some(AuditPlan::Files(files)))
+}
+
+const AUDIT_EXAMPLE: &str = "Example:
+  abt audit run.jsonl
+  woven
+  safe
+woven: one list of events is just these journals. safe: no event of that list broke a promise.
+A fault names the file and the line; of entries that fit in no order, or that can't have been answered as they say,
+each is told with its file and its line.
+How journals are written stands in docs/JOURNALS.md.";

@@ -1,0 +1,18 @@
+//! `abt audit`: journals of texts, woven into events, or what doesn't fit.
+#![tactic(auto)]
+
+mod auditing;
+mod command;
+mod fault;
+mod gathering;
+mod naming;
+mod performing;
+mod plan;
+mod stuck;
+
+pub use auditing::{Audited, audit};
+pub use command::{add_commands, plan_of};
+pub use fault::AuditFault;
+pub use gathering::read_all;
+pub use performing::perform_audit;
+pub use plan::AuditPlan;

@@ -1,0 +1,57 @@
+//! The names of what is wrong with lines.
+ghost use Rattle.std.specs.Prelude.{◌≡◌, IfOk, string_bytes};
+ghost use Rattle.abt_audit.specs.Names.{cause_name, line_name};
+ghost use Rattle.abt_perform.specs.Names.{fault_name};
+
+use abt_journal_text::{Cause, LineFault};
+use abt_perform::Fault;
+use abt_scenario::ScenarioFault;
+use std::alloc::{AllocError, Global};
+
+// The name of what is wrong with a line (docs/JOURNALS.md, "Faults").
+pub(crate) fn cause_text(alloc: Global, cause: Cause) -> Result<String, AllocError>
+    ensures { IfOk result (λ text. string_bytes text ≡ cause_name cause) }
+{
+    match cause {
+        Cause::TooLong => String::from_str(alloc, "TooLong"),
+        Cause::Cut => String::from_str(alloc, "Cut"),
+        Cause::NoEnd => String::from_str(alloc, "NoEnd"),
+        Cause::Behind => String::from_str(alloc, "Behind"),
+        Cause::Line(fault) => line_text(alloc, fault),
+        Cause::NoNet => String::from_str(alloc, "NoNet"),
+        Cause::SecondNet => String::from_str(alloc, "SecondNet"),
+        Cause::Net(fault) => fault_text(alloc, Fault::Scenario(ScenarioFault::Net(fault))),
+        Cause::NoPort => String::from_str(alloc, "NoPort"),
+        Cause::NoSource => String::from_str(alloc, "NoSource"),
+        Cause::Place => String::from_str(alloc, "Place"),
+        Cause::Read => String::from_str(alloc, "read"),
+        Cause::Endless => String::from_str(alloc, "Endless"),
+        Cause::Memory => String::from_str(alloc, "memory"),
+    }
+}
+
+// The name of why a line is none of a journal.
+fn line_text(alloc: Global, fault: LineFault) -> Result<String, AllocError>
+    ensures { IfOk result (λ text. string_bytes text ≡ line_name fault) }
+{
+    match fault {
+        LineFault::Utf8 => String::from_str(alloc, "NotUtf8"),
+        LineFault::Json => String::from_str(alloc, "Json"),
+        LineFault::Twice => String::from_str(alloc, "Twice"),
+        LineFault::Kind => String::from_str(alloc, "Kind"),
+        LineFault::Member(member) => {
+            let name = member.name();
+            format!(in alloc; "Member {name}")
+        }
+        LineFault::Hex => String::from_str(alloc, "hex"),
+        LineFault::Cell(fault) => fault_text(alloc, Fault::Rm(fault)),
+        LineFault::Memory => String::from_str(alloc, "memory"),
+    }
+}
+
+// The name that a fault has elsewhere in the program.
+fn fault_text(alloc: Global, fault: Fault) -> Result<String, AllocError>
+    ensures { IfOk result (λ text. string_bytes text ≡ fault_name fault) }
+{
+    format!(in alloc; "{fault}")
+}

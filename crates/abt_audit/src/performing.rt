@@ -1,0 +1,174 @@
+//! Texts of readers, audited.
+ghost use Rattle.std.specs.Prelude.{◌≡◌, ◌⊎◌, map, IfOk, IfErr, OnOk, string_bytes};
+ghost use Rattle.std.specs.Io.KnownBytes.{Appends, Keeps};
+ghost use Rattle.abt_perform.specs.Names.{fault_line};
+ghost use Rattle.abt_perform.specs.Plans.{Tells};
+ghost use Rattle.abt_perform.specs.declared.fault.Fault.TheVariants as program;
+ghost use Rattle.abt_text.specs.Text.{◌⋅◌};
+ghost use Rattle.abt_audit.specs.Audits.{IsSafelyTold, IsShown};
+ghost use Rattle.abt_audit.specs.Names.{text_fault_line};
+ghost use Rattle.abt_audit.specs.declared.fault.AuditFault.TheVariants as audit_fault;
+ghost use Rattle.abt_audit.specs.Performing.{shown_text, EndsBy, IsNotShown, IsNoRun, IsShownWhole, fault_text, weave_fault};
+
+use crate::auditing::audit;
+use crate::fault::AuditFault;
+use crate::gathering::read_all;
+use crate::naming::cause_text;
+use crate::stuck::{head_of, stuck_text};
+use abt_journal_text::{Book, Cause, TextFault};
+use abt_perform::{Fault, MEMORY_LINE};
+use abt_text::put;
+use abt_weave::WeaveFault;
+use std::alloc::{AllocError, Global};
+use std::io::{Read, Write};
+
+/// Audits the texts that some readers have left, and gives the exit status: 0 where all lines went out to `writer`, and 1 where `errors`
+/// tells why not. What can't be written there changes no status. The names of the texts are for what is told.
+pub fn perform_audit<R: Read + Drop, W: Write, E: Write>(
+    alloc: Global,
+    names: &[String],
+    readers: Vec<R>,
+    writer: &mut W,
+    errors: &mut E,
+) -> u8
+    ensures status { (result ≡ 0) ⊎ (result ≡ 1) }
+    ensures ok { result ≡ 0 → IsShownWhole (map R.remaining readers.items) (W.contents writer.old) (W.contents writer.new) }
+    ensures quiet { result ≡ 0 → Keeps (E.contents errors.old) (E.contents errors.new) }
+    ensures err { result ≡ 1 → IsNotShown names.now (map R.remaining readers.items)
+        (W.contents writer.old) (W.contents writer.new) (E.contents errors.old) (E.contents errors.new) }
+{
+    match show_audit(alloc, names, readers, writer) {
+        Ok(()) => 0,
+        Err(fault) => {
+            tell(alloc, names, &fault, errors);
+            1
+        }
+    }
+}
+
+// Audits the texts, and writes what that shows.
+fn show_audit<R: Read + Drop, W: Write>(
+    alloc: Global,
+    names: &[String],
+    readers: Vec<R>,
+    writer: &mut W,
+) -> Result<(), AuditFault>
+    ensures shown { OnOk result (IsShown (map R.remaining readers.items)) }
+    ensures ok { OnOk result (Appends (W.contents writer.old) (W.contents writer.new) shown_text) }
+    ensures err { IfErr result (λ fault. EndsBy names.now (map R.remaining readers.items) fault
+        (W.contents writer.old) (W.contents writer.new)) }
+{
+    let book = match read_all(alloc, readers) {
+        Ok(book) => book,
+        Err(fault) => return Err(fault_of_text(fault)),
+    };
+    if let Err(fault) = judge_book(alloc, names, book) {
+        return Err(fault);
+    }
+    match put(writer, b"woven\nsafe\n") {
+        Ok(()) => Ok(()),
+        Err(_) => Err(AuditFault::Write),
+    }
+}
+
+// What a fault of a text is to an audit.
+fn fault_of_text(fault: TextFault) -> AuditFault
+    ensures { (result ≡ audit_fault.Memory) ⊎ (result ≡ audit_fault.Text fault) }
+{
+    match fault.cause {
+        Cause::Memory => AuditFault::Memory,
+        _ => AuditFault::Text(fault),
+    }
+}
+
+// Audits what was told.
+fn judge_book(alloc: Global, names: &[String], book: Book) -> Result<(), AuditFault>
+    ensures ok { OnOk result (IsSafelyTold book) }
+    ensures err { IfErr result (IsNoRun names.now book) }
+{
+    let Some(run) = book.into_run(alloc)? else {
+        return Err(AuditFault::Nothing);
+    };
+    match audit(alloc, &run) {
+        Ok(audited) => {
+            drop(audited);
+            Ok(())
+        }
+        Err(WeaveFault::Memory) => Err(AuditFault::Memory),
+        Err(fault) => {
+            let Ok(lines) = stuck_text(alloc, names, &run, &fault) else {
+                return Err(AuditFault::Memory);
+            };
+            Err(AuditFault::Stuck { fault, lines })
+        }
+    }
+}
+
+// Tells a fault as far as the writer takes it.
+fn tell<E: Write>(alloc: Global, names: &[String], fault: &AuditFault, errors: &mut E)
+    ensures { Tells (fault_text names.now fault.now) (E.contents errors.old) (E.contents errors.new)
+        ⊎ Tells (fault_line program.Memory) (E.contents errors.old) (E.contents errors.new) }
+{
+    match text_of(alloc, names, fault) {
+        Ok(text) => tell_octets(errors, text.as_slice()),
+        Err(_) => tell_octets(errors, MEMORY_LINE.as_bytes()),
+    }
+}
+
+// Writes octets as far as the writer takes them.
+fn tell_octets<E: Write>(errors: &mut E, octets: &[u8])
+    ensures { Tells octets.now (E.contents errors.old) (E.contents errors.new) }
+{
+    let _ = put(errors, octets);
+}
+
+// What is told of a fault.
+fn text_of(alloc: Global, names: &[String], fault: &AuditFault) -> Result<Vec<u8>, AllocError>
+    ensures { IfOk result (λ text. text.items ≡ fault_text names.now fault.now) }
+{
+    match fault {
+        AuditFault::Text(why) => text_fault(alloc, names, why),
+        AuditFault::Nothing => octets_of(alloc, "fault: Nothing\n", b""),
+        AuditFault::Stuck { fault, lines } => stuck_fault(alloc, fault, lines.as_slice()),
+        AuditFault::Write => program_fault(alloc, Fault::Write, b""),
+        AuditFault::Memory => program_fault(alloc, Fault::Memory, b""),
+    }
+}
+
+fn text_fault(alloc: Global, names: &[String], why: &TextFault) -> Result<Vec<u8>, AllocError>
+    ensures { IfOk result (λ text. text.items ≡ text_fault_line names.now why.now) }
+{
+    let head = head_of(alloc, names, why.spot)?;
+    let cause = cause_text(alloc, why.cause)?;
+    let text = format!(in alloc; "fault: {head}{cause}\n")?;
+    octets_of(alloc, text.as_str(), b"")
+}
+
+fn stuck_fault(alloc: Global, fault: &WeaveFault, lines: &[u8]) -> Result<Vec<u8>, AllocError>
+    ensures { IfOk result (λ text. text.items ≡ fault_line (weave_fault fault.now) ⋅ lines.now) }
+{
+    let fault = match fault {
+        WeaveFault::Mismatch { .. } => Fault::Mismatch,
+        WeaveFault::NoOrder(_) => Fault::NoOrder,
+        WeaveFault::Memory => Fault::Memory,
+    };
+    program_fault(alloc, fault, lines)
+}
+
+// The line of a fault that the program has elsewhere too, and then more.
+fn program_fault(alloc: Global, fault: Fault, more: &[u8]) -> Result<Vec<u8>, AllocError>
+    ensures { IfOk result (λ text. text.items ≡ fault_line fault ⋅ more.now) }
+{
+    let text = format!(in alloc; "fault: {fault}\n")?;
+    octets_of(alloc, text.as_str(), more)
+}
+
+// The octets of a text, and then more.
+fn octets_of(alloc: Global, text: &str, more: &[u8]) -> Result<Vec<u8>, AllocError>
+    ensures { IfOk result (λ octets. octets.items ≡ text.now ⋅ more.now) }
+{
+    let mut octets = Vec::new(alloc);
+    octets.extend_from_slice(text.as_bytes())?;
+    octets.extend_from_slice(more)?;
+    Ok(octets)
+}

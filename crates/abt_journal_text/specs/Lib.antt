@@ -1,0 +1,4 @@
+pub mod Books
+pub mod Entering
+pub mod OneReading
+pub mod Texts

@@ -1,0 +1,69 @@
+//! What texts tell, all in all.
+ghost use Rattle.std.specs.Prelude.{◌≡◌, IfOk, map};
+ghost use Rattle.abt_journal_text.specs.Books.{IsToldRun, IsToldRunIfAny, journal_of, lists_of};
+
+use crate::book::Book;
+use crate::spot::Spot;
+use abt_list::Sequence;
+use abt_net::Net;
+use abt_ports::Journals;
+use abt_source_journal::{SourceEntry, SourceJournal};
+use std::alloc::{AllocError, Global};
+
+/// A net with the journals of its ports and sources, and where each of their entries stands.
+#[derive(Debug, Drop)]
+pub struct Run {
+    /// The net.
+    pub net: Net,
+    /// The journals of its ports.
+    pub journals: Journals,
+    /// The journals of its sources.
+    pub sources: Vec<SourceJournal>,
+    /// Where the steps of each port stand.
+    pub port_spots: Vec<Vec<Spot>>,
+    /// Where the entries of each source stand.
+    pub source_spots: Vec<Vec<Spot>>,
+}
+
+impl Book {
+    /// What the texts have told, or `None` if no net was told.
+    pub fn into_run(self, alloc: Global) -> Result<Option<Run>, AllocError>
+        ensures { IfOk result (IsToldRunIfAny self) }
+    {
+        let Book {
+            net,
+            journals,
+            sources,
+            port_spots,
+            source_spots,
+            ended: _,
+        } = self;
+        let Some(net) = net else {
+            return Ok(None);
+        };
+        let sources = source_journals(alloc, sources)?;
+        Ok(Some(Run {
+            net,
+            journals,
+            sources,
+            port_spots,
+            source_spots,
+        }))
+    }
+}
+
+// The journals of sources that have these entries.
+fn source_journals(
+    alloc: Global,
+    lists: Vec<Vec<SourceEntry>>,
+) -> Result<Vec<SourceJournal>, AllocError>
+    ensures { IfOk result (λ journals. journals.items ≡ map journal_of (lists_of lists)) }
+{
+    let mut journals = Vec::with_capacity(alloc, lists.len())?;
+    for entries in lists {
+        journals.push(SourceJournal {
+            entries: Sequence::from(entries),
+        })?;
+    }
+    Ok(journals)
+}
