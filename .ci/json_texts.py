@@ -1,7 +1,8 @@
 """Reads what `--json` prints by Python's parser, and compares it with what the same command prints in words.
 
 Each object is put into the words of docs/FORMATS.md, and these have to be what the command prints without `--json`, with the same faults and
-the same status. Looked at are `run` of each sample that is run, from its file and from the standard input, and of a file that isn't there;
+the same status. Looked at are `run` of each sample that is run, from its file and from the standard input, and of a file that isn't there, and
+`explain` of the same, whose objects have to be those of `run` with the texts and the words of `explain` in them;
 `rate` of every 97th code, of the codes that the documents name and of words that are none; `cell` of the test cells and of texts that are none.
 
 usage: json_texts.py PROGRAM
@@ -77,6 +78,19 @@ def differences(program, words, said, text=b""):
         yield f"{words}: {given!r}, and in words {in_words!r}"
 
 
+def unexplained(program, words, text=b""):
+    """Where `explain` says another thing as JSON than `explain` and `run` do in words."""
+    as_json, in_words, report = (run(program, given, text) for given in (["explain", *words, "--json"], ["explain", *words], ["run", *words]))
+    try:
+        found = objects(as_json[0])
+        told = [f"{each['event']} {each.pop('text')}: {each.pop('words')}" for each in found if "event" in each]
+        is_same = (report_of(found), *as_json[1:]) == report and in_words[0].splitlines()[: len(told)] == told and as_json[1:] == in_words[1:]
+    except (ValueError, TypeError, KeyError) as error:
+        is_same, told = False, error
+    if not is_same:
+        yield f"explain {words}: {as_json!r}, told {told!r}, in words {in_words!r}, the report {report!r}"
+
+
 def main(program):
     samples = [it for it in sorted(FOLDER.glob("*.toml")) if not it.with_name(it.name + ".args").is_file()]
     cells = re.findall(r"\b[0-9a-f]{104}\b", FORMATS.read_text()) + CELLS
@@ -86,10 +100,12 @@ def main(program):
     tries += [(["run"], report_of, sample.read_bytes()) for sample in samples]
     tries += [(["run", "none.toml"], report_of, b"")]
     tries += [(["rate", code], rate_of, b"") for code in CODES] + [(["cell", cell], cell_of, b"") for cell in cells]
+    explained = [(words[1:], text) for words, said, text in tries if words[0] == "run"]
     found = [line for words, said, text in tries for line in differences(program, words, said, text)]
+    found += [line for words, text in explained for line in unexplained(program, words, text)]
     for line in found:
         print(f"json_texts: {line}")
-    print(f"json_texts: {len(tries)} commands, {len(found)} differences")
+    print(f"json_texts: {len(tries) + len(explained)} commands, {len(found)} differences")
     sys.exit(1 if found else 0)
 
 

@@ -1,10 +1,13 @@
 //! The words of `abt explain`.
 use abt_perform::WordsFault;
-use clap::{Arg, ArgMatches, Command};
+use clap::{Arg, ArgAction, ArgMatches, Command};
 use std::alloc::{AllocError, Global};
 
 // The scenario to explain.
 const FILE: &str = "FILE";
+
+// Whether the explanation is to be JSON, for which the plan isn't this crate's.
+const JSON: &str = "json";
 
 /// What the words of `abt explain` ask for: to explain the scenario of this file, or of the standard input.
 #[derive(Drop)]
@@ -17,20 +20,25 @@ pub fn add_commands<'a>(alloc: Global, program: Command<'a>) -> Result<Command<'
     let file = Arg::new(alloc, FILE).help(
         "The scenario, a TOML text; without a file it is read from the standard input",
     );
+    let json = Arg::new(alloc, JSON)
+        .long("json")
+        .action(ArgAction::SetTrue)
+        .help("Answer as JSON, one object a line");
     let explain = Command::new(alloc, "explain")
         .about("Run a scenario, and tell each of its events with its reason")
         .after_help(EXAMPLE)
-        .arg(file)?;
+        .arg(file)?
+        .arg(json)?;
     program.subcommand(explain)
 }
 
-/// The plan that the words behind a command's name ask for, or `None` if the command is none of these.
+/// The plan that the words behind a command's name ask for, or `None` if the command is none of these, or is to answer as JSON.
 pub fn plan_of(
     alloc: Global,
     name: &str,
     found: &ArgMatches<'_>,
 ) -> Result<Option<ExplainPlan>, WordsFault> {
-    if name != "explain" {
+    if name != "explain" || found.get_flag(JSON) {
         return Ok(None);
     }
     let file = match found.get_str(FILE) {

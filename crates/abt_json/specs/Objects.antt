@@ -156,10 +156,11 @@ port_objects port _ _ = []
 abbrev pub safe_object : Bool → Text
 safe_object safe = object_line (key (codes "safe") ∷ boolean safe ∷ [])
 
+-- how the net stands in the end
+abbrev pub end_objects : Trace → Text
+end_objects trace =
+    conn_objects 0 trace.rates trace.held ⋅ port_objects 0 trace.totals trace.capacities ⋅ safe_object trace.safe
+
 -- what a run of events answered, and the net in the end
 abbrev pub trace_objects : Trace → Text
-trace_objects trace =
-    outcome_objects 1 trace.outcomes
-    ⋅ conn_objects 0 trace.rates trace.held
-    ⋅ port_objects 0 trace.totals trace.capacities
-    ⋅ safe_object trace.safe
+trace_objects trace = outcome_objects 1 trace.outcomes ⋅ end_objects trace

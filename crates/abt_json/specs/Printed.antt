@@ -14,9 +14,12 @@ use Rattle.abt_scenario.specs.declared.engine.EngineFault.TheVariants as engine
 use Rattle.abt_perform.specs.Names.{fault_line, fault_of_engine}
 use Rattle.abt_perform.specs.Plans.{EndsTextBy, Tells}
 use Rattle.abt_perform.specs.declared.fault.Fault.{Fault}
+use Rattle.abt_json.specs.Explained.{IsExplainedJson}
 use Rattle.abt_json.specs.Objects.{rate_json, cell_json, trace_objects}
 use Rattle.abt_json.specs.declared.plan.JsonPlan.{JsonPlan}
-use Rattle.abt_json.specs.declared.plan.JsonPlan.TheVariants.{Rate, Cell, Run}
+use Rattle.abt_json.specs.declared.plan.JsonPlan.TheVariants.{Rate, Cell, Run, Explain}
+use Rattle.abt_json.specs.declared.plan.Telling.{Telling}
+use Rattle.abt_json.specs.declared.plan.Telling.TheVariants.{Report, Explanation}
 
 -- The text is the report of the scenario's run, which is safe: so its last object says.
 pub record IsRunJson (scenario : declared.Scenario) (text : Text) : Type 0 where
@@ -25,50 +28,58 @@ pub record IsRunJson (scenario : declared.Scenario) (text : Text) : Type 0 where
   pub is_safe : trace.safe ≡ true
   pub is_report : text ≡ trace_objects trace
 
--- The text is the report of the scenario that was read.
-pub record IsRunJsonOf (left : Option Text) (text : Text) : Type 0 where
+-- the text is the report of the scenario's run, or its explanation
+abbrev pub Says : Telling → declared.Scenario → Text → Type 0
+Says Report scenario text = IsRunJson scenario text
+Says Explanation scenario text = IsExplainedJson scenario.net scenario.events text
+
+-- The text says this of the scenario that was read.
+pub record SaysOf (telling : Telling) (left : Option Text) (text : Text) : Type 0 where
   pub scenario : declared.Scenario
   pub read : IfSome left (λ source. Reads source (Ok scenario))
-  pub reported : IsRunJson scenario text
+  pub said : Says telling scenario text
 
--- That report went out, and nothing else.
-pub record Reports (left old new : Option Text) : Type 0 where
+-- That went out, and nothing else.
+pub record Reports (telling : Telling) (left old new : Option Text) : Type 0 where
   pub text : Text
-  pub report : IsRunJsonOf left text
+  pub report : SaysOf telling left text
   pub written : Appends old new text
 
 -- A part of it went out, from its beginning, and not all of it.
-pub record ReportsPart (left old new : Option Text) : Type 0 where
+pub record ReportsPart (telling : Telling) (left old new : Option Text) : Type 0 where
   pub text : Text
-  pub report : IsRunJsonOf left text
+  pub report : SaysOf telling left text
   pub written : AppendsPrefix old new text
 
--- what a fault says, and what it leaves with the writer: a part of the report where that failed, and else what was there
-abbrev pub Leaves : EngineFault → (left old new : Option Text) → Type 0
-Leaves engine.Write left old new = ReportsPart left old new
-Leaves fault left old new = IfSome left (Explains fault) × Keeps old new
+-- what a fault says, and what it leaves with the writer: a part of what was to go out where that failed, and else what was there
+abbrev pub Leaves : EngineFault → Telling → (left old new : Option Text) → Type 0
+Leaves engine.Write telling left old new = ReportsPart telling left old new
+Leaves fault telling left old new = IfSome left (Explains fault) × Keeps old new
 
 -- what a plan prints went out, all of it, where this is what the reader had left
 abbrev pub Prints : JsonPlan → (left old new : Option Text) → Type 0
 Prints (Rate code) left old new = IsOkAnd (rate_json (string_bytes code)) (Appends old new)
 Prints (Cell hex) left old new = IsOkAnd (cell_json (string_bytes hex)) (Appends old new)
-Prints (Run file) left old new = Reports left old new
+Prints (Run file) left old new = Reports Report left old new
+Prints (Explain file) left old new = Reports Explanation left old new
 
--- what went out of a run's report where it isn't printed for this fault
-pub record EndsRunBy (fault : Fault) (left old new : Option Text) : Type 0 where
+-- what went out of what is said of a run where it isn't printed for this fault
+pub record EndsRunBy (fault : Fault) (telling : Telling) (left old new : Option Text) : Type 0 where
   pub engine_fault : EngineFault
   pub named : fault ≡ fault_of_engine engine_fault
-  pub leaves : Leaves engine_fault left old new
+  pub leaves : Leaves engine_fault telling left old new
 
 -- the same of each plan
 abbrev pub EndsBy : Fault → JsonPlan → (left old new : Option Text) → Type 0
 EndsBy fault (Rate code) left old new = EndsTextBy fault (rate_json (string_bytes code)) old new
 EndsBy fault (Cell hex) left old new = EndsTextBy fault (cell_json (string_bytes hex)) old new
-EndsBy fault (Run file) left old new = EndsRunBy fault left old new
+EndsBy fault (Run file) left old new = EndsRunBy fault Report left old new
+EndsBy fault (Explain file) left old new = EndsRunBy fault Explanation left old new
 
 -- what a plan takes of the reader: nothing, but a scenario's text
 abbrev pub ReadsFor : JsonPlan → (old new : Option Text) → Type 0
 ReadsFor (Run file) old new = ConsumesAtMost old new (text_max + 1)
+ReadsFor (Explain file) old new = ConsumesAtMost old new (text_max + 1)
 ReadsFor _ old new = Keeps old new
 
 -- A plan that isn't done: why, what went out of its text, and what was told.

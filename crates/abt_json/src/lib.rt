@@ -1,21 +1,23 @@
-//! What `abt rate`, `abt cell` and `abt run` say, as JSON: one object a line (docs/FORMATS.md, "JSON").
+//! What `abt rate`, `abt cell`, `abt run` and `abt explain` say, as JSON: one object a line (docs/FORMATS.md, "JSON").
 #![tactic(auto)]
 
 mod cell;
+mod explain;
 mod members;
 mod outcome;
 mod perform;
 mod plan;
 mod rate;
 mod report;
-mod run;
+mod scenario;
 
 pub use cell::cell_json;
+pub use explain::explanation_json;
 pub use perform::perform_json;
-pub use plan::JsonPlan;
+pub use plan::{JsonPlan, Telling};
 pub use rate::rate_json;
 pub use report::report_json;
-pub use run::run_json;
+pub use scenario::scenario_json;
 
 #[cfg(test)]
 mod tests;

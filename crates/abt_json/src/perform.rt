@@ -5,9 +5,9 @@ ghost use Rattle.abt_perform.specs.Plans.{EndsTextBy};
 ghost use Rattle.abt_json.specs.Printed.{ReadsFor, Prints, EndsBy, IsRefused, text_seen};
 
 use crate::cell::cell_json;
-use crate::plan::JsonPlan;
+use crate::plan::{JsonPlan, Telling};
 use crate::rate::rate_json;
-use crate::run::run_json;
+use crate::scenario::scenario_json;
 use abt_perform::{Fault, tell_fault};
 use abt_text::put;
 use std::alloc::Global;
@@ -53,7 +53,8 @@ fn print<R: Read, W: Write>(
     match plan {
         JsonPlan::Rate(code) => put_text(rate_json(alloc, code.as_str()), writer),
         JsonPlan::Cell(hex) => put_text(cell_json(alloc, hex.as_str()), writer),
-        JsonPlan::Run(_) => Ok(run_json(alloc, reader, writer)?),
+        JsonPlan::Run(_) => Ok(scenario_json(alloc, Telling::Report, reader, writer)?),
+        JsonPlan::Explain(_) => Ok(scenario_json(alloc, Telling::Explanation, reader, writer)?),
     }
 }
 

@@ -1,7 +1,7 @@
 //! The reports of traces, an object a line.
 ghost use Rattle.std.specs.Prelude.{◌≡◌, ◌++◌, IfOk, OnOk};
 ghost use Rattle.abt_json.specs.Members.{Adds};
-ghost use Rattle.abt_json.specs.Objects.{trace_objects, outcome_object, outcome_objects, conn_object, conn_objects, held_member, rate_strings, port_object, port_objects, safe_object};
+ghost use Rattle.abt_json.specs.Objects.{trace_objects, end_objects, outcome_object, outcome_objects, conn_object, conn_objects, held_member, rate_strings, port_object, port_objects, safe_object};
 
 use crate::members::{begin, end, push_code, push_number, push_rate};
 use crate::outcome::push_outcome;
@@ -19,20 +19,22 @@ pub fn report_json(alloc: Global, trace: &Trace) -> Result<Vec<u8>, AllocError>
 {
     let mut text = Vec::new(alloc);
     push_outcomes(alloc, &mut text, trace.outcomes.as_slice())?;
-    push_conns(
-        alloc,
-        &mut text,
-        trace.rates.as_slice(),
-        trace.held.as_slice(),
-    )?;
+    push_end(alloc, &mut text, trace)?;
+    Ok(text)
+}
+
+/// Adds how the net stands in the end: each connection, each port, and whether all that is safe.
+pub(crate) fn push_end(alloc: Global, text: &mut Vec<u8>, trace: &Trace) -> Result<(), AllocError>
+    ensures { OnOk result (text.new.items ≡ text.old.items ++ end_objects trace.now) }
+{
+    push_conns(alloc, text, trace.rates.as_slice(), trace.held.as_slice())?;
     push_ports(
         alloc,
-        &mut text,
+        text,
         trace.totals.as_slice(),
         trace.capacities.as_slice(),
     )?;
-    push_safe(alloc, &mut text, trace.safe)?;
-    Ok(text)
+    push_safe(alloc, text, trace.safe)
 }
 
 fn push_outcomes(alloc: Global, text: &mut Vec<u8>, outcomes: &[Outcome]) -> Result<(), AllocError>

@@ -1,1 +1,4 @@
 mod Digits
+mod Hexadecimal
+mod Unserved
+mod Words

@@ -1,6 +1,6 @@
 -- What goes out where lines are answered by hand.
 use Rattle.std.specs.Prelude.{◌≤◌, ⊤, None, Option}
-use Rattle.abt_rate.specs.Limits.{tau_max}
+use Rattle.abt_rate.specs.Limits.{capacity_max, tau_max}
 use Rattle.abt_gcra.specs.Policing.{fresh_policing}
 use Rattle.abt_text.specs.Text.{Text}
 use Rattle.abt_lines.specs.Lines.{seen_lines}
@@ -11,20 +11,26 @@ use Rattle.abt_perform.specs.Names.{fault_line}
 use Rattle.abt_perform.specs.Plans.{Tells}
 use Rattle.abt_perform.specs.declared.fault.Fault.{Fault}
 use Rattle.abt_perform.specs.declared.fault.Fault.TheVariants as fault
+use Rattle.abt_node.specs.Table.{new_table}
+use Rattle.abt_parts.specs.Cells.{read_lines, served_lines}
 use Rattle.abt_parts.specs.Police.{policed_lines}
 use Rattle.abt_parts.specs.Shape.{shaped_lines}
 use Rattle.abt_parts.specs.declared.plan.PartsPlan.{PartsPlan}
-use Rattle.abt_parts.specs.declared.plan.PartsPlan.TheVariants.{Police, Shape}
+use Rattle.abt_parts.specs.declared.plan.PartsPlan.TheVariants.{Police, Shape, Cells, Port}
 
 -- the numbers of a plan are within their limits
 abbrev pub IsAllowedPlan : PartsPlan → Type 0
 IsAllowedPlan (Police tau rate) = tau ≤ tau_max
 IsAllowedPlan (Shape rate) = ⊤
+IsAllowedPlan Cells = ⊤
+IsAllowedPlan (Port capacity) = capacity ≤ capacity_max
 
--- The answers to all lines of a text: a policer has taken no cell yet, and a shaper may send at once.
+-- The answers to all lines of a text: a policer has taken no cell yet, a shaper may send at once, and a port is number 0, without connections.
 abbrev pub answers_to : PartsPlan → Text → Text
 answers_to (Police tau rate) source = policed_lines rate (fresh_policing tau) 1 (seen_lines source)
 answers_to (Shape rate) source = shaped_lines rate (record { next = 0; emitted = None }) 1 (seen_lines source)
+answers_to Cells source = read_lines 1 (seen_lines source)
+answers_to (Port capacity) source = served_lines (new_table 0 capacity) 1 (seen_lines source)
 
 -- the answers to all that a reader had left went out, and nothing else
 abbrev pub IsAnswered : PartsPlan → (left old new : Option Text) → Type 0

@@ -4,7 +4,7 @@ ghost use Rattle.abt_rate.specs.Limits.{tau_max};
 ghost use Rattle.abt_parts.specs.Answered.{IsAllowedPlan};
 
 use crate::plan::PartsPlan;
-use abt_grammar::rate_of;
+use abt_codes::rate_said;
 use abt_perform::WordsFault;
 use abt_rate::{Rate, TAU_MAX};
 use abt_text::u64_of;
@@ -21,7 +21,8 @@ const RATE: &str = "rate";
 const TAU_RULE: &str = "a tolerance is a decimal number of at most 10^12, digits alone";
 
 // What a rate has to be.
-const RATE_RULE: &str = "a rate is a code, four hexadecimal digits";
+const RATE_RULE: &str =
+    "a rate is a code, four hexadecimal digits, or a rate in words that a code says exactly";
 
 /// Adds `police` and `shape` to the commands of a program.
 pub fn add_commands<'a>(alloc: Global, program: Command<'a>) -> Result<Command<'a>, AllocError> {
@@ -55,7 +56,9 @@ fn rate_argument<'a>(alloc: Global) -> Arg<'a> {
         .long("rate")
         .value_name("RATE")
         .required(true)
-        .help("The rate: a code, four hexadecimal digits")
+        .help(
+            "The rate: a code, four hexadecimal digits, or one that a code says exactly, as 500cps",
+        )
 }
 
 /// The plan that the words behind a command's name ask for, or `None` if the command is none of these.
@@ -89,7 +92,7 @@ fn tau_in(alloc: Global, found: &ArgMatches<'_>) -> Result<u64, WordsFault>
 }
 
 fn rate_in(alloc: Global, found: &ArgMatches<'_>) -> Result<Rate, WordsFault> {
-    match rate_of(found.get_str(RATE).unwrap_or("")) {
+    match rate_said(found.get_str(RATE).unwrap_or("")) {
         Some(rate) => Ok(rate),
         None => Err(refusal(alloc, RATE_RULE)?),
     }

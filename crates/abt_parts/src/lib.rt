@@ -1,17 +1,24 @@
-//! The policer and the shaper by hand: each line of an input is a cell, and is answered by one line before the next one is read.
+//! Parts by hand: each line of an input is a cell for a policer, a shaper, a reader of cells or a port, and is answered by one line before the
+//! next one is read.
 #![tactic(auto)]
 
+mod cells;
 mod command;
 mod fault;
+mod law;
 mod moment;
 mod performing;
 mod plan;
 mod police;
+mod serve;
 mod shape;
 
+pub use cells::ReadLines;
 pub use command::{add_commands, plan_of};
 pub use fault::LineFault;
+pub use law::lines_are_as_words;
 pub use performing::perform_parts;
 pub use plan::PartsPlan;
 pub use police::PolicedLines;
+pub use serve::ServedLines;
 pub use shape::ShapedLines;

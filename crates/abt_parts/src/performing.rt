@@ -4,11 +4,14 @@ ghost use Rattle.std.specs.Io.KnownBytes.{IsAtEnd, Keeps};
 ghost use Rattle.abt_lines.specs.Served.{IsServedPart};
 ghost use Rattle.abt_parts.specs.Answered.{IsAllowedPlan, IsAnswered, IsRefused, answers_to, fault_of_lines};
 
+use crate::cells::ReadLines;
 use crate::plan::PartsPlan;
 use crate::police::PolicedLines;
+use crate::serve::ServedLines;
 use crate::shape::ShapedLines;
 use abt_gcra::Policer;
 use abt_lines::{LinesFault, serve_lines};
+use abt_node::Port;
 use abt_perform::{Fault, tell_fault};
 use abt_shaper::Shaper;
 use std::alloc::Global;
@@ -42,6 +45,7 @@ pub fn perform_parts<R: Read, W: Write, E: Write>(
     }
 }
 
+#[tactic(auto, using(crate::proofs::Unserved::unserved))]
 // Answers all lines of a reader.
 fn answer_lines<R: Read, W: Write>(
     alloc: Global,
@@ -67,6 +71,12 @@ fn answer_lines<R: Read, W: Write>(
         PartsPlan::Shape { rate } => {
             let shaper = Shaper::new(0);
             let mut lines = ShapedLines { shaper, rate };
+            serve_lines(alloc, &mut lines, reader, writer)
+        }
+        PartsPlan::Cells => serve_lines(alloc, &mut ReadLines, reader, writer),
+        PartsPlan::Port { capacity } => {
+            let port = Port::new(alloc, 0, capacity)?;
+            let mut lines = ServedLines { port };
             serve_lines(alloc, &mut lines, reader, writer)
         }
     }

@@ -8,4 +8,8 @@ pub enum PartsPlan {
     Police { tau: u64, rate: Rate },
     /// A shaper that may send at once, at this rate all the time.
     Shape { rate: Rate },
+    /// What each cell says.
+    Cells,
+    /// A port without connections, whose link has this capacity in units of 1/512 cell/s.
+    Port { capacity: u64 },
 }

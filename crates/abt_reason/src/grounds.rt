@@ -71,7 +71,7 @@ pub enum Grounds {
 }
 
 /// The numbers by which an event is decided after what happened to a world.
-pub(crate) fn grounds_of(world: &World<'_>, net: &Net, event: &Event) -> Grounds
+pub fn grounds_of(world: &World<'_>, net: &Net, event: &Event) -> Grounds
     ensures { (events : List EventSpec) → StandsFor net.now events world.now →
         result ≡ spec.grounds_of net.now (facts_after net.now events) event.now }
 {

@@ -8,4 +8,5 @@ mod reason;
 mod refusal;
 
 pub use explanation::explanation_of;
-pub use grounds::Grounds;
+pub use grounds::{Grounds, grounds_of};
+pub use reason::push_reason;

@@ -12,8 +12,11 @@ use abt_model::{Cause, Outcome};
 use abt_wording::{cells_text, seconds_text};
 use std::alloc::{AllocError, Global};
 
-// The reason of an outcome, or what its codes and moments are.
-pub(crate) fn push_reason(
+/// Puts the reason of an outcome, or what its codes and moments are, behind a text (docs/EXPLAIN.md); nothing where the outcome says it all.
+///
+/// # Errors
+/// Where memory is refused.
+pub fn push_reason(
     alloc: Global,
     text: &mut String,
     grounds: &Grounds,

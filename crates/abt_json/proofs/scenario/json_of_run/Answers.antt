@@ -2,7 +2,7 @@
 use Rattle.std.proofs.Common.{List, [], Result, Ok, Err, IfOk, subst, append-nil}
 use Rattle.abt_model.specs.declared.event.Event.{Event}
 use Rattle.abt_trace.specs.Traces.{IsTrace}
-use Rattle.abt_json.proofs.run.json_of_run.Goals as goal
+use Rattle.abt_json.proofs.scenario.json_of_run.Goals as goal
 
 if_ok-map : {T E : Type 0} (r : Result T E) (P Q : T → Type 0) → ((x : T) → P x → Q x) → IfOk r P → IfOk r Q
 if_ok-map (Ok x) P Q f p = f x p

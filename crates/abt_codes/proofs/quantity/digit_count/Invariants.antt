@@ -1,0 +1,10 @@
+-- The digits so far are the first of all, and the text can be cut here.
+use Rattle.std.proofs.Common.{◌≡◌, ◌+◌, drop}
+use Rattle.std.specs.Char.{is_ascii_digit}
+use Rattle.std.specs.List.{prefix_len}
+use Rattle.std.specs.Str.{IsCharBoundary}
+use Rattle.abt_codes.proofs.quantity.digit_count.Given as goal
+
+abbrev pub invariant-loop-place : goal.invariant-loop-place
+invariant-loop-place l =
+    (l.place + prefix_len is_ascii_digit (drop l.place l.text) ≡ prefix_len is_ascii_digit l.text) × IsCharBoundary l.text l.place

@@ -1,0 +1,22 @@
+//! Rates in words, the codes nearest to them, cells in words, and what is printed of these.
+#![tactic(auto)]
+
+mod command;
+mod fault;
+mod message;
+mod nearest;
+mod performing;
+mod plan;
+mod quantity;
+mod text;
+mod written;
+
+pub use command::{add_commands, plan_of};
+pub use fault::CodesFault;
+pub use message::{Kind, MessageWords, rm_in};
+pub use nearest::{above, below, exactly, rate_said};
+pub use performing::perform_codes;
+pub use plan::CodesPlan;
+pub use quantity::{Quantity, RateUnit, quantity_in};
+pub use text::code_text;
+pub use written::{write_text, written_is_read};

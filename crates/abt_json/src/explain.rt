@@ -1,0 +1,71 @@
+//! Explanations of runs, an object a line.
+ghost use Rattle.std.specs.Prelude.{◌≡◌, ◌++◌, IfOk, OnOk};
+ghost use Rattle.abt_json.specs.Explained as spec;
+
+use crate::members::{begin, end, push_number, push_text};
+use crate::outcome::push_outcome;
+use crate::report::push_end;
+use abt_list::Sequence;
+use abt_net::Net;
+use abt_node::Onward;
+use abt_reason::{Grounds, grounds_of, push_reason};
+use abt_report as report;
+use abt_wording::push_event;
+use abt_world::{Event, Outcome, World};
+use std::alloc::{AllocError, Global};
+
+/// The explanation of a run of events over a net to which nothing happened before (docs/EXPLAIN.md), an object a line: each event with its
+/// text, what it answers, and the same in words with its reason; then each connection, each port, and whether all that is safe.
+///
+/// # Errors
+/// Where memory is refused.
+pub fn explanation_json(alloc: Global, net: &Net, events: &[Event]) -> Result<Vec<u8>, AllocError>
+    ensures { IfOk result (λ text. spec.IsExplainedJson net.now events.now text.items) }
+{
+    // Names a type within an outcome, without which the checker can't follow one round the loop.
+    let _ = Onward::Pass;
+    let mut world = World::new(alloc, net)?;
+    let mut outcomes = Sequence::with_room(alloc, events.len())?;
+    let mut text = Vec::new(alloc);
+    for (index, event) in events.iter().enumerate() {
+        let grounds = grounds_of(&world, net, event);
+        let outcome = world.step(event)?;
+        push_explained(
+            alloc,
+            &mut text,
+            index as u64 + 1,
+            event,
+            &grounds,
+            &outcome,
+        )?;
+        outcomes.push(outcome)?;
+    }
+    let trace = world.end(alloc, outcomes)?;
+    push_end(alloc, &mut text, &trace)?;
+    Ok(text)
+}
+
+// The object of an event.
+fn push_explained(
+    alloc: Global,
+    text: &mut Vec<u8>,
+    number: u64,
+    event: &Event,
+    grounds: &Grounds,
+    outcome: &Outcome,
+) -> Result<(), AllocError>
+    ensures { OnOk result
+        (text.new.items ≡ text.old.items ++ spec.explained_object number event.now grounds.now outcome.now) }
+{
+    let mut said = String::new(alloc);
+    push_event(&mut said, event)?;
+    let mut words = String::new(alloc);
+    report::push_outcome(&mut words, outcome)?;
+    push_reason(alloc, &mut words, grounds, outcome)?;
+    let mut object = begin(alloc, text)?;
+    push_number(&mut object, "event", number)?;
+    push_text(&mut object, "text", said.as_str())?;
+    push_outcome(alloc, &mut object, outcome)?;
+    push_text(&mut object, "words", words.as_str())?;
+    end(object, text)
+}
