@@ -2,19 +2,23 @@
 _abt() {
     local word=${COMP_WORDS[COMP_CWORD]}
     if [ "$COMP_CWORD" -eq 1 ]; then
-        COMPREPLY=($(compgen -W "rate cell port run threads explain police shape help -h --help -V --version" -- "$word"))
+        COMPREPLY=($(compgen -W "rate cell port run threads explain check audit police shape code write help -h --help -V --version" -- "$word"))
         return
     fi
     case ${COMP_WORDS[1]} in
         rate) COMPREPLY=($(compgen -W "--json -h --help" -- "$word")) ;;
-        cell) COMPREPLY=($(compgen -W "--json -h --help" -- "$word")) ;;
-        port) COMPREPLY=($(compgen -W "-h --help" -- "$word")) ;;
-        run) COMPREPLY=($(compgen -f -W "--json -h --help" -- "$word")) ;;
-        threads) COMPREPLY=($(compgen -f -W "--workers -h --help" -- "$word")) ;;
-        explain) COMPREPLY=($(compgen -f -W "-h --help" -- "$word")) ;;
+        cell) COMPREPLY=($(compgen -W "--json --stdin -h --help" -- "$word")) ;;
+        port) COMPREPLY=($(compgen -W "--stdin -h --help" -- "$word")) ;;
+        run) COMPREPLY=($(compgen -f -W "--json --explain -h --help" -- "$word")) ;;
+        threads) COMPREPLY=($(compgen -f -W "--workers --explain -h --help" -- "$word")) ;;
+        explain) COMPREPLY=($(compgen -f -W "--json -h --help" -- "$word")) ;;
+        check) COMPREPLY=($(compgen -f -W "-h --help" -- "$word")) ;;
+        audit) COMPREPLY=($(compgen -f -W "-h --help" -- "$word")) ;;
         police) COMPREPLY=($(compgen -W "--tau --rate -h --help" -- "$word")) ;;
         shape) COMPREPLY=($(compgen -W "--rate -h --help" -- "$word")) ;;
-        help) COMPREPLY=($(compgen -W "rate cell port run threads explain police shape help" -- "$word")) ;;
+        code) COMPREPLY=($(compgen -W "-h --help" -- "$word")) ;;
+        write) COMPREPLY=($(compgen -W "-h --help" -- "$word")) ;;
+        help) COMPREPLY=($(compgen -W "rate cell port run threads explain check audit police shape code write help" -- "$word")) ;;
         *) COMPREPLY=() ;;
     esac
 }

@@ -18,6 +18,12 @@ pub const FILE: &str = "FILE";
 /// Whether `abt rate`, `abt cell` or `abt run` answers as JSON.
 pub const JSON: &str = "json";
 
+/// Whether `abt cell` or `abt port` reads its cells from the standard input.
+pub const STDIN: &str = "stdin";
+
+/// Whether `abt run` or `abt threads` checks its scenario besides.
+pub const EXPLAIN: &str = "explain";
+
 /// How many link workers `abt threads` has.
 pub const WORKERS: &str = "workers";
 
@@ -58,14 +64,15 @@ fn rate_command<'a>(alloc: Global) -> Result<Command<'a>, AllocError> {
 }
 
 fn cell_command<'a>(alloc: Global) -> Result<Command<'a>, AllocError> {
-    let hex = Arg::new(alloc, HEX).required(true).help(
+    let hex = Arg::new(alloc, HEX).required_unless_present(STDIN)?.help(
         "The cell without its HEC: 52 octets in hexadecimal digits",
     );
     Command::new(alloc, "cell")
         .about("Say what an RM cell says")
         .after_help(CELL_EXAMPLE)
         .arg(hex)?
-        .arg(json_flag(alloc))
+        .arg(json_flag(alloc))?
+        .arg(stdin_flag(alloc)?.conflicts_with(JSON)?)
 }
 
 fn port_command<'a>(alloc: Global) -> Result<Command<'a>, AllocError> {
@@ -74,7 +81,7 @@ fn port_command<'a>(alloc: Global) -> Result<Command<'a>, AllocError> {
         .value_parser(value_parser!(u64).range(0..=1152921504606846976))
         .help("The capacity of the port's link in units of 1/512 cell/s, at most 2^60");
     let cells = Arg::new(alloc, HEX)
-        .required(true)
+        .required_unless_present(STDIN)?
         .action(ArgAction::Append)
         .num_args(1..)
         .help("The cells without their HEC: 52 octets each in hexadecimal digits");
@@ -82,7 +89,8 @@ fn port_command<'a>(alloc: Global) -> Result<Command<'a>, AllocError> {
         .about("Serve RM cells at one port of a switch")
         .after_help(PORT_EXAMPLE)
         .arg(capacity)?
-        .arg(cells)
+        .arg(cells)?
+        .arg(stdin_flag(alloc)?)
 }
 
 fn run_command<'a>(alloc: Global) -> Result<Command<'a>, AllocError> {
@@ -90,7 +98,8 @@ fn run_command<'a>(alloc: Global) -> Result<Command<'a>, AllocError> {
         .about("Run a scenario, and report what each of its events answered")
         .after_help(RUN_EXAMPLE)
         .arg(file_argument(alloc))?
-        .arg(json_flag(alloc))
+        .arg(json_flag(alloc))?
+        .arg(explain_flag(alloc).conflicts_with(JSON)?)
 }
 
 fn threads_command<'a>(alloc: Global) -> Result<Command<'a>, AllocError> {
@@ -104,7 +113,15 @@ fn threads_command<'a>(alloc: Global) -> Result<Command<'a>, AllocError> {
         .about("Run a scenario's scripts in threads, and say what is shown of the run")
         .after_help(THREADS_EXAMPLE)
         .arg(file_argument(alloc))?
-        .arg(workers)
+        .arg(workers)?
+        .arg(explain_flag(alloc))
+}
+
+fn explain_flag<'a>(alloc: Global) -> Arg<'a> {
+    Arg::new(alloc, EXPLAIN)
+        .long("explain")
+        .action(ArgAction::SetTrue)
+        .help("Tell on standard error, behind the run's fault, what abt check says of the scenario")
 }
 
 fn file_argument<'a>(alloc: Global) -> Arg<'a> {
@@ -118,6 +135,14 @@ fn json_flag<'a>(alloc: Global) -> Arg<'a> {
         .long("json")
         .action(ArgAction::SetTrue)
         .help("Answer as JSON, one object a line")
+}
+
+fn stdin_flag<'a>(alloc: Global) -> Result<Arg<'a>, AllocError> {
+    Arg::new(alloc, STDIN)
+        .long("stdin")
+        .action(ArgAction::SetTrue)
+        .help("Take cells from the standard input, a line each, and answer each before the next")
+        .conflicts_with(HEX)
 }
 
 const EXAMPLES: &str = "Examples:
@@ -139,7 +164,9 @@ A unit is 1/512 cell per second. The spacing of cells is in picoseconds.";
 const CELL_EXAMPLE: &str = "Example:
   abt cell 0010064c02045258000000000000000000000001\
 6a6a6a6a6a6a6a6a6a6a6a6a6a6a6a6a6a6a6a6a6a6a6a6a6a6a6a6a6a6a038c
-  request vpi 1 vci 100 seq 1 floor 0000 ask 5258";
+  request vpi 1 vci 100 seq 1 floor 0000 ask 5258
+With --stdin each answer begins with the line's number. A line that is no such cell is answered with its fault,
+as 2 fault Crc, and the status is 0.";
 
 const PORT_EXAMPLE: &str = "Example:
   abt port 512000 0010064c02045258000000000000000000000001\
@@ -147,7 +174,8 @@ const PORT_EXAMPLE: &str = "Example:
   1 pass 0010064c02045258000000000000000000000001\
 6a6a6a6a6a6a6a6a6a6a6a6a6a6a6a6a6a6a6a6a6a6a6a6a6a6a6a6a6a6a038c
   total 307200
-A cell that can't be served has a line with its fault, and the status is 0.";
+A cell that can't be served has a line with its fault, and the status is 0.
+With --stdin the total is told behind the last line.";
 
 const RUN_EXAMPLE: &str = "Example:
   printf 'ports = [512000]\\nevents = [\"start 0 0\"]\\n' | abt run

@@ -1,8 +1,9 @@
 //! The words of a command line, and the plans that they ask for.
-ghost use Rattle.std.specs.Prelude.{IfOk, IfSome};
+ghost use Rattle.std.specs.Prelude.{◌≤◌, IfOk, IfSome};
+ghost use Rattle.abt_rate.specs.Limits.{capacity_max};
 ghost use Rattle.abt_perform.specs.Plans.{IsWithinLimits};
 
-use crate::command::{CAPACITY, CODE, FILE, HEX, JSON, WORKERS, add_commands, program};
+use crate::command::{CAPACITY, CODE, FILE, HEX, JSON, STDIN, WORKERS, add_commands, program};
 use abt_perform::{Plan, WordsFault};
 use abt_rate::{CAPACITY_MAX, WORKERS_MAX};
 use clap::ArgMatches;
@@ -36,7 +37,7 @@ pub fn plan_words<'a>(alloc: Global, words: &'a [&'a str]) -> Result<Plan, Words
 }
 
 /// The plan of a command of this crate, by what `clap` found behind its name; None if the name is no such command's, or it is to answer as
-/// JSON.
+/// JSON, or line by line.
 pub fn plan_of(
     alloc: Global,
     name: &str,
@@ -44,7 +45,7 @@ pub fn plan_of(
 ) -> Result<Option<Plan>, WordsFault>
     ensures limits { IfOk result (λ plan. IfSome plan IsWithinLimits) }
 {
-    if found.get_flag(JSON) {
+    if found.get_flag(JSON) || found.get_flag(STDIN) {
         return Ok(None);
     }
     let plan = match name {
@@ -61,13 +62,7 @@ pub fn plan_of(
 fn port_plan(alloc: Global, found: &ArgMatches<'_>) -> Result<Plan, WordsFault>
     ensures { IfOk result IsWithinLimits }
 {
-    let digits = found.get_str(CAPACITY).unwrap_or("");
-    let Some(capacity) = found.get_one::<u64>(CAPACITY) else {
-        return no_plan(alloc, CAPACITY_RULE);
-    };
-    if capacity > CAPACITY_MAX || !is_digits(digits) {
-        return no_plan(alloc, CAPACITY_RULE);
-    }
+    let capacity = capacity_of(alloc, found)?;
     let mut cells = Vec::new(alloc);
     for cell in found.get_strs(HEX).unwrap_or(&[]) {
         let cell = String::from_str(alloc, cell)?;
@@ -76,6 +71,20 @@ fn port_plan(alloc: Global, found: &ArgMatches<'_>) -> Result<Plan, WordsFault>
         }
     }
     Ok(Plan::Port { capacity, cells })
+}
+
+/// The capacity that is named.
+pub fn capacity_of(alloc: Global, found: &ArgMatches<'_>) -> Result<u64, WordsFault>
+    ensures limits { IfOk result (λ capacity. capacity ≤ capacity_max) }
+{
+    let digits = found.get_str(CAPACITY).unwrap_or("");
+    let Some(capacity) = found.get_one::<u64>(CAPACITY) else {
+        return Err(wrong_words(alloc, CAPACITY_RULE)?);
+    };
+    if capacity > CAPACITY_MAX || !is_digits(digits) {
+        return Err(wrong_words(alloc, CAPACITY_RULE)?);
+    }
+    Ok(capacity)
 }
 
 fn threads_plan(alloc: Global, found: &ArgMatches<'_>) -> Result<Plan, WordsFault>
@@ -110,8 +119,13 @@ fn file_of(alloc: Global, found: &ArgMatches<'_>) -> Result<Option<String>, Allo
 pub fn no_plan(alloc: Global, why: &str) -> Result<Plan, WordsFault>
     ensures { IfOk result IsWithinLimits }
 {
+    Err(wrong_words(alloc, why)?)
+}
+
+// Words that are wrong for a reason of the program's own.
+fn wrong_words(alloc: Global, why: &str) -> Result<WordsFault, AllocError> {
     let text = format!(in alloc; "error: {why}\n\nFor more information, try '--help'.\n")?;
-    Err(WordsFault::Words(text))
+    Ok(WordsFault::Words(text))
 }
 
 /// What `clap` refuses, as it says so; the help or the version that was asked for; or want of memory.

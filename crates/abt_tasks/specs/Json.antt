@@ -6,11 +6,12 @@ use Rattle.abt_text.specs.Text.{Text}
 use Rattle.abt_commands.specs.Carried.{IsUnopened}
 use Rattle.abt_json.specs.Printed.{Prints, IsRefused, ReadsFor}
 use Rattle.abt_json.specs.declared.plan.JsonPlan.{JsonPlan}
-use Rattle.abt_json.specs.declared.plan.JsonPlan.TheVariants.{Rate, Cell, Run}
+use Rattle.abt_json.specs.declared.plan.JsonPlan.TheVariants.{Rate, Cell, Run, Explain}
 
 -- the file whose scenario is to be run
 abbrev pub file_of : JsonPlan → Option Text
 file_of (Run file) = option_map string_bytes file
+file_of (Explain file) = option_map string_bytes file
 file_of _ = None
 
 -- A plan that names a file has some reader in place of the input that is there.

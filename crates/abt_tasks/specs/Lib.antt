@@ -1,2 +1,5 @@
+pub mod Audits
+pub mod Check
+pub mod Checked
 pub mod Json
 pub mod Tasks

@@ -8,16 +8,24 @@ use Rattle.abt_perform.specs.Plans.{IsWithinLimits}
 use Rattle.abt_commands.specs.Carried.{IsDoneHere, IsRefusedHere, ReadsHere, IsUnopened}
 use Rattle.abt_explain.specs.Explained.{IsExplained, IsRefused}
 use Rattle.abt_explain.specs.declared.plan.ExplainPlan.{ExplainPlan}
+use Rattle.abt_codes.specs.Printed as codes_printed
 use Rattle.abt_parts.specs.Answered as parts
+use Rattle.abt_tasks.specs.Audits.{IsAuditedHere, IsUnauditedHere}
+use Rattle.abt_tasks.specs.Check.{TakesToCheck, IsCheckedHere, IsFaultyHere}
+use Rattle.abt_tasks.specs.Checked as checked
 use Rattle.abt_tasks.specs.Json.{TakesToSay, IsSaidHere, IsUnsaidHere}
 use Rattle.abt_tasks.specs.declared.task.Task.{Task}
-use Rattle.abt_tasks.specs.declared.task.Task.TheVariants.{Plan, Explain, Json, Parts}
+use Rattle.abt_tasks.specs.declared.task.Task.TheVariants.{Plan, Checked, Explain, Check, Json, Audit, Parts, Codes}
 
 abbrev pub IsAllowed : Task → Type 0
 IsAllowed (Plan plan) = IsWithinLimits plan
+IsAllowed (Checked plan) = IsWithinLimits plan
 IsAllowed (Explain plan) = ⊤
+IsAllowed (Check plan) = ⊤
 IsAllowed (Json plan) = ⊤
+IsAllowed (Audit plan) = ⊤
 IsAllowed (Parts plan) = parts.IsAllowedPlan plan
+IsAllowed (Codes plan) = ⊤
 
 -- the file whose scenario is to be explained
 abbrev pub file_of : ExplainPlan → Option Text
@@ -49,20 +57,37 @@ IsUnexplainedHere plan left old new errors_old errors_new = MatchOption (file_of
 -- what a task takes of the input that is there; where lines are answered, whatever it likes
 abbrev pub TakesOf : Task → (old new : Option Text) → Type 0
 TakesOf (Plan plan) old new = ReadsHere plan old new
+TakesOf (Checked plan) old new = checked.TakesToRun plan old new
 TakesOf (Explain plan) old new = TakesToExplain plan old new
+TakesOf (Check plan) old new = TakesToCheck plan old new
 TakesOf (Json plan) old new = TakesToSay plan old new
+TakesOf (Audit plan) old new = ⊤
 TakesOf (Parts plan) old new = ⊤
+TakesOf (Codes plan) old new = Keeps old new
 
 -- what the task prints went out, all of it
 abbrev pub IsCarriedOut : Task → (left old new : Option Text) → Type 0
 IsCarriedOut (Plan plan) left old new = IsDoneHere plan left old new
+IsCarriedOut (Checked plan) left old new = checked.IsDoneHere plan left old new
 IsCarriedOut (Explain plan) left old new = IsExplainedHere plan left old new
+IsCarriedOut (Check plan) left old new = IsCheckedHere plan left old new
 IsCarriedOut (Json plan) left old new = IsSaidHere plan left old new
+IsCarriedOut (Audit plan) left old new = IsAuditedHere plan left old new
 IsCarriedOut (Parts plan) left old new = parts.IsAnswered plan left old new
+IsCarriedOut (Codes plan) left old new = codes_printed.IsPrinted plan old new
+
+-- what is told of a task that is carried out: a check beside a run, if it is asked for, and else nothing
+abbrev pub TellsOf : Task → (left old new : Option Text) → Type 0
+TellsOf (Checked plan) left old new = checked.TellsHere plan left old new
+TellsOf task left old new = Keeps old new
 
 -- the task has a fault, which is told
 abbrev pub IsNotCarriedOut : Task → (left old new errors_old errors_new : Option Text) → Type 0
 IsNotCarriedOut (Plan plan) left old new errors_old errors_new = IsRefusedHere plan left old new errors_old errors_new
+IsNotCarriedOut (Checked plan) left old new errors_old errors_new = checked.IsRefusedHere plan left old new errors_old errors_new
 IsNotCarriedOut (Explain plan) left old new errors_old errors_new = IsUnexplainedHere plan left old new errors_old errors_new
+IsNotCarriedOut (Check plan) left old new errors_old errors_new = IsFaultyHere plan left old new errors_old errors_new
 IsNotCarriedOut (Json plan) left old new errors_old errors_new = IsUnsaidHere plan left old new errors_old errors_new
+IsNotCarriedOut (Audit plan) left old new errors_old errors_new = IsUnauditedHere plan left old new errors_old errors_new
 IsNotCarriedOut (Parts plan) left old new errors_old errors_new = parts.IsRefused plan left old new errors_old errors_new
+IsNotCarriedOut (Codes plan) left old new errors_old errors_new = codes_printed.IsRefused plan old new errors_old errors_new

@@ -1,11 +1,14 @@
 //! Tasks, carried out by the crates that do them.
 ghost use Rattle.std.specs.Prelude.{◌≡◌, ◌⊎◌};
-ghost use Rattle.std.specs.Io.KnownBytes.{Keeps};
-ghost use Rattle.abt_tasks.specs.Tasks.{IsAllowed, IsCarriedOut, IsNotCarriedOut, TakesOf};
+ghost use Rattle.abt_tasks.specs.Tasks.{IsAllowed, IsCarriedOut, IsNotCarriedOut, TakesOf, TellsOf};
 
+use crate::auditing::audit;
+use crate::checked::carry_out_checked;
+use crate::checking::check;
 use crate::explaining::explain;
 use crate::json::say_as_json;
 use crate::task::Task;
+use abt_codes::perform_codes;
 use abt_commands::carry_out;
 use abt_parts::perform_parts;
 use std::alloc::AllocGlobal;
@@ -15,7 +18,7 @@ use std::sync::Wait;
 use std::thread::Threads;
 
 /// Carries a task out over the files that it names, or else over an input that is there, and gives the exit status: 0 where it is
-/// done, and 1 where a line on `errors` tells why not.
+/// done, and 1 where a line on `errors` tells why not, or a check tells a fault.
 pub fn carry_out_task<T, R: Read, W: Write, E: Write>(
     rt: &T,
     task: &Task,
@@ -29,14 +32,18 @@ where
     ensures status { (result ≡ 0) ⊎ (result ≡ 1) }
     ensures reads { TakesOf task.now (R.remaining input.old) (R.remaining input.new) }
     ensures ok { result ≡ 0 → IsCarriedOut task.now (R.remaining input.old) (W.contents out.old) (W.contents out.new) }
-    ensures quiet { result ≡ 0 → Keeps (E.contents errors.old) (E.contents errors.new) }
+    ensures told { result ≡ 0 → TellsOf task.now (R.remaining input.old) (E.contents errors.old) (E.contents errors.new) }
     ensures err { result ≡ 1 → IsNotCarriedOut task.now (R.remaining input.old) (W.contents out.old) (W.contents out.new)
         (E.contents errors.old) (E.contents errors.new) }
 {
     match task {
         Task::Plan(plan) => carry_out(rt, plan, input, out, errors),
+        Task::Checked(plan) => carry_out_checked(rt, plan, input, out, errors),
         Task::Explain(plan) => explain(rt, plan, input, out, errors),
+        Task::Check(plan) => check(rt, plan, input, out, errors),
         Task::Json(plan) => say_as_json(rt, plan, input, out, errors),
+        Task::Audit(plan) => audit(rt, plan, input, out, errors),
         Task::Parts(plan) => perform_parts(rt.alloc(), plan, input, out, errors),
+        Task::Codes(plan) => perform_codes(rt.alloc(), plan, out, errors),
     }
 }

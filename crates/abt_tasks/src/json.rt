@@ -26,13 +26,18 @@ pub(crate) fn json_plan_of(
     let plan = match name {
         "rate" => JsonPlan::Rate(text_of(alloc, found, CODE)?),
         "cell" => JsonPlan::Cell(text_of(alloc, found, HEX)?),
-        "run" => JsonPlan::Run(match found.get_str(FILE) {
-            Some(file) => Some(String::from_str(alloc, file)?),
-            None => None,
-        }),
+        "run" => JsonPlan::Run(file_in(alloc, found)?),
+        "explain" => JsonPlan::Explain(file_in(alloc, found)?),
         _ => return Ok(None),
     };
     Ok(Some(plan))
+}
+
+fn file_in(alloc: Global, found: &ArgMatches<'_>) -> Result<Option<String>, AllocError> {
+    match found.get_str(FILE) {
+        Some(file) => Ok(Some(String::from_str(alloc, file)?)),
+        None => Ok(None),
+    }
 }
 
 fn text_of(alloc: Global, found: &ArgMatches<'_>, id: &str) -> Result<String, AllocError> {
@@ -71,7 +76,7 @@ fn file_of(plan: &JsonPlan) -> Option<&str>
     ensures { option_map (λ name. name.now) result ≡ json.file_of plan.now }
 {
     match plan {
-        JsonPlan::Run(Some(name)) => Some(name.as_str()),
+        JsonPlan::Run(Some(name)) | JsonPlan::Explain(Some(name)) => Some(name.as_str()),
         _ => None,
     }
 }

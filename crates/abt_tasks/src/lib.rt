@@ -1,10 +1,14 @@
 //! What the program does from its words on: the commands of all crates behind one command line, and what each is carried out by.
 #![tactic(auto)]
 
+mod auditing;
 mod carrying;
+mod checked;
+mod checking;
 mod environment;
 mod explaining;
 mod json;
+mod streams;
 mod task;
 mod words;
 

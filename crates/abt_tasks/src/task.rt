@@ -1,4 +1,7 @@
 //! What the words of a command line ask for.
+use abt_audit::AuditPlan;
+use abt_check::CheckPlan;
+use abt_codes::CodesPlan;
 use abt_explain::ExplainPlan;
 use abt_json::JsonPlan;
 use abt_parts::PartsPlan;
@@ -9,10 +12,18 @@ use abt_perform::Plan;
 pub enum Task {
     /// Say what a rate or a cell means, serve cells at a port, or run a scenario, also in threads.
     Plan(Plan),
+    /// Run a scenario, also in threads, and tell what is wrong or doubtful in it besides.
+    Checked(Plan),
     /// Run a scenario, and tell each of its events with its reason.
     Explain(ExplainPlan),
+    /// Tell what is wrong or doubtful in a scenario.
+    Check(CheckPlan),
     /// Say what a rate, a cell or a run is, as JSON.
     Json(JsonPlan),
-    /// Answer each line of the standard input by a policer or a shaper.
+    /// Say whether journals are those of one safe run.
+    Audit(AuditPlan),
+    /// Answer each line of the standard input: by a policer, a shaper or a port, or by what a cell says.
     Parts(PartsPlan),
+    /// Say which codes are nearest to a rate.
+    Codes(CodesPlan),
 }

@@ -3,8 +3,9 @@ ghost use Rattle.std.specs.Prelude.{IfOk};
 ghost use Rattle.abt_tasks.specs.Tasks.{IsAllowed};
 
 use crate::json::json_plan_of;
+use crate::streams::stream_of;
 use crate::task::Task;
-use abt_commands::{add_commands, no_plan, plan_of, program, refusal};
+use abt_commands::{EXPLAIN, add_commands, no_plan, plan_of, program, refusal};
 use abt_perform::{Plan, WordsFault};
 use clap::{ArgMatches, Command};
 use std::alloc::{AllocError, Global};
@@ -29,7 +30,10 @@ pub fn task_words<'a>(alloc: Global, words: &'a [&'a str]) -> Result<Task, Words
 fn whole_program<'a>(alloc: Global) -> Result<Command<'a>, AllocError> {
     let program = add_commands(alloc, program(alloc)?)?;
     let program = abt_explain::add_commands(alloc, program)?;
-    abt_parts::add_commands(alloc, program)
+    let program = abt_check::add_commands(alloc, program)?;
+    let program = abt_audit::add_commands(alloc, program)?;
+    let program = abt_parts::add_commands(alloc, program)?;
+    abt_codes::add_commands(alloc, program)
 }
 
 fn task_of(alloc: Global, name: &str, found: &ArgMatches<'_>) -> Result<Task, WordsFault>
@@ -38,14 +42,29 @@ fn task_of(alloc: Global, name: &str, found: &ArgMatches<'_>) -> Result<Task, Wo
     if let Some(plan) = json_plan_of(alloc, name, found)? {
         return Ok(Task::Json(plan));
     }
+    if let Some(plan) = stream_of(alloc, name, found)? {
+        return Ok(Task::Parts(plan));
+    }
     if let Some(plan) = plan_of(alloc, name, found)? {
+        if found.get_flag(EXPLAIN) {
+            return Ok(Task::Checked(plan));
+        }
         return Ok(Task::Plan(plan));
     }
     if let Some(plan) = abt_explain::plan_of(alloc, name, found)? {
         return Ok(Task::Explain(plan));
     }
+    if let Some(plan) = abt_check::plan_of(alloc, name, found)? {
+        return Ok(Task::Check(plan));
+    }
+    if let Some(plan) = abt_audit::plan_of(alloc, name, found)? {
+        return Ok(Task::Audit(plan));
+    }
     if let Some(plan) = abt_parts::plan_of(alloc, name, found)? {
         return Ok(Task::Parts(plan));
+    }
+    if let Some(plan) = abt_codes::plan_of(alloc, name, found)? {
+        return Ok(Task::Codes(plan));
     }
     no_task(alloc)
 }

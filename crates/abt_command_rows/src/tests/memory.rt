@@ -108,7 +108,10 @@ fn help_comes_after_memory_was_refused(rt: HostRuntime) -> Result<(), Fail> {
     for _time in 0..3 {
         match plan_words(rt.alloc(), &["port", "--help"]) {
             Err(WordsFault::Help(text)) => {
-                assert!(rt; text.as_str().ends_with("the status is 0.\n"), "{text}")
+                assert!(rt;
+                    text.as_str().ends_with("behind the last line.\n"),
+                    "{text}"
+                )
             }
             Err(WordsFault::Memory) => {
                 assert!(rt; !refused);

@@ -201,12 +201,12 @@ fn help_shows_each_command_with_an_example(rt: HostRuntime) -> Result<(), Fail> 
         ),
         (
             "cell",
-            "Usage: abt cell [OPTIONS] <HEX>",
+            "Usage: abt cell [OPTIONS] [HEX]",
             "request vpi 1 vci 100 seq 1 floor 0000 ask 5258",
         ),
         (
             "port",
-            "Usage: abt port <CAPACITY> <HEX>...",
+            "Usage: abt port [OPTIONS] <CAPACITY> [HEX]...",
             "total 307200",
         ),
         (
@@ -216,7 +216,7 @@ fn help_shows_each_command_with_an_example(rt: HostRuntime) -> Result<(), Fail> 
         ),
         (
             "threads",
-            "Usage: abt threads --workers <N> [FILE]",
+            "Usage: abt threads [OPTIONS] --workers <N> [FILE]",
             "gathered",
         ),
     ] {

@@ -1,0 +1,35 @@
+-- What an audit leaves, over the files that are named or over the input that is there.
+use Rattle.std.specs.Prelude.{◌≡◌, ◌⊎◌, List, [], ◌∷◌, length, Option, String}
+use Rattle.std.specs.declared.alloc.Global.{Global}
+use Rattle.std.specs.Io.KnownBytes.{Keeps}
+use Rattle.abt_text.specs.Text.{Text}
+use Rattle.abt_perform.specs.Names.{fault_line}
+use Rattle.abt_perform.specs.Plans.{Tells}
+use Rattle.abt_perform.specs.declared.fault.Fault.TheVariants.{Memory}
+use Rattle.abt_commands.specs.Carried.{IsUnopened}
+use Rattle.abt_audit.specs.Performing.{IsShownWhole, IsNotShown}
+use Rattle.abt_audit.specs.declared.plan.AuditPlan.{AuditPlan}
+use Rattle.abt_audit.specs.declared.plan.AuditPlan.TheVariants.{Input, Files}
+
+-- A plan that names files has some reader for each name.
+pub record IsShownOver (names : List (String Global)) (old new : Option Text) : Type 0 where
+  pub lefts : List (Option Text)
+  pub each : length lefts ≡ length names
+  pub shown : IsShownWhole lefts old new
+
+pub record IsNotShownOver (names : List (String Global)) (old new errors_old errors_new : Option Text) : Type 0 where
+  pub lefts : List (Option Text)
+  pub each : length lefts ≡ length names
+  pub not_shown : IsNotShown names lefts old new errors_old errors_new
+
+-- the journals of the texts are shown to be those of one safe run
+abbrev pub IsAuditedHere : AuditPlan → (left old new : Option Text) → Type 0
+IsAuditedHere Input left old new = IsShownWhole (left ∷ []) old new
+IsAuditedHere (Files names) left old new = IsShownOver names.items old new
+
+-- they aren't, which is told
+abbrev pub IsUnauditedHere : AuditPlan → (left old new errors_old errors_new : Option Text) → Type 0
+IsUnauditedHere Input left old new errors_old errors_new =
+    IsNotShown [] (left ∷ []) old new errors_old errors_new ⊎ (Keeps old new × Tells (fault_line Memory) errors_old errors_new)
+IsUnauditedHere (Files names) left old new errors_old errors_new =
+    IsUnopened old new errors_old errors_new ⊎ IsNotShownOver names.items old new errors_old errors_new

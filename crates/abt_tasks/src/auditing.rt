@@ -1,0 +1,74 @@
+//! Audits, over the files that are named or over the input that is there.
+ghost use Rattle.std.specs.Prelude.{◌≡◌, ◌⊎◌, length, IfOk};
+ghost use Rattle.std.specs.Io.KnownBytes.{Keeps};
+ghost use Rattle.abt_tasks.specs.Audits.{IsAuditedHere, IsUnauditedHere};
+
+use abt_audit::{AuditPlan, perform_audit};
+use abt_commands::line_of_unopened;
+use abt_perform::{MEMORY_LINE, tell_text};
+use std::alloc::{AllocGlobal, Global};
+use std::fs::File;
+use std::io::{self, Error, ErrorKind, Read, Write};
+use std::rt::Files;
+
+// Audits the journals of the files that a plan names, or else of an input that is there, and gives the exit status.
+pub(crate) fn audit<T: Files + AllocGlobal, R: Read, W: Write, E: Write>(
+    rt: &T,
+    plan: &AuditPlan,
+    input: &mut R,
+    out: &mut W,
+    errors: &mut E,
+) -> u8
+    ensures status { (result ≡ 0) ⊎ (result ≡ 1) }
+    ensures ok { result ≡ 0 → IsAuditedHere plan.now (R.remaining input.old) (W.contents out.old) (W.contents out.new) }
+    ensures quiet { result ≡ 0 → Keeps (E.contents errors.old) (E.contents errors.new) }
+    ensures err { result ≡ 1 → IsUnauditedHere plan.now (R.remaining input.old) (W.contents out.old) (W.contents out.new)
+        (E.contents errors.old) (E.contents errors.new) }
+{
+    let names = match plan {
+        AuditPlan::Input => return audit_input(rt.alloc(), input, out, errors),
+        AuditPlan::Files(names) => names.as_slice(),
+    };
+    match open_all(rt, names) {
+        Ok(files) => perform_audit(rt.alloc(), names, files, out, errors),
+        Err(error) => {
+            tell_text(errors, line_of_unopened(&error));
+            1
+        }
+    }
+}
+
+// Audits the journals of an input that is there.
+fn audit_input<R: Read, W: Write, E: Write>(
+    alloc: Global,
+    input: &mut R,
+    out: &mut W,
+    errors: &mut E,
+) -> u8
+    ensures status { (result ≡ 0) ⊎ (result ≡ 1) }
+    ensures ok { result ≡ 0 → IsAuditedHere AuditPlan.Input (R.remaining input.old) (W.contents out.old) (W.contents out.new) }
+    ensures quiet { result ≡ 0 → Keeps (E.contents errors.old) (E.contents errors.new) }
+    ensures err { result ≡ 1 → IsUnauditedHere AuditPlan.Input (R.remaining input.old) (W.contents out.old) (W.contents out.new)
+        (E.contents errors.old) (E.contents errors.new) }
+{
+    let mut readers = Vec::new(alloc);
+    if readers.push(input).is_err() {
+        tell_text(errors, MEMORY_LINE);
+        return 1;
+    }
+    perform_audit(alloc, &[], readers, out, errors)
+}
+
+// The files of these names, in their order.
+fn open_all<T: Files + AllocGlobal>(rt: &T, names: &[String]) -> io::Result<Vec<T::File>>
+    ensures { IfOk result (λ files. length files.items ≡ length names.now) }
+{
+    let mut files = Vec::new(rt.alloc());
+    for name in names {
+        let file = File::open(rt, name.as_str())?;
+        if files.push(file).is_err() {
+            return Err(Error::from(ErrorKind::OutOfMemory));
+        }
+    }
+    Ok(files)
+}
