@@ -11,7 +11,7 @@ mod source;
 
 use abt_cell::Vc;
 use std::alloc::Global;
-use std::fmt::Display;
+use std::fmt::{Debug, Display};
 use std::process::Abort;
 use std::test::Fail;
 
@@ -20,12 +20,22 @@ fn channel(vci: u16) -> Result<Vc, Fail> {
     Ok(Vc::new(1, vci).ok_or("the VPI is too great")?)
 }
 
+/// Demands that two values are equal. What calls this knows nothing of them from it, which keeps its proof short.
+fn same<T: PartialEq + Debug>(rt: &impl Abort, found: &T, expected: &T) {
+    assert_eq!(rt; *found, *expected);
+}
+
+/// The same of two lists.
+fn same_items<T: PartialEq + Debug>(rt: &impl Abort, found: &[T], expected: &[T]) {
+    assert_eq!(rt; found, expected);
+}
+
 /// Demands the words in which a value is told; where memory was refused, they are asked for again.
 fn says<T: Display>(rt: &impl Abort, alloc: Global, value: &T, words: &str) -> Result<(), Fail> {
     let said = match format!(in alloc; "{value}") {
         Ok(said) => said,
         Err(_) => format!(in alloc; "{value}")?,
     };
-    assert_eq!(rt; said.as_str(), words);
+    same(rt, &said.as_str(), &words);
     Ok(())
 }

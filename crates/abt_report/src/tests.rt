@@ -30,7 +30,7 @@ fn trace(alloc: Global, outcomes: &[Outcome], safe: bool) -> Result<Trace, Alloc
     })
 }
 
-// Demands the report of these outcomes. Where memory is refused, the report is made again.
+// Demands the report of these outcomes. Where memory is refused, the trace, or the report, is made again.
 fn expect(
     rt: &impl Abort,
     alloc: Global,
@@ -38,10 +38,13 @@ fn expect(
     safe: bool,
     text: &str,
 ) -> Result<(), Fail> {
-    let trace = trace(alloc, outcomes, safe)?;
-    let made = match report_text(alloc, &trace) {
+    let reported = match trace(alloc, outcomes, safe) {
+        Ok(trace) => trace,
+        Err(_) => trace(alloc, outcomes, safe)?,
+    };
+    let made = match report_text(alloc, &reported) {
         Ok(made) => made,
-        Err(_) => report_text(alloc, &trace)?,
+        Err(_) => report_text(alloc, &reported)?,
     };
     assert_eq!(rt; made.as_str(), text);
     Ok(())

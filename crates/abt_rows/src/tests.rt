@@ -18,8 +18,24 @@ use abt_rate::Rate;
 use abt_shaper::ShapeFault;
 use abt_world::{Cause, Conn, Event, Heard, Net, NetFault, Outcome, Path, Trace, World, run};
 use std::alloc::{AllocError, Global};
+use std::fmt::Debug;
 use std::process::Abort;
 use std::test::Fail;
+
+/// Demands that two values are equal. What calls this knows nothing of them from it, which keeps its proof short.
+fn same<T: PartialEq + Debug>(rt: &impl Abort, found: &T, expected: &T) {
+    assert_eq!(rt; *found, *expected);
+}
+
+/// The same of two lists.
+fn same_items<T: PartialEq + Debug>(rt: &impl Abort, found: &[T], expected: &[T]) {
+    assert_eq!(rt; found, expected);
+}
+
+/// The same at a place that is told where they differ.
+fn same_at<T: PartialEq + Debug, P: Debug>(rt: &impl Abort, found: &T, expected: &T, place: &P) {
+    assert_eq!(rt; *found, *expected, "{place:?}");
+}
 
 /// A connection of VPI 1, with its access line.
 #[derive(Clone, Copy)]
@@ -119,7 +135,7 @@ fn step(rt: &impl Abort, world: &mut World<'_>, event: &Event) -> Result<Outcome
     match world.step(event) {
         Ok(outcome) => Ok(outcome),
         Err(_) => {
-            assert_eq!(rt; holdings(world), before);
+            same(rt, &holdings(world), &before);
             world.step(event)
         }
     }
@@ -131,31 +147,43 @@ type Row = (Event, Outcome);
 /// Carries a world through a story.
 fn tell(rt: &impl Abort, world: &mut World<'_>, story: &[Row]) -> Result<(), Fail> {
     for (event, expected) in story {
-        assert_eq!(rt; step(rt, world, event)?, *expected, "{event:?}");
+        same_at(rt, &step(rt, world, event)?, expected, event);
     }
     Ok(())
 }
 
+/// Carries a world of a net through a story, from its beginning.
+fn told_of(rt: &impl Abort, alloc: Global, net: &Net, story: &[Row]) -> Result<(), Fail> {
+    let mut world = world(alloc, net)?;
+    tell(rt, &mut world, story)
+}
+
+/// The same of the net with one port.
+fn told_alone(rt: &impl Abort, alloc: Global, story: &[Row]) -> Result<(), Fail> {
+    let net = lone(alloc)?;
+    told_of(rt, alloc, &net, story)
+}
+
 /// Demands the rate of a source and what each hop of its path holds, and that there is no further hop.
 fn holds(rt: &impl Abort, world: &World<'_>, conn: u16, rate: u16, held: &[u16]) {
-    assert_eq!(rt; world.rate(conn), Some(Rate::from_code(rate)));
-    assert_eq!(rt; world.held(conn, 0), None);
+    same(rt, &world.rate(conn), &Some(Rate::from_code(rate)));
+    same(rt, &world.held(conn, 0), &None);
     let mut hop = 1;
     for code in held {
-        assert_eq!(rt; world.held(conn, hop), Some(Rate::from_code(*code)));
+        same(rt, &world.held(conn, hop), &Some(Rate::from_code(*code)));
         hop = hop.saturating_add(1);
     }
-    assert_eq!(rt; world.held(conn, hop), None);
+    same(rt, &world.held(conn, hop), &None);
 }
 
 /// Demands what each port holds in all, and that there is no further port.
 fn totals(rt: &impl Abort, world: &World<'_>, totals: &[u64]) {
     let mut port = 0;
     for total in totals {
-        assert_eq!(rt; world.total(port), Some(*total));
+        same(rt, &world.total(port), &Some(*total));
         port = port.saturating_add(1);
     }
-    assert_eq!(rt; world.total(port), None);
+    same(rt, &world.total(port), &None);
 }
 
 fn starts(conn: u16, now: u64) -> Row {

@@ -6,7 +6,7 @@ mod runs;
 mod streams;
 
 use abt_scenario::{Scenario, ScenarioFault, read};
-use std::alloc::Global;
+use std::alloc::{AllocError, Global};
 use std::test::Fail;
 
 /// The net of one port of 1,000 cells per second and one connection over it, and what follows in its table.
@@ -38,8 +38,15 @@ fn scenario(alloc: Global, text: &str) -> Result<Scenario, Fail> {
     }
 }
 
-/// A text out of its pieces.
-fn joined(alloc: Global, pieces: &[&str]) -> Result<String, Fail> {
+/// A text out of its pieces, which is made again where memory was refused for it.
+fn joined(alloc: Global, pieces: &[&str]) -> Result<String, AllocError> {
+    match joined_once(alloc, pieces) {
+        Ok(text) => Ok(text),
+        Err(_) => joined_once(alloc, pieces),
+    }
+}
+
+fn joined_once(alloc: Global, pieces: &[&str]) -> Result<String, AllocError> {
     let mut text = String::new(alloc);
     for piece in pieces {
         text.push_str(piece)?;

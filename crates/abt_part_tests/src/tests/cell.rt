@@ -5,7 +5,7 @@ mod fields;
 mod reading;
 mod writing;
 
-use super::says;
+use super::{same, says};
 use abt_cell::{Answer, Cell, Request, Rm, Vc};
 use abt_rate::Rate;
 

@@ -1,5 +1,6 @@
 ghost use Rattle.std.specs.Prelude.{◌≤◌, All};
 
+use super::{same, same_items};
 use abt_gcra::{Bucket, Gcra, GcraFault, PoliceFault, Policer, SPACING_MAX, Verdict, police};
 use abt_rate::{Rate, TAU_MAX};
 use std::alloc::Global;
@@ -13,8 +14,8 @@ fn judged(rt: &impl Abort, gcra: &mut Gcra, bucket: &mut Bucket, cell: (u64, u64
     requires least { 1 ≤ cell.1 }
     requires greatest { cell.1 ≤ SPACING_MAX }
 {
-    assert_eq!(rt; gcra.check(cell.0, cell.1), Ok(verdict));
-    assert_eq!(rt; bucket.check(cell.0, cell.1), Ok(verdict));
+    same(rt, &gcra.check(cell.0, cell.1), &Ok(verdict));
+    same(rt, &bucket.check(cell.0, cell.1), &Ok(verdict));
 }
 
 fn policed(
@@ -24,7 +25,7 @@ fn policed(
     held: Rate,
     expected: Result<Verdict, GcraFault>,
 ) {
-    assert_eq!(rt; policer.arrive(at, held), expected);
+    same(rt, &policer.arrive(at, held), &expected);
 }
 
 // Cells with a spacing of 10 within a tolerance of 2. The fourth arrives at 27, and is due at 30,
@@ -53,7 +54,7 @@ fn listed(alloc: Global, tau: u64, cells: &[(u64, u64)]) -> Result<Vec<Verdict>,
 #[test]
 fn the_fourth_of_five_cells_comes_too_early(rt: HostRuntime) -> Result<(), Fail> {
     let verdicts = listed(rt.alloc(), 2, &FIVE_CELLS)?;
-    assert_eq!(rt; verdicts.as_slice(), FIVE_VERDICTS.as_slice());
+    same_items(&rt, &verdicts, &FIVE_VERDICTS);
     let mut gcra = Gcra::new(2);
     let mut bucket = Bucket::new(2);
     for (cell, verdict) in FIVE_CELLS.iter().zip(FIVE_VERDICTS.iter()) {
@@ -65,10 +66,10 @@ fn the_fourth_of_five_cells_comes_too_early(rt: HostRuntime) -> Result<(), Fail>
 #[test]
 fn a_list_is_refused_at_its_first_bad_cell(rt: HostRuntime) -> Result<(), Fail> {
     let back = listed(rt.alloc(), 0, &[(5, 10), (4, 10)]).err();
-    assert_eq!(rt; back, Some(PoliceFault::ClockBack { index: 1 }));
+    same(&rt, &back, &Some(PoliceFault::ClockBack { index: 1 }));
     let late = listed(rt.alloc(), 0, &[(4611686018427387905, 10)]).err();
-    assert_eq!(rt; late, Some(PoliceFault::TimeRange { index: 0 }));
-    assert_eq!(rt; listed(rt.alloc(), 0, &[])?.len(), 0);
+    same(&rt, &late, &Some(PoliceFault::TimeRange { index: 0 }));
+    same(&rt, &listed(rt.alloc(), 0, &[])?.len(), &0);
     Ok(())
 }
 
@@ -98,20 +99,23 @@ fn the_greatest_arrival_is_timed(rt: HostRuntime) -> Result<(), Fail> {
     one_moment_later(&rt, &mut gcra, &mut bucket);
     let fault = Err(GcraFault::TimeRange);
     policed(&rt, &mut policer, 4611686018427387905, rate, fault);
-    assert_eq!(rt;
-        listed(rt.alloc(), 0, &[(4611686018427387904, 1)])?.len(),
-        1
+    same(
+        &rt,
+        &listed(rt.alloc(), 0, &[(4611686018427387904, 1)])?.len(),
+        &1,
     );
     Ok(())
 }
 
 fn one_moment_later(rt: &impl Abort, gcra: &mut Gcra, bucket: &mut Bucket) {
-    assert_eq!(rt;
-        gcra.check(4611686018427387905, 1),
-        Err(GcraFault::TimeRange)
+    same(
+        rt,
+        &gcra.check(4611686018427387905, 1),
+        &Err(GcraFault::TimeRange),
     );
-    assert_eq!(rt;
-        bucket.check(4611686018427387905, 1),
-        Err(GcraFault::TimeRange)
+    same(
+        rt,
+        &bucket.check(4611686018427387905, 1),
+        &Err(GcraFault::TimeRange),
     );
 }

@@ -1,5 +1,5 @@
 //! Records, their octets, and a store in memory.
-use super::says;
+use super::{same, says};
 use abt_keep::{MemoryStore, Record, RecordFault, SeqStore, StoreFault, StorePlan};
 use std::process::Abort;
 use std::test::Fail;
@@ -17,12 +17,12 @@ fn under<K: SeqStore>(store: &mut K, n: u32) -> (bool, bool, Option<u32>) {
 #[test]
 fn a_plan_is_for_the_next_call_alone(rt: HostRuntime) {
     let mut store = MemoryStore::new(7);
-    assert_eq!(rt; under(&mut store, 8), (true, true, Some(8)));
-    assert_eq!(rt; store.failures(), 0);
+    same(&rt, &under(&mut store, 8), &(true, true, Some(8)));
+    same(&rt, &store.failures(), &0);
 
     store.plan(StorePlan::FailsBefore);
-    assert_eq!(rt; under(&mut store, 9), (false, true, Some(9)));
-    assert_eq!(rt; store.failures(), 1);
+    same(&rt, &under(&mut store, 9), &(false, true, Some(9)));
+    same(&rt, &store.failures(), &1);
 }
 
 #[test]
@@ -35,14 +35,14 @@ fn a_write_that_failed_may_be_kept(rt: HostRuntime) -> Result<(), Fail> {
 
     store.plan(StorePlan::FailsAfter);
     keep_fails(&rt, &mut store, after, after);
-    assert_eq!(rt; store.failures(), 2);
+    same(&rt, &store.failures(), &2);
     Ok(())
 }
 
 // Demands that a write fails, and which record is then kept.
 fn keep_fails(rt: &impl Abort, store: &mut MemoryStore, kept: Record, expected: Record) {
-    assert_eq!(rt; store.keep(kept), Err(StoreFault::Device));
-    assert_eq!(rt; store.kept(), Ok(expected));
+    same(rt, &store.keep(kept), &Err(StoreFault::Device));
+    same(rt, &store.kept(), &Ok(expected));
 }
 
 #[test]
@@ -53,7 +53,7 @@ fn a_record_has_a_spacing_of_some_rate(rt: HostRuntime) {
         (1000000000000, true),
         (1000000000001, false),
     ] {
-        assert_eq!(rt; Record::new(1, spacing).is_some(), is_one);
+        same(&rt, &Record::new(1, spacing).is_some(), &is_one);
     }
 }
 
@@ -71,8 +71,8 @@ fn reads_as(rt: &impl Abort, octets: &[u8], spacing: u64, back: [u8; 12]) -> Res
     let Ok(record) = Record::from_octets(octets) else {
         return Err("no record".into());
     };
-    assert_eq!(rt; (record.number(), record.spacing()), (42, spacing));
-    assert_eq!(rt; record.to_octets(), back);
+    same(rt, &(record.number(), record.spacing()), &(42, spacing));
+    same(rt, &record.to_octets(), &back);
     Ok(())
 }
 
@@ -85,10 +85,14 @@ fn octets_are_read_as_they_are_written(rt: HostRuntime) -> Result<(), Fail> {
 
 #[test]
 fn other_octets_are_no_record(rt: HostRuntime) {
-    assert_eq!(rt; Record::from_octets(&TOO_SHORT), Err(RecordFault::Spacing));
+    same(
+        &rt,
+        &Record::from_octets(&TOO_SHORT),
+        &Err(RecordFault::Spacing),
+    );
     let five = [0, 0, 0, 0x2a, 0];
-    assert_eq!(rt; Record::from_octets(&five), Err(RecordFault::Length));
-    assert_eq!(rt; Record::from_octets(&[]), Err(RecordFault::Length));
+    same(&rt, &Record::from_octets(&five), &Err(RecordFault::Length));
+    same(&rt, &Record::from_octets(&[]), &Err(RecordFault::Length));
 }
 
 #[test]

@@ -1,3 +1,4 @@
+use super::same;
 use abt_ledger::{CapacityFault, Ledger};
 use abt_rate::Rate;
 
@@ -9,10 +10,10 @@ fn two_connections_share_a_link(rt: HostRuntime) {
     // By docs/RULES.md, "Rates": code 5258 is 600 cells per second, 307,200 units, and 5120 is 400, 204,800 units.
     let (most, rest) = (Rate::from_code(0x5258), Rate::from_code(0x5120));
     let mut ledger = Ledger::new(CAPACITY);
-    assert_eq!(rt; ledger.capacity(), 512000);
+    same(&rt, &ledger.capacity(), &512000);
     let first = ledger.open();
     let (Ok(first) | Err(first)) = ledger.change(first, most);
-    assert_eq!(rt; ledger.total(), 307200);
+    same(&rt, &ledger.total(), &307200);
     let second = ledger.open();
     let second = match ledger.change(second, most) {
         Err(second) => second,
@@ -22,16 +23,16 @@ fn two_connections_share_a_link(rt: HostRuntime) {
             panic!(rt; "twice 600 cells per second fit into 1,000")
         }
     };
-    assert_eq!(rt; second.rate(), Rate::ZERO);
+    same(&rt, &second.rate(), &Rate::ZERO);
     let (Ok(second) | Err(second)) = ledger.change(second, rest);
-    assert_eq!(rt; second.rate(), rest);
-    assert_eq!(rt; ledger.total(), 512000);
+    same(&rt, &second.rate(), &rest);
+    same(&rt, &ledger.total(), &512000);
     let (Ok(first) | Err(first)) = ledger.change(first, Rate::ZERO);
-    assert_eq!(rt; first.rate(), Rate::ZERO);
-    assert_eq!(rt; ledger.total(), 204800);
+    same(&rt, &first.rate(), &Rate::ZERO);
+    same(&rt, &ledger.total(), &204800);
     ledger.close(first);
     ledger.close(second);
-    assert_eq!(rt; ledger.total(), 0);
+    same(&rt, &ledger.total(), &0);
 }
 
 #[test]
@@ -50,16 +51,18 @@ fn a_link_shrinks_to_what_is_held(rt: HostRuntime) {
     );
     let (total, capacity) = (ledger.total(), ledger.capacity());
     ledger.close(hold);
-    assert_eq!(rt; answers.0, Err(CapacityFault::BelowSum));
-    assert_eq!(rt; answers.1, 512000);
-    assert_eq!(rt; (answers.2, answers.3), (Ok(()), 307200));
-    assert_eq!(rt;
-        (answers.4, answers.5),
-        (Err(CapacityFault::AboveLimit), 307200)
+    same(&rt, &answers.0, &Err(CapacityFault::BelowSum));
+    same(&rt, &answers.1, &512000);
+    same(&rt, &(answers.2, answers.3), &(Ok(()), 307200));
+    same(
+        &rt,
+        &(answers.4, answers.5),
+        &(Err(CapacityFault::AboveLimit), 307200),
     );
-    assert_eq!(rt;
-        (answers.6, total, capacity),
-        (Ok(()), 307200, 1152921504606846976)
+    same(
+        &rt,
+        &(answers.6, total, capacity),
+        &(Ok(()), 307200, 1152921504606846976),
     );
-    assert_eq!(rt; ledger.set_capacity(0), Ok(()));
+    same(&rt, &ledger.set_capacity(0), &Ok(()));
 }

@@ -1,3 +1,4 @@
+use super::{same, same_items};
 use abt_list::Sequence;
 use std::alloc::{AllocError, Global};
 use std::process::Abort;
@@ -8,12 +9,12 @@ fn push_three(rt: &impl Abort, numbers: &mut Sequence<u64>) -> Result<(), AllocE
     for number in [4, 7, 4] {
         let before = numbers.len();
         if numbers.push(number).is_err() {
-            assert_eq!(rt; numbers.len(), before);
+            same(rt, &numbers.len(), &before);
             numbers.push(number)?;
         }
     }
-    assert_eq!(rt; numbers.as_slice(), [4, 7, 4].as_slice());
-    assert_eq!(rt; numbers.len(), 3);
+    same_items(rt, numbers.as_slice(), &[4, 7, 4]);
+    same(rt, &numbers.len(), &3);
     Ok(())
 }
 
@@ -40,7 +41,7 @@ fn what_is_pushed_stands_at_the_end(rt: HostRuntime) -> Result<(), Fail> {
     let mut roomy = roomy(rt.alloc())?;
     assert!(rt; roomy.is_empty());
     push_three(&rt, &mut roomy)?;
-    let same: Sequence<u64> = slice_of_three(rt.alloc())?.into();
-    assert_eq!(rt; same.as_slice(), numbers.as_slice());
+    let made: Sequence<u64> = slice_of_three(rt.alloc())?.into();
+    same_items(&rt, made.as_slice(), numbers.as_slice());
     Ok(())
 }

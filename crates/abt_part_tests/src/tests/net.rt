@@ -1,4 +1,4 @@
-use super::says;
+use super::{same, same_items, says};
 use abt_cell::Vc;
 use abt_net::{Conn, Net, NetFault, Path};
 use std::alloc::{AllocError, Global};
@@ -44,43 +44,42 @@ fn fault_once(alloc: Global, given: &[(u16, &[u16])]) -> Result<Option<NetFault>
     fault_at_one_port(alloc, listed(alloc, given)?)
 }
 
+// Demands the fault of connections of these VCIs and paths.
+fn is_refused(
+    rt: &impl Abort,
+    alloc: Global,
+    given: &[(u16, &[u16])],
+    expected: Option<NetFault>,
+) -> Result<(), Fail> {
+    same(rt, &fault_of_paths(alloc, given)?, &expected);
+    Ok(())
+}
+
 // The expected fault of each row is the first rule of docs/RULES.md, "Limits", that it breaks.
 #[test]
 fn each_broken_rule_has_its_fault_and_the_earliest_is_named(rt: HostRuntime) -> Result<(), Fail> {
     let alloc = rt.alloc();
     let connection = 0;
-    let later = 1;
-    let rows: [(&[(u16, &[u16])], Option<NetFault>); 10] = [
-        (&[(100, &[0])], None),
-        (&[], None),
-        (&[(100, &[1])], Some(NetFault::NoPort { connection })),
-        (&[(100, &[])], Some(NetFault::PathLength { connection })),
-        (&[(100, &[0, 0])], Some(NetFault::PathRepeat { connection })),
-        (
-            &[(100, &[0]), (100, &[0])],
-            Some(NetFault::VcRepeat { connection: later }),
-        ),
-        (
-            &[(100, &[]), (101, &[1])],
-            Some(NetFault::NoPort { connection: later }),
-        ),
-        (
-            &[(100, &[0, 0]), (101, &[])],
-            Some(NetFault::PathLength { connection: later }),
-        ),
-        (
-            &[(100, &[0]), (100, &[0, 0])],
-            Some(NetFault::PathRepeat { connection: later }),
-        ),
-        (
-            &[(100, &[0]), (101, &[0]), (101, &[0]), (100, &[0])],
-            Some(NetFault::VcRepeat { connection: 2 }),
-        ),
-    ];
-    for (given, expected) in rows {
-        assert_eq!(rt; fault_of_paths(alloc, given)?, expected);
-    }
-    Ok(())
+    is_refused(&rt, alloc, &[(100, &[0])], None)?;
+    is_refused(&rt, alloc, &[], None)?;
+    let no_port = Some(NetFault::NoPort { connection });
+    is_refused(&rt, alloc, &[(100, &[1])], no_port)?;
+    let length = Some(NetFault::PathLength { connection });
+    is_refused(&rt, alloc, &[(100, &[])], length)?;
+    let repeat = Some(NetFault::PathRepeat { connection });
+    is_refused(&rt, alloc, &[(100, &[0, 0])], repeat)?;
+    let connection = 1;
+    let channel = Some(NetFault::VcRepeat { connection });
+    is_refused(&rt, alloc, &[(100, &[0]), (100, &[0])], channel)?;
+    let no_port = Some(NetFault::NoPort { connection });
+    is_refused(&rt, alloc, &[(100, &[]), (101, &[1])], no_port)?;
+    let length = Some(NetFault::PathLength { connection });
+    is_refused(&rt, alloc, &[(100, &[0, 0]), (101, &[])], length)?;
+    let repeat = Some(NetFault::PathRepeat { connection });
+    is_refused(&rt, alloc, &[(100, &[0]), (100, &[0, 0])], repeat)?;
+    let given: [(u16, &[u16]); 4] = [(100, &[0]), (101, &[0]), (101, &[0]), (100, &[0])];
+    let channel = Some(NetFault::VcRepeat { connection: 2 });
+    is_refused(&rt, alloc, &given, channel)
 }
 
 // The sizes of a net: so many ports of one capacity, so many connections over the first `hops` of
@@ -127,108 +126,86 @@ fn fault_at_once(alloc: Global, sizes: &Sizes) -> Result<Option<NetFault>, Alloc
     Ok(Net::build(alloc, capacities, conns).err())
 }
 
+// Demands what is answered to a net of these sizes.
+fn is_answered(
+    rt: &impl Abort,
+    alloc: Global,
+    row: &str,
+    sizes: &Sizes,
+    expected: Option<NetFault>,
+) -> Result<(), Fail> {
+    assert_eq!(rt; fault_at(alloc, sizes)?, expected, "{row}");
+    Ok(())
+}
+
 // The limits are those of docs/RULES.md, "Limits", in digits.
 #[test]
 fn limits_hold_to_their_edge_and_not_one_past_it(rt: HostRuntime) -> Result<(), Fail> {
     let alloc = rt.alloc();
-    let too_few_or_many = Some(NetFault::PathLength { connection: 0 });
-    let rows = [
-        (
-            "256 ports",
-            Sizes {
-                ports: 256,
-                ..SMALL
-            },
-            None,
-        ),
-        (
-            "257 ports",
-            Sizes {
-                ports: 257,
-                ..SMALL
-            },
-            Some(NetFault::Limit),
-        ),
-        (
-            "1,024 connections",
-            Sizes {
-                conns: 1024,
-                ..SMALL
-            },
-            None,
-        ),
-        (
-            "1,025 connections",
-            Sizes {
-                conns: 1025,
-                ..SMALL
-            },
-            Some(NetFault::Limit),
-        ),
-        ("no hop", Sizes { hops: 0, ..SMALL }, too_few_or_many),
-        ("16 hops", Sizes { hops: 16, ..SMALL }, None),
-        ("17 hops", Sizes { hops: 17, ..SMALL }, too_few_or_many),
-        (
-            "tau 1 s",
-            Sizes {
-                tau: 1000000000000,
-                ..SMALL
-            },
-            None,
-        ),
-        (
-            "tau past 1 s",
-            Sizes {
-                tau: 1000000000001,
-                ..SMALL
-            },
-            Some(NetFault::Limit),
-        ),
-        (
-            "delay 10 s",
-            Sizes {
-                delay: 10000000000000,
-                ..SMALL
-            },
-            None,
-        ),
-        (
-            "delay past 10 s",
-            Sizes {
-                delay: 10000000000001,
-                ..SMALL
-            },
-            Some(NetFault::Limit),
-        ),
-        (
-            "capacity 0",
-            Sizes {
-                capacity: 0,
-                ..SMALL
-            },
-            None,
-        ),
-        (
-            "capacity 2^60",
-            Sizes {
-                capacity: 1152921504606846976,
-                ..SMALL
-            },
-            None,
-        ),
-        (
-            "capacity past 2^60",
-            Sizes {
-                capacity: 1152921504606846977,
-                ..SMALL
-            },
-            Some(NetFault::Limit),
-        ),
-    ];
-    for (row, sizes, expected) in &rows {
-        assert_eq!(rt; fault_at(alloc, sizes)?, *expected, "{row}");
-    }
-    Ok(())
+    let small = SMALL;
+    let past = Some(NetFault::Limit);
+    let length = Some(NetFault::PathLength { connection: 0 });
+    let sizes = Sizes {
+        ports: 256,
+        ..small
+    };
+    is_answered(&rt, alloc, "256 ports", &sizes, None)?;
+    let sizes = Sizes {
+        ports: 257,
+        ..small
+    };
+    is_answered(&rt, alloc, "257 ports", &sizes, past)?;
+    let sizes = Sizes {
+        conns: 1024,
+        ..small
+    };
+    is_answered(&rt, alloc, "1,024 connections", &sizes, None)?;
+    let sizes = Sizes {
+        conns: 1025,
+        ..small
+    };
+    is_answered(&rt, alloc, "1,025 connections", &sizes, past)?;
+    let sizes = Sizes { hops: 0, ..small };
+    is_answered(&rt, alloc, "no hop", &sizes, length)?;
+    let sizes = Sizes { hops: 16, ..small };
+    is_answered(&rt, alloc, "16 hops", &sizes, None)?;
+    let sizes = Sizes { hops: 17, ..small };
+    is_answered(&rt, alloc, "17 hops", &sizes, length)?;
+    let sizes = Sizes {
+        tau: 1000000000000,
+        ..small
+    };
+    is_answered(&rt, alloc, "tau 1 s", &sizes, None)?;
+    let sizes = Sizes {
+        tau: 1000000000001,
+        ..small
+    };
+    is_answered(&rt, alloc, "tau past 1 s", &sizes, past)?;
+    let sizes = Sizes {
+        delay: 10000000000000,
+        ..small
+    };
+    is_answered(&rt, alloc, "delay 10 s", &sizes, None)?;
+    let sizes = Sizes {
+        delay: 10000000000001,
+        ..small
+    };
+    is_answered(&rt, alloc, "delay past 10 s", &sizes, past)?;
+    let sizes = Sizes {
+        capacity: 0,
+        ..small
+    };
+    is_answered(&rt, alloc, "capacity 0", &sizes, None)?;
+    let sizes = Sizes {
+        capacity: 1152921504606846976,
+        ..small
+    };
+    is_answered(&rt, alloc, "capacity 2^60", &sizes, None)?;
+    let sizes = Sizes {
+        capacity: 1152921504606846977,
+        ..small
+    };
+    is_answered(&rt, alloc, "capacity past 2^60", &sizes, past)
 }
 
 // A text may name far more connections than a net can have: each channel is looked up, not compared
@@ -244,7 +221,7 @@ fn a_repeat_is_found_at_the_end_of_200_000_connections(rt: HostRuntime) -> Resul
             Err(_) | Ok(Some(NetFault::Memory)) => fault_of_many(alloc, last)?,
             answer => answer?,
         };
-        assert_eq!(rt; fault, Some(expected));
+        same(&rt, &fault, &Some(expected));
     }
     Ok(())
 }
@@ -296,22 +273,22 @@ fn two_ports_once(alloc: Global, paths: &[(u16, &[u16])]) -> Option<Net> {
 }
 
 fn gives_back(rt: &impl Abort, net: &Net, capacities: &[u64], paths: &[(u16, &[u16])]) {
-    assert_eq!(rt; net.capacities(), capacities);
-    assert_eq!(rt; net.conns().len(), paths.len());
+    same_items(rt, net.capacities(), capacities);
+    same(rt, &net.conns().len(), &paths.len());
     for (given, (vci, ports)) in net.conns().iter().zip(paths) {
         is_conn(rt, given, *vci, ports);
     }
 }
 
 fn is_conn(rt: &impl Abort, given: &Conn, vci: u16, ports: &[u16]) {
-    assert_eq!(rt; given.vc.vci(), vci);
-    assert_eq!(rt; given.path.as_slice(), ports);
-    assert_eq!(rt; given.path.len(), ports.len());
-    assert_eq!(rt; (given.delay, given.tau), (1000, 200));
+    same(rt, &given.vc.vci(), &vci);
+    same_items(rt, given.path.as_slice(), ports);
+    same(rt, &given.path.len(), &ports.len());
+    same(rt, &(given.delay, given.tau), &(1000, 200));
 }
 
 fn finds(rt: &impl Abort, net: &Net, vc: Vc, conn: Option<u16>) {
-    assert_eq!(rt; net.find(vc), conn);
+    same(rt, &net.find(vc), &conn);
 }
 
 // To be run with each allocation refused in turn, set-up included: then a net is answered Memory and
@@ -331,8 +308,8 @@ fn want_of_memory_is_answered_last_and_the_next_call_succeeds(rt: HostRuntime) -
         };
         let answer = fault_of(alloc, lists);
         if answer != expected {
-            assert_eq!(rt; (answer, expected), (Some(NetFault::Memory), None));
-            assert_eq!(rt; fault_of(alloc, twelve(alloc, last, tau)?), None);
+            same(&rt, &(answer, expected), &(Some(NetFault::Memory), None));
+            same(&rt, &fault_of(alloc, twelve(alloc, last, tau)?), &None);
         }
     }
     Ok(())

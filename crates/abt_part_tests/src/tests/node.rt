@@ -3,7 +3,7 @@
 ghost use Rattle.std.specs.Prelude.{◌≡◌, ◌<◌, ◌≤◌, IfOk};
 ghost use Rattle.std.specs.Option.{ForSome};
 
-use super::channel;
+use super::{channel, same};
 use abt_cell::{Answer, Request, Vc};
 use abt_gcra::Verdict;
 use abt_ledger::Ledger;
@@ -53,47 +53,48 @@ fn add(rt: &impl Abort, port: &mut Port, vc: Vc, tau: Option<u64>)
         holds(rt, port, vc, None);
         added = port.add(vc, tau);
     }
+    // What is known of an added connection bounds the count.
     assert_eq!(rt; added, Ok(()));
-    assert_eq!(rt; port.count(), count + 1);
+    same(rt, &port.count(), &(count + 1));
 }
 
 // Demands how many connections there are, and what they hold in all.
 fn stands(rt: &impl Abort, port: &Port, count: usize, total: u64) {
-    assert_eq!(rt; (port.count(), port.total()), (count, total));
+    same(rt, &(port.count(), port.total()), &(count, total));
 }
 
 fn holds(rt: &impl Abort, port: &Port, vc: Vc, held: Option<Rate>) {
-    assert_eq!(rt; port.held(vc), held);
+    same(rt, &port.held(vc), &held);
 }
 
 fn newest_is(rt: &impl Abort, port: &Port, vc: Vc, newest: u32) {
-    assert_eq!(rt; port.newest(vc), Some(newest));
+    same(rt, &port.newest(vc), &Some(newest));
 }
 
 fn is_open(rt: &impl Abort, port: &Port, vc: Vc, expected: bool) {
-    assert_eq!(rt; port.is_open(vc), Some(expected));
+    same(rt, &port.is_open(vc), &Some(expected));
 }
 
 fn tau_is(rt: &impl Abort, port: &Port, vc: Vc, expected: Option<Option<u64>>) {
-    assert_eq!(rt; port.tau(vc), expected);
+    same(rt, &port.tau(vc), &expected);
 }
 
 fn is_made_of(rt: &impl Abort, port: &Port, id: u16, capacity: u64) {
-    assert_eq!(rt; (port.id(), port.capacity()), (id, capacity));
+    same(rt, &(port.id(), port.capacity()), &(id, capacity));
 }
 
 fn counts(rt: &impl Abort, port: &Port, count: usize) {
-    assert_eq!(rt; port.count(), count);
+    same(rt, &port.count(), &count);
 }
 
 fn add_fails(rt: &impl Abort, port: &mut Port, vc: Vc, tau: Option<u64>, fault: AddFault)
     requires { ForSome tau (λ t. t ≤ TAU_MAX) }
 {
-    assert_eq!(rt; port.add(vc, tau), Err(fault));
+    same(rt, &port.add(vc, tau), &Err(fault));
 }
 
 fn requested(rt: &impl Abort, port: &mut Port, request: &Request, expected: Onward) {
-    assert_eq!(rt; port.request(request), expected);
+    same(rt, &port.request(request), &expected);
 }
 
 fn dropped(rt: &impl Abort, port: &mut Port, request: &Request, cause: DropCause) {
@@ -110,11 +111,11 @@ fn refused(rt: &impl Abort, port: &mut Port, request: &Request) {
 }
 
 fn answered(rt: &impl Abort, port: &mut Port, request: &Request, granted: bool, expected: Back) {
-    assert_eq!(rt; port.answer(&Answer::of(request, granted)), expected);
+    same(rt, &port.answer(&Answer::of(request, granted)), &expected);
 }
 
 fn sized(rt: &impl Abort, port: &mut Port, capacity: u64, expected: Result<(), CapacityFault>) {
-    assert_eq!(rt; port.set_capacity(capacity), expected);
+    same(rt, &port.set_capacity(capacity), &expected);
 }
 
 fn arrived(
@@ -124,7 +125,7 @@ fn arrived(
     at: u64,
     expected: Result<Verdict, ArriveFault>,
 ) {
-    assert_eq!(rt; port.arrive(vc, at), expected);
+    same(rt, &port.arrive(vc, at), &expected);
 }
 
 #[test]
@@ -363,7 +364,7 @@ fn a_grant_opens_and_shuts(rt: HostRuntime) -> Result<(), Fail> {
     let is_too_much = first_request(channel(101)?, all)?;
     let mut ledger = Ledger::new(CAPACITY);
     let first = Grant::first(ledger.open());
-    assert_eq!(rt; (first.seq(), first.held()), (0, Rate::ZERO));
+    same(&rt, &(first.seq(), first.held()), &(0, Rate::ZERO));
     let open = match first.decide(&mut ledger, &fits) {
         Decided::Opened(open) => open,
         Decided::Refused(shut) => {
@@ -371,10 +372,10 @@ fn a_grant_opens_and_shuts(rt: HostRuntime) -> Result<(), Fail> {
             panic!(rt; "600 of 1,000 cells per second don't fit")
         }
     };
-    assert_eq!(rt; (open.seq(), open.held()), (1, most));
+    same(&rt, &(open.seq(), open.held()), &(1, most));
     match Grant::first(ledger.open()).decide(&mut ledger, &is_too_much) {
         Decided::Refused(shut) => {
-            assert_eq!(rt; (shut.ask(), shut.held()), (all, Rate::ZERO));
+            same(&rt, &(shut.ask(), shut.held()), &(all, Rate::ZERO));
             shut.close(&mut ledger);
         }
         Decided::Opened(other) => {
@@ -384,11 +385,12 @@ fn a_grant_opens_and_shuts(rt: HostRuntime) -> Result<(), Fail> {
         }
     }
     let shut = open.shut(&mut ledger);
-    assert_eq!(rt;
-        (shut.floor(), shut.ask(), shut.held()),
-        (Rate::ZERO, most, Rate::ZERO)
+    same(
+        &rt,
+        &(shut.floor(), shut.ask(), shut.held()),
+        &(Rate::ZERO, most, Rate::ZERO),
     );
     shut.close(&mut ledger);
-    assert_eq!(rt; ledger.total(), 0);
+    same(&rt, &ledger.total(), &0);
     Ok(())
 }

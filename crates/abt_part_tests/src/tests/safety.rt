@@ -1,4 +1,5 @@
 //! Values of no world that can be, so that what looks for them is seen to find them.
+use super::{same, same_items};
 use abt_cell::{Request, Vc};
 use abt_log::Looks;
 use abt_node::Port;
@@ -32,7 +33,11 @@ fn ports(alloc: Global, vc: Vc) -> Result<Vec<Port>, AllocError> {
 
 // Demands whether a rate is held along a path.
 fn covers(rt: &impl Abort, ports: &[Port], vc: Vc, path: &[u16], rate: Rate, expected: bool) {
-    assert_eq!(rt; is_held(rate, vc, path, ports, &mut Looks::new()), expected);
+    same(
+        rt,
+        &is_held(rate, vc, path, ports, &mut Looks::new()),
+        &expected,
+    );
 }
 
 // Code 5121 is the next rate above that of 5120.
@@ -59,7 +64,7 @@ fn what_each_hop_holds_is_listed_in_order(rt: HostRuntime) -> Result<(), Fail> {
         Err(_) => held_along(rt.alloc(), vc, &path, &ports)?,
     };
     let expected = [Rate::from_code(0x5120), Rate::from_code(0x5258), Rate::ZERO];
-    assert_eq!(rt; held.as_slice(), expected.as_slice());
+    same_items(&rt, held.as_slice(), &expected);
     Ok(())
 }
 
@@ -83,7 +88,7 @@ fn a_sum_up_to_its_capacity_fits(rt: HostRuntime) -> Result<(), Fail> {
     for port in [Some(0), Some(1), Some(2), None] {
         is_well(&rt, port, &ports, &mut looks);
     }
-    assert_eq!(rt; looks.count(), 3);
+    same(&rt, &looks.count(), &3);
     let first = ports.get_mut(0).ok_or("no first port")?;
     is_well_at(&rt, first, 307200);
     Ok(())
@@ -108,7 +113,7 @@ fn a_count_follows_the_one_that_changed(rt: HostRuntime) -> Result<(), Fail> {
         (true, false, 4),
         (true, true, 5),
     ] {
-        assert_eq!(rt; recount(5, before, after), count);
+        same(&rt, &recount(5, before, after), &count);
     }
     Ok(())
 }

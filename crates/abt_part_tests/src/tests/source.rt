@@ -4,6 +4,7 @@ mod failing;
 mod stories;
 mod strides;
 
+use super::same;
 use abt_cell::{Answer, Request, Vc};
 use abt_keep::SeqStore;
 use abt_rate::Rate;
@@ -31,9 +32,10 @@ fn fast() -> Rate {
 }
 
 fn request_is(rt: &impl Abort, request: &Request, seq: u32, floor: Rate, ask: Rate) {
-    assert_eq!(rt;
-        (request.seq(), request.floor(), request.ask()),
-        (seq, floor, ask)
+    same(
+        rt,
+        &(request.seq(), request.floor(), request.ask()),
+        &(seq, floor, ask),
     );
 }
 
@@ -56,7 +58,7 @@ fn start_fails<K: SeqStore>(
     let Err(refused) = source.start(store, now) else {
         return Err("the start was not refused".into());
     };
-    assert_eq!(rt; refused.fault, fault);
+    same(rt, &refused.fault, &fault);
     Ok(refused.source)
 }
 
@@ -64,8 +66,8 @@ fn start_fails<K: SeqStore>(
 fn started<K: SeqStore>(rt: &impl Abort, store: &mut K) -> Result<Source<Idle>, Fail> {
     let vc = connection()?;
     let source = start(Source::<Down>::new(vc), store, 0)?;
-    assert_eq!(rt; source.vc(), vc);
-    assert_eq!(rt; source.rate(), Rate::ZERO);
+    same(rt, &source.vc(), &vc);
+    same(rt, &source.rate(), &Rate::ZERO);
     Ok(source)
 }
 
@@ -92,7 +94,7 @@ fn ask_fails<S: Up, K: SeqStore>(
     let Err(refused) = source.ask(store, rate) else {
         return Err("the ask was not refused".into());
     };
-    assert_eq!(rt; refused.fault, fault);
+    same(rt, &refused.fault, &fault);
     Ok(refused.source)
 }
 
@@ -121,15 +123,15 @@ fn ignore(source: Source<Asking>, request: &Request) -> Result<Source<Asking>, F
 }
 
 fn repeats(rt: &impl Abort, source: &Source<Asking>, request: &Request) {
-    assert_eq!(rt; source.again(), *request);
+    same(rt, &source.again(), request);
 }
 
 fn shapes_at<S: Up>(rt: &impl Abort, source: &Source<S>, rate: Rate) {
-    assert_eq!(rt; source.rate(), rate);
+    same(rt, &source.rate(), &rate);
 }
 
 fn last_is<S: Up>(rt: &impl Abort, source: &Source<S>, last: u32) {
-    assert_eq!(rt; source.last(), last);
+    same(rt, &source.last(), &last);
 }
 
 fn emits<S: Up>(
@@ -138,5 +140,5 @@ fn emits<S: Up>(
     now: u64,
     expected: Result<u64, ShapeFault>,
 ) {
-    assert_eq!(rt; source.emit(now), expected);
+    same(rt, &source.emit(now), &expected);
 }

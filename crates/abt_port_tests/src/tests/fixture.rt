@@ -9,7 +9,7 @@ use abt_net::{Conn, Net, Path};
 use abt_node::Port;
 use abt_rate::{CAPACITY_MAX, Rate, TAU_MAX};
 use std::alloc::Global;
-use std::fmt::Display;
+use std::fmt::{Debug, Display};
 use std::process::Abort;
 use std::test::Fail;
 
@@ -18,6 +18,11 @@ pub(super) const CAPACITY: u64 = 512000;
 
 /// The tolerance of the connections, in picoseconds.
 pub(super) const TAU: u64 = 200;
+
+/// Demands that two values are equal. What calls this knows nothing of them from it, which keeps its proof short.
+pub(super) fn same<T: PartialEq + Debug>(rt: &impl Abort, found: &T, expected: &T) {
+    assert_eq!(rt; *found, *expected);
+}
 
 /// A channel of VPI 1.
 pub(super) fn channel(vci: u16) -> Option<Vc> {
@@ -91,6 +96,6 @@ pub(super) fn says<T: Display>(
         Ok(said) => said,
         Err(_) => format!(in alloc; "{value}")?,
     };
-    assert_eq!(rt; said.as_str(), words);
+    same(rt, &said.as_str(), &words);
     Ok(())
 }

@@ -37,9 +37,9 @@ const PASSED_BACK: PortReply = PortReply::Answered(Back::Pass);
 fn on_a_path_of_one_port_its_yes_comes_to_it_and_then_to_the_source(
     rt: HostRuntime,
 ) -> Result<(), Fail> {
-    let net = made(rt.alloc(), &[(100, &[0])])?;
     let asks = Rm::Request(first(100)?);
     let yes = Answer::of(&first(100)?, true);
+    let net = made(rt.alloc(), &[(100, &[0])])?;
     let turned = Next::Send {
         port: 0,
         rm: Rm::Answer(yes),
@@ -56,19 +56,13 @@ fn on_a_path_of_one_port_its_yes_comes_to_it_and_then_to_the_source(
 
 #[test]
 fn a_request_climbs_and_its_no_comes_down(rt: HostRuntime) -> Result<(), Fail> {
-    let net = made(rt.alloc(), &[(100, &[1]), (101, &[0, 1])])?;
-    follows(
-        &rt,
-        &net,
-        0,
-        &Rm::Request(first(100)?),
-        &PASSED,
-        Next::Nothing,
-    );
+    let elsewhere = Rm::Request(first(100)?);
     let asks = Rm::Request(first(101)?);
+    let no = Answer::of(&first(101)?, false);
+    let net = made(rt.alloc(), &[(100, &[1]), (101, &[0, 1])])?;
+    follows(&rt, &net, 0, &elsewhere, &PASSED, Next::Nothing);
     let on = Next::Send { port: 1, rm: asks };
     follows(&rt, &net, 0, &asks, &PASSED, on);
-    let no = Answer::of(&first(101)?, false);
     let refused = PortReply::Requested(Onward::Refuse(no));
     let back = Next::Send {
         port: 0,
@@ -85,9 +79,12 @@ fn a_request_climbs_and_its_no_comes_down(rt: HostRuntime) -> Result<(), Fail> {
 
 #[test]
 fn nothing_follows_a_drop_or_a_reply_that_does_not_fit(rt: HostRuntime) -> Result<(), Fail> {
-    let net = made(rt.alloc(), &[(100, &[0])])?;
     let asks = Rm::Request(first(100)?);
     let yes = Rm::Answer(Answer::of(&first(100)?, true));
+    let agreed = PortReply::Requested(Onward::Refuse(Answer::of(&first(100)?, true)));
+    let others = PortReply::Requested(Onward::Refuse(Answer::of(&first(101)?, false)));
+    let elsewhere = Rm::Request(first(101)?);
+    let net = made(rt.alloc(), &[(100, &[0])])?;
     let dropped = PortReply::Requested(Onward::Drop(DropCause::Stale));
     follows(&rt, &net, 0, &asks, &dropped, Next::Nothing);
     let dropped = PortReply::Answered(Back::Drop(DropCause::Stale));
@@ -97,17 +94,8 @@ fn nothing_follows_a_drop_or_a_reply_that_does_not_fit(rt: HostRuntime) -> Resul
     let capped = PortReply::Capped(Ok(()));
     follows(&rt, &net, 0, &asks, &capped, Next::Nothing);
     follows(&rt, &net, 0, &yes, &capped, Next::Nothing);
-    let agreed = PortReply::Requested(Onward::Refuse(Answer::of(&first(100)?, true)));
     follows(&rt, &net, 0, &asks, &agreed, Next::Nothing);
-    let others = PortReply::Requested(Onward::Refuse(Answer::of(&first(101)?, false)));
     follows(&rt, &net, 0, &asks, &others, Next::Nothing);
-    follows(
-        &rt,
-        &net,
-        0,
-        &Rm::Request(first(101)?),
-        &PASSED,
-        Next::Nothing,
-    );
+    follows(&rt, &net, 0, &elsewhere, &PASSED, Next::Nothing);
     Ok(())
 }

@@ -1,5 +1,5 @@
 //! The journal of a port, and a caller's receipts.
-use super::fixture::{CAPACITY, TAU, port, request, says};
+use super::fixture::{CAPACITY, TAU, port, request, same, says};
 use abt_cell::{Answer, Vc};
 use abt_gcra::Verdict;
 use abt_journal::{Entry, PortInput, PortReply, PortState, Seat, ServeFault};
@@ -28,7 +28,7 @@ fn step(
     if let Ok(answer) = state.step(caller, *input) {
         return Ok(answer);
     }
-    assert_eq!(rt; state.entries().len(), before);
+    same(rt, &state.entries().len(), &before);
     Ok(state.step(caller, *input)?)
 }
 
@@ -44,11 +44,36 @@ fn seat_step(
         Err(ServeFault::Memory) => {}
         answer => return answer,
     }
-    assert_eq!(rt;
-        (state.entries().len(), seat.receipts().len()),
-        (entries, receipts)
+    same(
+        rt,
+        &(state.entries().len(), seat.receipts().len()),
+        &(entries, receipts),
     );
     seat.step(0, state, *input)
+}
+
+/// Who has a step done, what the port is given, and what it has to reply.
+type Step = (u16, PortInput, PortReply);
+
+// Demands what a port that did nothing replies to one step after the other.
+fn all_step(rt: &impl Abort, state: &mut PortState, steps: &[Step]) -> Result<(), Fail> {
+    for (place, (caller, input, reply)) in steps.iter().enumerate() {
+        let answer = step(rt, state, *caller, input)?;
+        same(rt, &answer, &(place as u64, *reply));
+    }
+    Ok(())
+}
+
+fn has_entries(rt: &impl Abort, state: &PortState, steps: &[Step]) {
+    for (place, (caller, input, reply)) in steps.iter().enumerate() {
+        let entry = Entry {
+            place: place as u64,
+            caller: *caller,
+            input: *input,
+            reply: *reply,
+        };
+        has_entry(rt, state, place, &entry);
+    }
 }
 
 // By docs/RULES.md, "Node" and "GCRA": the first request fits and passes; another ask under its number conflicts; the yes
@@ -85,21 +110,10 @@ fn a_port_keeps_a_journal_of_all_that_it_replied(rt: HostRuntime) -> Result<(), 
         ),
     ];
     let mut state = new_state(rt.alloc())?;
-    for (place, (caller, input, reply)) in rows.iter().enumerate() {
-        let answer = step(&rt, &mut state, *caller, input)?;
-        assert_eq!(rt; answer, (place as u64, *reply));
-    }
+    all_step(&rt, &mut state, &rows)?;
     opened_as(&rt, &state, vc);
-    for (place, (caller, input, reply)) in rows.iter().enumerate() {
-        let entry = Entry {
-            place: place as u64,
-            caller: *caller,
-            input: *input,
-            reply: *reply,
-        };
-        has_entry(&rt, &state, place, &entry);
-    }
-    assert_eq!(rt; state.into_entries().len(), 5);
+    has_entries(&rt, &state, &rows);
+    same(&rt, &state.into_entries().len(), &5);
     Ok(())
 }
 
@@ -112,46 +126,48 @@ fn a_port_goes_by_its_new_capacity_and_keeps_that_of_its_opening(
     let (first, more) = (request(100, 1, 0x5258)?, request(100, 2, 0x53e8)?);
     let rows = [
         (
+            9,
             PortInput::Request(first),
             PortReply::Requested(Onward::Pass),
         ),
         (
+            9,
             PortInput::Capacity(307_199),
             PortReply::Capped(Err(CapacityFault::BelowSum)),
         ),
-        (PortInput::Capacity(307_200), PortReply::Capped(Ok(()))),
+        (9, PortInput::Capacity(307_200), PortReply::Capped(Ok(()))),
         (
+            9,
             PortInput::Request(more),
             PortReply::Requested(Onward::Refuse(Answer::of(&more, false))),
         ),
         (
+            9,
             PortInput::Capacity(1_152_921_504_606_846_977),
             PortReply::Capped(Err(CapacityFault::AboveLimit)),
         ),
-        (PortInput::Capacity(0), PortReply::Capped(Ok(()))),
+        (9, PortInput::Capacity(0), PortReply::Capped(Ok(()))),
     ];
     let mut state = new_state(rt.alloc())?;
-    for (place, (input, reply)) in rows.iter().enumerate() {
-        let answer = step(&rt, &mut state, 9, input)?;
-        assert_eq!(rt; answer, (place as u64, *reply));
-    }
+    all_step(&rt, &mut state, &rows)?;
     opened_as(&rt, &state, first.vc());
-    assert_eq!(rt; state.into_entries().len(), 6);
+    same(&rt, &state.into_entries().len(), &6);
     Ok(())
 }
 
 // Demands what a port was at its opening: its number, capacity, and one connection, of tau 200.
 fn opened_as(rt: &impl Abort, state: &PortState, vc: Vc) {
-    assert_eq!(rt;
-        (state.id(), state.opening_capacity(), state.count()),
-        (0, CAPACITY, 1)
+    same(
+        rt,
+        &(state.id(), state.opening_capacity(), state.count()),
+        &(0, CAPACITY, 1),
     );
-    assert_eq!(rt; state.tau(vc), Some(Some(200)));
+    same(rt, &state.tau(vc), &Some(Some(200)));
 }
 
 // Demands that an entry stands at its place, and at no other.
 fn has_entry(rt: &impl Abort, state: &PortState, place: usize, entry: &Entry) {
-    assert_eq!(rt; state.entries().get(place), Some(entry));
+    same(rt, &state.entries().get(place), &Some(entry));
     assert!(rt; state.has(entry));
     let moved = Entry { place: 9, ..*entry };
     assert!(rt; !state.has(&moved));
@@ -164,19 +180,19 @@ fn a_seat_keeps_receipts_and_knows_a_journal_that_is_too_short(
     let input = PortInput::Request(request(100, 1, 0x5258)?);
     let passed = PortReply::Requested(Onward::Pass);
     let mut state = new_state(rt.alloc())?;
+    let mut other = new_state(rt.alloc())?;
     let mut seat = Seat::new(rt.alloc(), 3);
-    assert_eq!(rt; seat.caller(), 3);
+    same(&rt, &seat.caller(), &3);
     saw(&rt, &seat, (0, 0), 0);
     steps(&rt, &mut seat, &mut state, &input, Ok((0, passed)));
-    assert_eq!(rt; step(&rt, &mut state, 4, &input)?, (1, passed));
+    same(&rt, &step(&rt, &mut state, 4, &input)?, &(1, passed));
     steps(&rt, &mut seat, &mut state, &input, Ok((2, passed)));
     saw(&rt, &seat, (3, 0), 2);
     has_receipts(&rt, &seat, [0, 2]);
 
-    let mut other = new_state(rt.alloc())?;
     let wound = Err(ServeFault::Wound { seen: 3, found: 0 });
     steps(&rt, &mut seat, &mut other, &input, wound);
-    assert_eq!(rt; other.entries().len(), 0);
+    same(&rt, &other.entries().len(), &0);
     saw(&rt, &seat, (3, 0), 2);
     Ok(())
 }
@@ -189,20 +205,20 @@ fn steps(
     input: &PortInput,
     expected: Result<(u64, PortReply), ServeFault>,
 ) {
-    assert_eq!(rt; seat_step(rt, seat, state, input), expected);
+    same(rt, &seat_step(rt, seat, state, input), &expected);
 }
 
 // Demands what a seat has seen of ports 0 and 1, and how many receipts it has.
 fn saw(rt: &impl Abort, seat: &Seat, seen: (u64, u64), receipts: usize) {
-    assert_eq!(rt; (seat.seen(0), seat.seen(1)), seen);
-    assert_eq!(rt; seat.receipts().len(), receipts);
+    same(rt, &(seat.seen(0), seat.seen(1)), &seen);
+    same(rt, &seat.receipts().len(), &receipts);
 }
 
 // Demands that the receipts of caller 3 are of port 0, at these places.
 fn has_receipts(rt: &impl Abort, seat: &Seat, places: [u64; 2]) {
     for (receipt, place) in seat.receipts().iter().zip(places) {
-        assert_eq!(rt; (receipt.port, receipt.entry.caller), (0, 3));
-        assert_eq!(rt; receipt.entry.place, place);
+        same(rt, &(receipt.port, receipt.entry.caller), &(0, 3));
+        same(rt, &receipt.entry.place, &place);
     }
 }
 

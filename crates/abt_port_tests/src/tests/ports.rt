@@ -2,6 +2,7 @@
 mod foreign;
 mod served;
 
+use super::fixture::same;
 use abt_journal::{PortInput, PortReply, PortState, Seat, ServeFault};
 use abt_net::Net;
 use abt_ports::{Gate, GatherFault, Journals, OpenGate, PortCell, gather};
@@ -22,7 +23,7 @@ fn serve<R: Abort + Wait, G: Gate>(
         Err(ServeFault::Memory) => {}
         answer => return answer,
     }
-    assert_eq!(rt; seat.receipts().len(), receipts);
+    same(rt, &seat.receipts().len(), &receipts);
     cell.serve(rt, seat, gate, *input)
 }
 
@@ -54,5 +55,9 @@ fn serves<R: Abort + Wait>(
 
 /// Demands what a seat has seen of port 0, and how many receipts it has.
 fn saw(rt: &impl Abort, seat: &Seat, seen: u64, receipts: usize) {
-    assert_eq!(rt; (seat.seen(0), seat.receipts().len()), (seen, receipts));
+    same(
+        rt,
+        &(seat.seen(0), seat.receipts().len()),
+        &(seen, receipts),
+    );
 }

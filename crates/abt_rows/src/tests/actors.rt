@@ -6,6 +6,7 @@ mod requests;
 mod restarts;
 mod writes;
 
+use super::{same, same_at};
 use abt_actor::{Added, Cause, Heard, Outcome, SourceActor, SourceCommand};
 use abt_cell::{Answer, Request, Vc};
 use abt_facts::Fact;
@@ -76,18 +77,18 @@ fn too_soon(next: u64) -> Outcome {
 // Carries out each command, which has to answer the outcome beside it.
 fn goes(rt: &impl Abort, actor: &mut SourceActor, story: &[(SourceCommand, Outcome)]) {
     for (place, (command, outcome)) in story.iter().enumerate() {
-        assert_eq!(rt; actor.step(command), *outcome, "command {place}");
+        same_at(rt, &actor.step(command), outcome, &("command", place));
     }
 }
 
 // Demands the rate of a source, and whether it waits for an answer.
 fn stands(rt: &impl Abort, actor: &SourceActor, rate: Rate, is_asking: bool) {
-    assert_eq!(rt; (actor.rate(), actor.is_asking()), (rate, is_asking));
+    same(rt, &(actor.rate(), actor.is_asking()), &(rate, is_asking));
 }
 
 // Demands the rate of a source.
 fn shapes_at(rt: &impl Abort, actor: &SourceActor, rate: Rate) {
-    assert_eq!(rt; actor.rate(), rate);
+    same(rt, &actor.rate(), &rate);
 }
 
 // A source that started, asked for a rate as request 1, and heard a yes.

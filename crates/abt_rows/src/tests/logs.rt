@@ -20,7 +20,7 @@ fn a_cell_that_came_too_early_is_found(rt: HostRuntime) -> Result<(), Fail> {
             &mut Looks::new(),
         );
         log.note(Fact::Crashed, &mut Looks::new());
-        assert_eq!(rt; log.all_conform(), verdict == Verdict::Conforming);
+        same(&rt, &log.all_conform(), &(verdict == Verdict::Conforming));
     }
     Ok(())
 }

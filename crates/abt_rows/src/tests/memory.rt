@@ -6,7 +6,10 @@ use super::*;
 #[test]
 fn an_event_that_was_refused_memory_has_not_happened(rt: HostRuntime) -> Result<(), Fail> {
     let net = lone(rt.alloc())?;
-    let mut world = world(rt.alloc(), &net)?;
+    answers_each_event(&rt, &mut world(rt.alloc(), &net)?)
+}
+
+fn answers_each_event(rt: &impl Abort, world: &mut World<'_>) -> Result<(), Fail> {
     for now in 0..20 {
         let story = [
             starts(0, now),
@@ -14,7 +17,7 @@ fn an_event_that_was_refused_memory_has_not_happened(rt: HostRuntime) -> Result<
             crashes(0),
             cannot(Event::Crash { conn: 0 }, Cause::Down),
         ];
-        tell(&rt, &mut world, &story)?;
+        tell(rt, world, &story)?;
     }
     Ok(())
 }
@@ -23,16 +26,19 @@ fn an_event_that_was_refused_memory_has_not_happened(rt: HostRuntime) -> Result<
 #[test]
 fn an_ask_that_was_refused_memory_uses_no_number(rt: HostRuntime) -> Result<(), Fail> {
     let net = lone(rt.alloc())?;
-    let mut world = world(rt.alloc(), &net)?;
-    tell(&rt, &mut world, &[starts(0, 0)])?;
+    asks_on(&rt, &mut world(rt.alloc(), &net)?)
+}
+
+fn asks_on(rt: &impl Abort, world: &mut World<'_>) -> Result<(), Fail> {
+    tell(rt, world, &[starts(0, 0)])?;
     for seq in 1..20 {
         let story = [
             (ask(0, 0x5120), asked(100, seq, 0, 0x5120)?),
             passes(0, 1, seq),
             passes(0, 1, seq),
         ];
-        tell(&rt, &mut world, &story)?;
-        holds(&rt, &world, 0, 0, &[0x5120]);
+        tell(rt, world, &story)?;
+        holds(rt, world, 0, 0, &[0x5120]);
     }
     Ok(())
 }
@@ -40,8 +46,6 @@ fn an_ask_that_was_refused_memory_uses_no_number(rt: HostRuntime) -> Result<(), 
 // A world that was refused memory is dropped, and the net is as it was.
 #[test]
 fn a_world_that_was_refused_memory_can_be_made_again(rt: HostRuntime) -> Result<(), Fail> {
-    let net = shared(rt.alloc())?;
-    let mut world = world(rt.alloc(), &net)?;
     let story = [
         starts(1, 0),
         (ask(1, 0x5120), asked(101, 1, 0, 0x5120)?),
@@ -49,5 +53,6 @@ fn a_world_that_was_refused_memory_can_be_made_again(rt: HostRuntime) -> Result<
         passes(1, 2, 1),
         turns(1, 1),
     ];
-    tell(&rt, &mut world, &story)
+    let net = shared(rt.alloc())?;
+    told_of(&rt, rt.alloc(), &net, &story)
 }

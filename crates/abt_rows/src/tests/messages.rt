@@ -37,14 +37,17 @@ fn a_rate_is_granted_hop_by_hop_and_more_is_refused_where_there_is_no_room(
     rt: HostRuntime,
 ) -> Result<(), Fail> {
     let net = shared(rt.alloc())?;
-    let mut world = world(rt.alloc(), &net)?;
-    second_has_400(&rt, &mut world)?;
-    second_wants_600(&rt, &mut world)?;
-    holds(&rt, &world, 0, 0, &[0x5258]);
-    holds(&rt, &world, 1, 0x5120, &[0x5120, 0x5120]);
-    totals(&rt, &world, &[204800, 512000]);
-    assert_eq!(rt; world.rate(2), None);
-    assert_eq!(rt; world.held(2, 1), None);
+    is_granted_and_refused(&rt, &mut world(rt.alloc(), &net)?)
+}
+
+fn is_granted_and_refused(rt: &impl Abort, world: &mut World<'_>) -> Result<(), Fail> {
+    second_has_400(rt, world)?;
+    second_wants_600(rt, world)?;
+    holds(rt, world, 0, 0, &[0x5258]);
+    holds(rt, world, 1, 0x5120, &[0x5120, 0x5120]);
+    totals(rt, world, &[204800, 512000]);
+    same(rt, &world.rate(2), &None);
+    same(rt, &world.held(2, 1), &None);
     Ok(())
 }
 
@@ -55,9 +58,12 @@ fn a_refused_request_is_refused_again_though_there_is_room_now(
     rt: HostRuntime,
 ) -> Result<(), Fail> {
     let net = shared(rt.alloc())?;
-    let mut world = world(rt.alloc(), &net)?;
-    second_has_400(&rt, &mut world)?;
-    second_wants_600(&rt, &mut world)?;
+    is_refused_again(&rt, &mut world(rt.alloc(), &net)?)
+}
+
+fn is_refused_again(rt: &impl Abort, world: &mut World<'_>) -> Result<(), Fail> {
+    second_has_400(rt, world)?;
+    second_wants_600(rt, world)?;
     let refused = request(101, 2, 0x5120, 0x5258)?;
     let story = [
         (ask(0, 0), asked(100, 2, 0, 0)?),
@@ -65,14 +71,18 @@ fn a_refused_request_is_refused_again_though_there_is_room_now(
         refuses(1, 1, &refused),
         refuses(1, 2, &refused),
     ];
-    tell(&rt, &mut world, &story)?;
-    totals(&rt, &world, &[204800, 204800]);
+    tell(rt, world, &story)?;
+    totals(rt, world, &[204800, 204800]);
     Ok(())
 }
 
 #[test]
 fn a_yes_to_an_older_request_is_ignored(rt: HostRuntime) -> Result<(), Fail> {
     let net = lone(rt.alloc())?;
+    ignores_an_older_yes(&rt, &mut world(rt.alloc(), &net)?)
+}
+
+fn ignores_an_older_yes(rt: &impl Abort, world: &mut World<'_>) -> Result<(), Fail> {
     let story = [
         starts(0, 0),
         (ask(0, 0x5120), asked(100, 1, 0, 0x5120)?),
@@ -82,16 +92,14 @@ fn a_yes_to_an_older_request_is_ignored(rt: HostRuntime) -> Result<(), Fail> {
         (ask(0, 0x5258), asked(100, 2, 0, 0x5258)?),
         hears(0, 1, true, Heard::Ignored),
     ];
-    let mut world = world(rt.alloc(), &net)?;
-    tell(&rt, &mut world, &story)?;
-    holds(&rt, &world, 0, 0, &[0x5120]);
-    totals(&rt, &world, &[204800]);
+    tell(rt, world, &story)?;
+    holds(rt, world, 0, 0, &[0x5120]);
+    totals(rt, world, &[204800]);
     Ok(())
 }
 
 #[test]
 fn what_was_not_sent_or_is_not_there_cannot_come(rt: HostRuntime) -> Result<(), Fail> {
-    let net = lone(rt.alloc())?;
     let start = |conn, now| Event::Start { conn, now };
     let story = [
         cannot(emit(5), Cause::Down),
@@ -104,5 +112,5 @@ fn what_was_not_sent_or_is_not_there_cannot_come(rt: HostRuntime) -> Result<(), 
         cannot(deliver(0, 2, 1), Cause::Unknown),
         cannot(deliver(0, 1, 1), Cause::NotSent),
     ];
-    tell(&rt, &mut world(rt.alloc(), &net)?, &story)
+    told_alone(&rt, rt.alloc(), &story)
 }

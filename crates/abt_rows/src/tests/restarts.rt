@@ -4,7 +4,6 @@ use abt_source::{AskFault, StartFault};
 
 #[test]
 fn a_yes_from_before_a_crash_is_ignored(rt: HostRuntime) -> Result<(), Fail> {
-    let net = lone(rt.alloc())?;
     let story = [
         starts(0, 0),
         (ask(0, 0x5120), asked(100, 1, 0, 0x5120)?),
@@ -18,7 +17,7 @@ fn a_yes_from_before_a_crash_is_ignored(rt: HostRuntime) -> Result<(), Fail> {
         (ask(0, 0x5258), asked(100, 65, 0, 0x5258)?),
         hears(0, 1, true, Heard::Ignored),
     ];
-    tell(&rt, &mut world(rt.alloc(), &net)?, &story)
+    told_alone(&rt, rt.alloc(), &story)
 }
 
 // A start, and an ask whose write into the store fails by a plan.
@@ -29,46 +28,40 @@ fn fails_to_ask(plan: StorePlan) -> [Row; 2] {
 
 #[test]
 fn a_number_that_was_not_used_is_asked_with_again(rt: HostRuntime) -> Result<(), Fail> {
-    let net = lone(rt.alloc())?;
-    let mut world = world(rt.alloc(), &net)?;
-    tell(&rt, &mut world, &fails_to_ask(StorePlan::FailsAfter))?;
-    let story = [(ask(0, 0x5120), asked(100, 1, 0, 0x5120)?)];
-    tell(&rt, &mut world, &story)
+    let [start, refused] = fails_to_ask(StorePlan::FailsAfter);
+    let again = (ask(0, 0x5120), asked(100, 1, 0, 0x5120)?);
+    told_alone(&rt, rt.alloc(), &[start, refused, again])
 }
 
 // After a restart a source goes on from the number in its store, whether or not that number was used.
 #[test]
 fn a_restart_goes_on_from_the_number_in_the_store(rt: HostRuntime) -> Result<(), Fail> {
-    let net = lone(rt.alloc())?;
-    for (plan, seq) in [(StorePlan::FailsAfter, 65), (StorePlan::FailsBefore, 1)] {
-        let mut world = world(rt.alloc(), &net)?;
-        tell(&rt, &mut world, &fails_to_ask(plan))?;
-        let story = [
-            crashes(0),
-            starts(0, 0),
-            (ask(0, 0x5120), asked(100, seq, 0, 0x5120)?),
-        ];
-        tell(&rt, &mut world, &story)?;
-    }
-    Ok(())
+    goes_on_from(&rt, rt.alloc(), StorePlan::FailsAfter, 65)?;
+    goes_on_from(&rt, rt.alloc(), StorePlan::FailsBefore, 1)
+}
+
+// The number with which a source asks after a restart behind an ask that failed by a plan.
+fn goes_on_from(rt: &impl Abort, alloc: Global, plan: StorePlan, seq: u32) -> Result<(), Fail> {
+    let [start, refused] = fails_to_ask(plan);
+    let again = (ask(0, 0x5120), asked(100, seq, 0, 0x5120)?);
+    let story = [start, refused, crashes(0), starts(0, 0), again];
+    told_alone(rt, alloc, &story)
 }
 
 // The greatest moment of a start is 2^61 less a second (docs/RULES.md, "Limits").
 #[test]
 fn a_source_starts_at_the_greatest_moment_and_not_later(rt: HostRuntime) -> Result<(), Fail> {
-    let net = lone(rt.alloc())?;
     let late = Event::Start {
         conn: 0,
         now: 2305842009213693953,
     };
     let refused = Outcome::StartRefused(StartFault::TimeRange);
     let story = [(late, refused), starts(0, 2305841009213693952)];
-    tell(&rt, &mut world(rt.alloc(), &net)?, &story)
+    told_alone(&rt, rt.alloc(), &story)
 }
 
 #[test]
 fn a_source_never_starts_before_its_last_start(rt: HostRuntime) -> Result<(), Fail> {
-    let net = lone(rt.alloc())?;
     let early = Event::Start { conn: 0, now: 8 };
     let story = [
         starts(0, 9),
@@ -76,5 +69,5 @@ fn a_source_never_starts_before_its_last_start(rt: HostRuntime) -> Result<(), Fa
         cannot(early, Cause::ClockBack),
         starts(0, 9),
     ];
-    tell(&rt, &mut world(rt.alloc(), &net)?, &story)
+    told_alone(&rt, rt.alloc(), &story)
 }

@@ -50,7 +50,7 @@ fn reports(rt: &impl Abort, alloc: Global, text: &str, report: &str) -> Result<(
     Err(Fail::from("memory was refused twice"))
 }
 
-// Demands what the events of a net answer, and how the net stands in the end.
+// Demands what the events of a net answer, and how the net stands in the end. The texts are made again where memory was refused for them.
 fn expect(
     rt: &impl Abort,
     alloc: Global,
@@ -58,14 +58,30 @@ fn expect(
     rows: &[(&str, &str)],
     end: &str,
 ) -> Result<(), Fail> {
+    let text = match text_of(alloc, net, rows) {
+        Ok(text) => text,
+        Err(_) => text_of(alloc, net, rows)?,
+    };
+    let report = match report_of(alloc, rows, end) {
+        Ok(report) => report,
+        Err(_) => report_of(alloc, rows, end)?,
+    };
+    reports(rt, alloc, text.as_str(), report.as_str())
+}
+
+fn text_of(alloc: Global, net: &str, rows: &[(&str, &str)]) -> Result<String, AllocError> {
     let mut text = String::from_str(alloc, "events = [")?;
     push_events(&mut text, rows)?;
     text.push_str("]\n")?;
     text.push_str(net)?;
+    Ok(text)
+}
+
+fn report_of(alloc: Global, rows: &[(&str, &str)], end: &str) -> Result<String, AllocError> {
     let mut report = format!(in alloc; "events {}\n", rows.len())?;
     push_answers(alloc, &mut report, rows, 1)?;
     report.push_str(end)?;
-    reports(rt, alloc, text.as_str(), report.as_str())
+    Ok(report)
 }
 
 fn push_events(text: &mut String, rows: &[(&str, &str)]) -> Result<(), AllocError> {

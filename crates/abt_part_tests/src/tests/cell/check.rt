@@ -1,9 +1,9 @@
-use super::A;
+use super::{A, same};
 use abt_cell::crc10;
 use std::process::Abort;
 
 fn has_check(rt: &impl Abort, payload: &[u8; 48], check: u16) {
-    assert_eq!(rt; crc10(payload), check);
+    same(rt, &crc10(payload), &check);
 }
 
 #[test]

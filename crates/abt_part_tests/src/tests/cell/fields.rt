@@ -1,28 +1,28 @@
-use super::{A, request, says};
+use super::{A, request, same, says};
 use abt_cell::{Answer, Cell, CellFault, Request, RmFault, Vc};
 use abt_rate::Rate;
 use std::process::Abort;
 use std::test::Fail;
 
 fn is_no_cell(rt: &impl Abort, octets: &[u8]) {
-    assert_eq!(rt; Cell::from_octets(octets), Err(CellFault::Length));
+    same(rt, &Cell::from_octets(octets), &Err(CellFault::Length));
 }
 
 // Demands the VPI and VCI of a cell.
 fn has_channel(rt: &impl Abort, cell: &Cell, channel: (u16, u16)) {
-    assert_eq!(rt; (cell.vc().vpi(), cell.vc().vci()), channel);
+    same(rt, &(cell.vc().vpi(), cell.vc().vci()), &channel);
 }
 
 // Demands the payload type of a cell, and its loss priority.
 fn is_marked(rt: &impl Abort, cell: &Cell, pti: u8, clp: bool) {
-    assert_eq!(rt; cell.pti(), pti);
-    assert_eq!(rt; cell.clp(), clp);
+    same(rt, &cell.pti(), &pti);
+    same(rt, &cell.clp(), &clp);
 }
 
 // Demands the first and the last octet of the payload, and all octets.
 fn has_octets(rt: &impl Abort, cell: &Cell, ends: (u8, u8), octets: &[u8; 52]) {
-    assert_eq!(rt; (cell.payload()[0], cell.payload()[47]), ends);
-    assert_eq!(rt; cell.to_octets(), *octets);
+    same(rt, &(cell.payload()[0], cell.payload()[47]), &ends);
+    same(rt, &cell.to_octets(), octets);
 }
 
 #[test]
@@ -54,21 +54,25 @@ fn the_header_is_read_field_by_field(rt: HostRuntime) -> Result<(), Fail> {
 #[test]
 fn a_channel_has_twelve_bits_of_vpi(rt: HostRuntime) -> Result<(), Fail> {
     let last = Vc::new(4095, 65535).ok_or("twelve bits")?;
-    assert_eq!(rt; (last.vpi(), last.vci()), (4095, 65535));
-    assert_eq!(rt; Vc::new(4096, 0), None);
+    same(&rt, &(last.vpi(), last.vci()), &(4095, 65535));
+    same(&rt, &Vc::new(4096, 0), &None);
     assert!(rt; Vc::new(1, 65535) < Vc::new(2, 0));
     Ok(())
 }
 
 #[test]
 fn a_request_has_a_number_and_asks_for_its_floor_or_more(rt: HostRuntime) -> Result<(), Fail> {
-    assert_eq!(rt; request(100, 0, 0x0000, 0x5258), None);
-    assert_eq!(rt; request(100, 1, 0x5258, 0x5120), None);
+    same(&rt, &request(100, 0, 0x0000, 0x5258), &None);
+    same(&rt, &request(100, 1, 0x5258, 0x5120), &None);
     assert!(rt; request(100, 1, 0x5258, 0x5258).is_some());
     let last = request(100, u32::MAX, 0x5120, 0x5258).ok_or("a request")?;
-    assert_eq!(rt; Some(last.vc()), Vc::new(1, 100));
-    assert_eq!(rt; last.seq(), 4_294_967_295);
-    assert_eq!(rt; (last.floor().code(), last.ask().code()), (0x5120, 0x5258));
+    same(&rt, &Some(last.vc()), &Vc::new(1, 100));
+    same(&rt, &last.seq(), &4_294_967_295);
+    same(
+        &rt,
+        &(last.floor().code(), last.ask().code()),
+        &(0x5120, 0x5258),
+    );
     Ok(())
 }
 
@@ -85,12 +89,13 @@ fn an_answer_repeats_its_request(rt: HostRuntime) -> Result<(), Fail> {
 // Demands that the answer to request 9, for 4000 above 0000, has what the request has.
 fn answers(rt: &impl Abort, request: &Request, granted: bool, vc: Vc) {
     let answer = Answer::of(request, granted);
-    assert_eq!(rt; (answer.vc(), answer.seq()), (vc, 9));
-    assert_eq!(rt;
-        (answer.floor().code(), answer.ask().code()),
-        (0x0000, 0x4000)
+    same(rt, &(answer.vc(), answer.seq()), &(vc, 9));
+    same(
+        rt,
+        &(answer.floor().code(), answer.ask().code()),
+        &(0x0000, 0x4000),
     );
-    assert_eq!(rt; answer.granted(), granted);
+    same(rt, &answer.granted(), &granted);
 }
 
 #[test]

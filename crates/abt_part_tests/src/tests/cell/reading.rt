@@ -1,12 +1,13 @@
 ghost use Rattle.std.specs.Prelude.{◌<◌};
 
-use super::{A, Spelled, cells_that_read_as_a, request, test_cells};
-use abt_cell::{Cell, Request, Rm, RmFault, read_rm};
+use super::{A, Spelled, cells_that_read_as_a, request, same, test_cells};
+use abt_cell::{Cell, Request, Rm, RmFault, Vc, read_rm};
+use std::fmt::Debug;
 use std::process::Abort;
 use std::test::Fail;
 
 fn reads(rt: &impl Abort, cell: &Cell, expected: Result<Rm, RmFault>) {
-    assert_eq!(rt; read_rm(cell), expected);
+    same(rt, &read_rm(cell), &expected);
 }
 
 #[test]
@@ -121,23 +122,36 @@ fn tells_of_a_bit(rt: &impl Abort, a: &Request, place: usize, bit: u32) -> Resul
     requires place { place < 52 }
     requires bit { bit < 8 }
 {
+    let octets = a_with_a_bit_changed(place, bit);
+    let cell = Cell::from_octets(&octets).ok().ok_or("52 octets")?;
+    let expected = told_of_a_bit(a, cell.vc(), place, bit)?;
+    same_at(rt, &read_rm(&cell), &expected, place, bit);
+    let is_of_the_channel = place < 3 || place == 3 && bit >= 4;
+    same_at(rt, &(cell.vc() != a.vc()), &is_of_the_channel, place, bit);
+    Ok(())
+}
+
+fn a_with_a_bit_changed(place: usize, bit: u32) -> [u8; 52]
+    requires place { place < 52 }
+    requires bit { bit < 8 }
+{
     let mut octets = A.cell().to_octets();
     octets[place] ^= 1 << bit;
-    let cell = Cell::from_octets(&octets).ok().ok_or("52 octets")?;
-    let here = Request::new(cell.vc(), a.seq(), a.floor(), a.ask()).ok_or("a request")?;
-    let expected = if place >= 4 {
+    octets
+}
+
+// What is read where a bit of request A is changed, which then is one on this channel if it is read at all.
+fn told_of_a_bit(a: &Request, vc: Vc, place: usize, bit: u32) -> Result<Result<Rm, RmFault>, Fail> {
+    let here = Request::new(vc, a.seq(), a.floor(), a.ask()).ok_or("a request")?;
+    Ok(if place >= 4 {
         Err(RmFault::Crc)
     } else if place == 3 && 1 <= bit && bit <= 3 {
         Err(RmFault::NotRm)
     } else {
         Ok(Rm::Request(here))
-    };
-    assert_eq!(rt; read_rm(&cell), expected, "bit {bit} of place {place}");
-    let is_of_the_channel = place < 3 || place == 3 && bit >= 4;
-    assert_eq!(rt;
-        cell.vc() != a.vc(),
-        is_of_the_channel,
-        "bit {bit} of place {place}"
-    );
-    Ok(())
+    })
+}
+
+fn same_at<T: PartialEq + Debug>(rt: &impl Abort, found: &T, expected: &T, place: usize, bit: u32) {
+    assert_eq!(rt; *found, *expected, "bit {bit} of place {place}");
 }

@@ -1,7 +1,7 @@
 //! Ten thousand cells through both forms and a slow walk of the windows.
 ghost use Rattle.std.specs.Prelude.{◌≡◌, ◌<◌, ◌≤◌, All, IfOk};
 
-use super::{judged, listed};
+use super::{judged, listed, same};
 use abt_gcra::{Bucket, Gcra, SPACING_MAX, Verdict};
 use abt_rate::TAU_MAX;
 use std::alloc::{AllocError, Global};
@@ -74,7 +74,7 @@ fn ten_thousand_cells_get_the_verdicts_of_their_windows(rt: HostRuntime) -> Resu
         let cells = cells(rt.alloc(), &mut numbers)?;
         let tau = numbers.below(40);
         let verdicts = listed(rt.alloc(), tau, &cells)?;
-        assert_eq!(rt; verdicts.len(), cells.len());
+        same(&rt, &verdicts.len(), &cells.len());
         early = early.saturating_add(walk(&rt, rt.alloc(), tau, &cells, &verdicts)?);
     }
     assert!(rt; 1000 < early);
@@ -98,6 +98,20 @@ fn walk(
     }
 }
 
+// The verdict of a cell behind those that were taken, which it joins where it conforms.
+fn verdict_after(
+    tau: u64,
+    taken: &mut Vec<(u64, u64)>,
+    cell: (u64, u64),
+) -> Result<Verdict, AllocError> {
+    taken.push(cell)?;
+    if keeps_windows(tau, taken) {
+        return Ok(Verdict::Conforming);
+    }
+    let _ = taken.pop();
+    Ok(Verdict::TooEarly)
+}
+
 fn walk_once(
     rt: &impl Abort,
     alloc: Global,
@@ -112,15 +126,11 @@ fn walk_once(
     let mut bucket = Bucket::new(tau);
     let mut taken = Vec::new(alloc);
     for (cell, verdict) in cells.iter().zip(verdicts) {
-        taken.push(*cell)?;
-        let walked = if keeps_windows(tau, &taken) {
-            Verdict::Conforming
-        } else {
-            let _ = taken.pop();
+        let walked = verdict_after(tau, &mut taken, *cell)?;
+        if walked == Verdict::TooEarly {
             early = early.saturating_add(1);
-            Verdict::TooEarly
-        };
-        assert_eq!(rt; *verdict, walked);
+        }
+        same(rt, verdict, &walked);
         let spacing = cell.1.clamp(1, 20);
         judged(rt, &mut gcra, &mut bucket, (cell.0, spacing), walked);
     }

@@ -17,9 +17,9 @@ fn number_after(rt: &impl Abort, plan: StorePlan, restarts: bool) -> Result<u32,
 
 #[test]
 fn a_number_that_failed_is_given_up_by_a_restart_alone(rt: HostRuntime) -> Result<(), Fail> {
-    assert_eq!(rt; number_after(&rt, StorePlan::FailsAfter, false)?, 1);
-    assert_eq!(rt; number_after(&rt, StorePlan::FailsAfter, true)?, 65);
-    assert_eq!(rt; number_after(&rt, StorePlan::FailsBefore, true)?, 1);
+    same(&rt, &number_after(&rt, StorePlan::FailsAfter, false)?, &1);
+    same(&rt, &number_after(&rt, StorePlan::FailsAfter, true)?, &65);
+    same(&rt, &number_after(&rt, StorePlan::FailsBefore, true)?, &1);
     Ok(())
 }
 
@@ -91,8 +91,8 @@ fn start_until_kept(
     match Source::<Down>::new(connection()?).start(store, 0) {
         Ok(source) => Ok(source),
         Err(refused) => {
-            assert_eq!(rt; nth, 1);
-            assert_eq!(rt; refused.fault, StartFault::Keep);
+            same(rt, &nth, &1);
+            same(rt, &refused.fault, &StartFault::Keep);
             let Ok(source) = refused.source.start(store, 0) else {
                 return Err("refused twice".into());
             };
@@ -119,12 +119,16 @@ fn ask_twice_over_a_failure(rt: &impl Abort, nth: u64) -> Result<(), Fail> {
     };
     let source = start_until_kept(rt, &mut store, nth)?;
     let (source, first, refusals) = ask_until_kept(source, &mut store, slow())?;
-    assert_eq!(rt; (first.seq(), refusals), (5, if nth == 2 { 1 } else { 0 }));
+    same(
+        rt,
+        &(first.seq(), refusals),
+        &(5, if nth == 2 { 1 } else { 0 }),
+    );
     let source = refuse(source, &first)?;
     let (source, second, refusals) = ask_until_kept(source, &mut store, middle())?;
-    assert_eq!(rt; (second.seq(), refusals), (6, 0));
+    same(rt, &(second.seq(), refusals), &(6, 0));
     last_is(rt, &source, 6);
-    assert_eq!(rt; store.kept, Record::old(68));
-    assert_eq!(rt; store.failures(), if nth < 3 { 1 } else { 0 });
+    same(rt, &store.kept, &Record::old(68));
+    same(rt, &store.failures(), &(if nth < 3 { 1 } else { 0 }));
     Ok(())
 }

@@ -12,9 +12,10 @@ fn a_refused_start_hands_the_source_back(rt: HostRuntime) -> Result<(), Fail> {
     let source = start_fails(&rt, source, &mut store, late, StartFault::Keep)?;
     let source = start_fails(&rt, source, &mut store, late, StartFault::TimeRange)?;
     let source = start(source, &mut store, 0)?;
-    assert_eq!(rt;
-        (source.vc(), source.rate(), source.last()),
-        (vc, Rate::ZERO, 0)
+    same(
+        &rt,
+        &(source.vc(), source.rate(), source.last()),
+        &(vc, Rate::ZERO, 0),
     );
     Ok(())
 }
@@ -84,7 +85,7 @@ fn an_answer_to_other_terms_is_ignored(rt: HostRuntime) -> Result<(), Fail> {
 fn the_last_number_is_used_once(rt: HostRuntime) -> Result<(), Fail> {
     let mut store = MemoryStore::new(4294967294);
     let (source, last) = ask(started(&rt, &mut store)?, &mut store, slow())?;
-    assert_eq!(rt; last.seq(), 4294967295);
+    same(&rt, &last.seq(), &4294967295);
     let source = raise(source, &last)?;
     let source = ask_fails(&rt, source, &mut store, slow(), AskFault::SeqExhausted)?;
     shapes_at(&rt, &source, slow());

@@ -43,11 +43,12 @@ fn asks(
 ) -> Result<Source<Idle>, Fail> {
     let (source, request) = ask(source, store, rate)?;
     let kept = store.kept;
-    assert_eq!(rt;
-        (request.seq(), store.writes, kept.number(), kept.spacing()),
-        expected
+    same(
+        rt,
+        &(request.seq(), store.writes, kept.number(), kept.spacing()),
+        &expected,
     );
-    assert_eq!(rt; source.kept(), kept);
+    same(rt, &source.kept(), &kept);
     refuse(source, &request)
 }
 
@@ -104,10 +105,10 @@ fn the_open_request_and_the_present_rate_count(rt: HostRuntime) -> Result<(), Fa
     store.kept = Record::new(0, 1000000000).ok_or("a record")?;
     let source = start(source.crash(), &mut store, 0)?;
     let (source, first) = ask(source, &mut store, slow())?;
-    assert_eq!(rt; (first.seq(), store.kept.spacing()), (1, 2500000000));
+    same(&rt, &(first.seq(), store.kept.spacing()), &(1, 2500000000));
     let source = raise(source, &first)?;
     let (source, second) = ask(source, &mut store, fast())?;
-    assert_eq!(rt; (second.seq(), store.kept.spacing()), (2, 2500000000));
+    same(&rt, &(second.seq(), store.kept.spacing()), &(2, 2500000000));
     shapes_at(&rt, &source, slow());
     Ok(())
 }
@@ -128,7 +129,7 @@ fn a_start_waits_for_the_kept_spacing(rt: HostRuntime) -> Result<(), Fail> {
 fn all_numbers_end_with_the_last(rt: HostRuntime) -> Result<(), Fail> {
     let mut store = MemoryStore::new(4294967290);
     let (source, request) = ask(started(&rt, &mut store)?, &mut store, slow())?;
-    assert_eq!(rt; request.seq(), 4294967291);
+    same(&rt, &request.seq(), &4294967291);
     let source = start(source.crash(), &mut store, 0)?;
     let source = ask_fails(&rt, source, &mut store, slow(), AskFault::SeqExhausted)?;
     last_is(&rt, &source, 4294967295);
@@ -143,8 +144,8 @@ fn a_refused_ask_leaves_the_source(rt: HostRuntime) -> Result<(), Fail> {
         let source = started(&rt, &mut store)?;
         store.plan(plan);
         let source = ask_fails(&rt, source, &mut store, slow(), AskFault::Keep)?;
-        assert_eq!(rt; store.kept(), Ok(Record::old(stored)));
-        assert_eq!(rt; (source.last(), source.kept()), (0, Record::old(0)));
+        same(&rt, &store.kept(), &Ok(Record::old(stored)));
+        same(&rt, &(source.last(), source.kept()), &(0, Record::old(0)));
         shapes_at(&rt, &source, Rate::ZERO);
     }
     Ok(())

@@ -1,9 +1,10 @@
-use super::super::fixture::{CAPACITY, TAU, net, port, says};
+use super::super::fixture::{CAPACITY, TAU, net, port, same, says};
 use super::gathered;
 use abt_journal::PortState;
 use abt_net::Net;
 use abt_ports::GatherFault;
 use std::alloc::Global;
+use std::process::Abort;
 use std::test::Fail;
 
 /// How a port was made.
@@ -44,39 +45,65 @@ fn fault_of<const S: usize>(
 fn a_port_is_the_nets_by_number_capacity_and_connections_with_their_tau(
     rt: HostRuntime,
 ) -> Result<(), Fail> {
-    let foreign = Some(GatherFault::Foreign { port: 0 });
-    let rows: [(Made, Option<GatherFault>); 11] = [
-        (FIRST, None),
-        ((0, CAPACITY, &[102, 100], TAU, &[101]), None),
-        ((1, CAPACITY, &[100, 102], TAU, &[101]), foreign),
-        ((0, CAPACITY + 1, &[100, 102], TAU, &[101]), foreign),
-        ((0, CAPACITY, &[100, 102], TAU + 1, &[101]), foreign),
-        ((0, CAPACITY, &[100, 102, 101], TAU, &[]), foreign),
-        ((0, CAPACITY, &[100], TAU, &[101, 102]), foreign),
-        ((0, CAPACITY, &[100, 102], TAU, &[]), foreign),
-        ((0, CAPACITY, &[100, 102], TAU, &[101, 103]), foreign),
-        ((0, CAPACITY, &[100, 103], TAU, &[101]), foreign),
-        (SECOND, foreign),
-    ];
-    for (made, expected) in rows {
-        let answer = match gather_made(rt.alloc(), [made, SECOND]) {
-            Some(answer) => answer,
-            None => gather_made(rt.alloc(), [made, SECOND]).ok_or("refused twice")?,
-        };
-        assert_eq!(rt; answer, expected);
-    }
+    let alloc = rt.alloc();
+    is_taken_as(&rt, alloc, FIRST, None)?;
+    is_taken_as(&rt, alloc, (0, CAPACITY, &[102, 100], TAU, &[101]), None)?;
+    is_foreign(&rt, alloc, (1, CAPACITY, &[100, 102], TAU, &[101]))?;
+    is_foreign(&rt, alloc, (0, CAPACITY + 1, &[100, 102], TAU, &[101]))?;
+    is_foreign(&rt, alloc, (0, CAPACITY, &[100, 102], TAU + 1, &[101]))?;
+    is_foreign(&rt, alloc, (0, CAPACITY, &[100, 102, 101], TAU, &[]))?;
+    is_foreign(&rt, alloc, (0, CAPACITY, &[100], TAU, &[101, 102]))?;
+    is_foreign(&rt, alloc, (0, CAPACITY, &[100, 102], TAU, &[]))?;
+    is_foreign(&rt, alloc, (0, CAPACITY, &[100, 102], TAU, &[101, 103]))?;
+    is_foreign(&rt, alloc, (0, CAPACITY, &[100, 103], TAU, &[101]))?;
+    is_foreign(&rt, alloc, SECOND)
+}
+
+// Demands what is gathered where the first port is made so.
+fn is_taken_as(
+    rt: &impl Abort,
+    alloc: Global,
+    made: Made,
+    expected: Option<GatherFault>,
+) -> Result<(), Fail> {
+    let answer = match gather_made(alloc, [made, SECOND]) {
+        Some(answer) => answer,
+        None => gather_made(alloc, [made, SECOND]).ok_or("refused twice")?,
+    };
+    same(rt, &answer, &expected);
     Ok(())
+}
+
+fn is_foreign(rt: &impl Abort, alloc: Global, made: Made) -> Result<(), Fail> {
+    is_taken_as(rt, alloc, made, Some(GatherFault::Foreign { port: 0 }))
 }
 
 // What is gathered of the net's first port alone, of both with one more, and of both with a wrong second one.
 fn gather_numbers(alloc: Global) -> Option<[Option<GatherFault>; 3]> {
     let net = two_ports(alloc)?;
-    let fewer = fault_of(alloc, &net, [port_made(alloc, &FIRST)?])?;
-    let (first, second) = (port_made(alloc, &FIRST)?, port_made(alloc, &SECOND)?);
-    let more = fault_of(alloc, &net, [first, second, port_made(alloc, &SECOND)?])?;
+    Some([
+        gather_fewer(alloc, &net)?,
+        gather_more(alloc, &net)?,
+        gather_wrong(alloc, &net)?,
+    ])
+}
+
+fn gather_fewer(alloc: Global, net: &Net) -> Option<Option<GatherFault>> {
+    fault_of(alloc, net, [port_made(alloc, &FIRST)?])
+}
+
+fn gather_more(alloc: Global, net: &Net) -> Option<Option<GatherFault>> {
+    let states = [
+        port_made(alloc, &FIRST)?,
+        port_made(alloc, &SECOND)?,
+        port_made(alloc, &SECOND)?,
+    ];
+    fault_of(alloc, net, states)
+}
+
+fn gather_wrong(alloc: Global, net: &Net) -> Option<Option<GatherFault>> {
     let wrong = port(alloc, 1, CAPACITY, &[101], TAU, &[])?;
-    let other = fault_of(alloc, &net, [port_made(alloc, &FIRST)?, wrong])?;
-    Some([fewer, more, other])
+    fault_of(alloc, net, [port_made(alloc, &FIRST)?, wrong])
 }
 
 #[test]
@@ -85,13 +112,14 @@ fn the_lowest_place_without_its_port_is_named(rt: HostRuntime) -> Result<(), Fai
         Some(answers) => answers,
         None => gather_numbers(rt.alloc()).ok_or("refused twice")?,
     };
-    assert_eq!(rt;
-        answers,
-        [
+    same(
+        &rt,
+        &answers,
+        &[
             Some(GatherFault::Foreign { port: 1 }),
             Some(GatherFault::Foreign { port: 2 }),
-            Some(GatherFault::Foreign { port: 1 })
-        ]
+            Some(GatherFault::Foreign { port: 1 }),
+        ],
     );
     Ok(())
 }

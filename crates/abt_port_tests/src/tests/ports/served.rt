@@ -1,4 +1,4 @@
-use super::super::fixture::{CAPACITY, TAU, net, port, request};
+use super::super::fixture::{CAPACITY, TAU, net, port, request, same};
 use super::{gathered, saw, serve, serves};
 use abt_journal::{Entry, PortInput, PortReply, PortState, Seat, ServeFault};
 use abt_net::Net;
@@ -31,7 +31,7 @@ fn serve_two<R: Abort + Wait>(
 ) -> Option<(PortState, Seat)> {
     let (first_port, other_port) = (cell(alloc)?, cell(alloc)?);
     let mut seat = Seat::new(alloc, 0);
-    assert_eq!(rt; first_port.port(), 0);
+    same(rt, &first_port.port(), &0);
     let passed = PortReply::Requested(Onward::Pass);
     serves(rt, &first_port, &mut seat, &inputs[0], Ok((0, passed)));
     let conflict = PortReply::Requested(Onward::Drop(DropCause::Conflict));
@@ -67,7 +67,7 @@ fn the_receipts_of_one_caller_are_the_entries(rt: HostRuntime) -> Result<(), Fai
         PortReply::Requested(Onward::Drop(DropCause::Conflict)),
     ];
     assert_eq!(rt; journals.ports.len(), 1);
-    assert_eq!(rt; journals.ports[0].len(), 2);
+    same(&rt, &journals.ports[0].len(), &2);
     for place in 0..2 {
         let entry = Entry {
             place: place as u64,
@@ -81,7 +81,7 @@ fn the_receipts_of_one_caller_are_the_entries(rt: HostRuntime) -> Result<(), Fai
 }
 
 fn stands(rt: &impl Abort, journal: &[Entry], place: usize, entry: &Entry) {
-    assert_eq!(rt; journal.get(place), Some(entry));
+    same(rt, &journal.get(place), &Some(entry));
 }
 
 // What is gathered of the same state without the seat, and over a net without ports.
@@ -108,12 +108,13 @@ fn entries_without_receipts_and_ports_without_a_net_are_refused(
         Some(answers) => answers,
         None => gather_strays(&rt, rt.alloc(), &inputs).ok_or("refused twice")?,
     };
-    assert_eq!(rt;
-        answers,
-        [
+    same(
+        &rt,
+        &answers,
+        &[
             Some(GatherFault::Count),
-            Some(GatherFault::Foreign { port: 0 })
-        ]
+            Some(GatherFault::Foreign { port: 0 }),
+        ],
     );
     Ok(())
 }
@@ -168,12 +169,13 @@ fn receipts_of_another_port_and_two_seats_of_one_caller_are_refused(
         Some(answers) => answers,
         None => gather_others(&rt, rt.alloc(), &inputs).ok_or("refused twice")?,
     };
-    assert_eq!(rt;
-        answers,
-        [
+    same(
+        &rt,
+        &answers,
+        &[
             Some(GatherFault::Missing { port: 0, place: 0 }),
-            Some(GatherFault::Count)
-        ]
+            Some(GatherFault::Count),
+        ],
     );
     Ok(())
 }
@@ -212,9 +214,9 @@ fn each_entry_names_its_caller_in_the_order_of_the_calls(rt: HostRuntime) -> Res
     let journals = answer?;
     let callers = [7, 0, 3, 7];
     assert_eq!(rt; journals.ports.len(), 1);
-    assert_eq!(rt; journals.ports[0].len(), 4);
+    same(&rt, &journals.ports[0].len(), &4);
     for (entry, caller) in journals.ports[0].iter().zip(callers) {
-        assert_eq!(rt; entry.caller, caller);
+        same(&rt, &entry.caller, &caller);
     }
     Ok(())
 }
@@ -254,7 +256,7 @@ fn a_gate_is_passed_before_the_lock_and_inside_it(rt: HostRuntime) -> Result<(),
     let mut seat = Seat::new(rt.alloc(), 4);
     let answer = cell.serve(&rt, &mut seat, &gate, input);
     assert!(rt; answer.is_ok() || answer == Err(ServeFault::Memory));
-    assert_eq!(rt; gate.before.load(Ordering::SeqCst), 1);
-    assert_eq!(rt; gate.inside.load(Ordering::SeqCst), 1);
+    same(&rt, &gate.before.load(Ordering::SeqCst), &1);
+    same(&rt, &gate.inside.load(Ordering::SeqCst), &1);
     Ok(())
 }

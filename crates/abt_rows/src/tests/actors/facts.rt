@@ -6,7 +6,7 @@ use abt_keep::Record;
 fn adds(rt: &impl Abort, actor: &mut SourceActor, story: &[(SourceCommand, Added)]) {
     for (place, (command, added)) in story.iter().enumerate() {
         let (_, found) = actor.carry_out(command);
-        assert_eq!(rt; found, *added, "command {place}");
+        same_at(rt, &found, added, &("command", place));
     }
 }
 

@@ -10,7 +10,7 @@ fn number_of(rt: &impl Abort, actor: &mut SourceActor) -> Result<u32, Fail> {
     let Outcome::Asked(request) = actor.step(&ask(slow())) else {
         return Err("the ask after it was refused".into());
     };
-    assert_eq!(rt; (request.floor(), request.ask()), (Rate::ZERO, slow()));
+    same(rt, &(request.floor(), request.ask()), &(Rate::ZERO, slow()));
     Ok(request.seq())
 }
 
@@ -42,7 +42,7 @@ fn a_number_that_failed_is_given_up_by_a_restart_alone(rt: HostRuntime) -> Resul
         (StorePlan::FailsBefore, true, 1),
     ];
     for (plan, restarts, number) in rows {
-        assert_eq!(rt; number_after(&rt, plan, restarts)?, number);
+        same(&rt, &number_after(&rt, plan, restarts)?, &number);
     }
     Ok(())
 }

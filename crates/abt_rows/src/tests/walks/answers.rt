@@ -6,8 +6,9 @@ use abt_shaper::ShapeFault;
 use abt_source::{AskFault, StartFault};
 use abt_walk::drawn::{Walked, generated};
 use abt_walk::nets::{lone, meshed, shared};
-use abt_world::{Cause, Event, Heard, Outcome};
-use std::alloc::AllocError;
+use abt_world::{Cause, Event, Heard, Net, Outcome};
+use std::alloc::{AllocError, Global};
+use std::process::Abort;
 use std::test::Fail;
 
 /// The answers that an event of a net can get, by docs/FORMATS.md, "Events and outcomes". Some are left out: 2^32 asks would be
@@ -161,20 +162,37 @@ fn note(seen: &mut Vec<(&'static str, &'static str)>, walked: &Walked) -> Result
     Ok(())
 }
 
+// Adds the answers of the lists of a net.
+fn note_all(
+    alloc: Global,
+    net: &Net,
+    seen: &mut Vec<(&'static str, &'static str)>,
+) -> Result<(), AllocError> {
+    for seed in 1..=80 {
+        note(seen, &generated(alloc, net, seed, EVENTS)?)?;
+    }
+    Ok(())
+}
+
+// Demands that each of these answers is among the others.
+fn are_among(
+    rt: &impl Abort,
+    answers: &[(&'static str, &'static str)],
+    others: &[(&'static str, &'static str)],
+) {
+    for (kind, name) in answers {
+        assert!(rt; has(others, kind, name), "{kind} {name}");
+    }
+}
+
 #[test]
 fn each_answer_that_an_event_can_get_is_in_some_list(rt: HostRuntime) -> Result<(), Fail> {
-    let nets = [lone(rt.alloc())?, shared(rt.alloc())?, meshed(rt.alloc())?];
-    let mut seen = Vec::new(rt.alloc());
-    for net in &nets {
-        for seed in 1..=80 {
-            note(&mut seen, &generated(rt.alloc(), net, seed, EVENTS)?)?;
-        }
-    }
-    for (kind, name) in &ANSWERS {
-        assert!(rt; has(&seen, kind, name), "{kind} {name}");
-    }
-    for (kind, name) in &seen {
-        assert!(rt; has(&ANSWERS, kind, name), "{kind} {name}");
-    }
+    let alloc = rt.alloc();
+    let mut seen = Vec::new(alloc);
+    note_all(alloc, &lone(alloc)?, &mut seen)?;
+    note_all(alloc, &shared(alloc)?, &mut seen)?;
+    note_all(alloc, &meshed(alloc)?, &mut seen)?;
+    are_among(&rt, &ANSWERS, &seen);
+    are_among(&rt, &seen, &ANSWERS);
     Ok(())
 }

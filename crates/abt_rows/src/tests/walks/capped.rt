@@ -6,6 +6,7 @@ use abt_walk::nets::{lone, meshed, shared, spare};
 use abt_walk::walk::Walk;
 use abt_world::{Event, Net, Outcome};
 use std::alloc::{AllocError, Global};
+use std::process::Abort;
 use std::test::Fail;
 
 /// What lists came to.
@@ -102,14 +103,18 @@ fn after(alloc: Global, net: &Net, walked: &Walked, count: &mut Count) -> Result
     Ok(())
 }
 
+// Counts those of the lists of a net.
+fn after_all(alloc: Global, net: &Net, count: &mut Count) -> Result<(), AllocError> {
+    for seed in 1..=20 {
+        let walked = generated(alloc, net, seed, EVENTS)?;
+        after(alloc, net, &walked, count)?;
+    }
+    Ok(())
+}
+
 #[test]
 fn capacities_at_the_edges_decide_in_generated_lists(rt: HostRuntime) -> Result<(), Fail> {
-    let nets = [
-        lone(rt.alloc())?,
-        shared(rt.alloc())?,
-        meshed(rt.alloc())?,
-        spare(rt.alloc())?,
-    ];
+    let alloc = rt.alloc();
     let mut count = Count {
         below: 0,
         at: 0,
@@ -118,17 +123,19 @@ fn capacities_at_the_edges_decide_in_generated_lists(rt: HostRuntime) -> Result<
         tighter: 0,
         wider: 0,
     };
-    for net in &nets {
-        for seed in 1..=20 {
-            let walked = generated(rt.alloc(), net, seed, EVENTS)?;
-            after(rt.alloc(), net, &walked, &mut count)?;
-        }
-    }
-    assert!(rt; count.below >= 9, "{count:?}");
-    assert!(rt; count.at >= 9, "{count:?}");
-    assert!(rt; count.above >= 9, "{count:?}");
-    assert!(rt; count.idle >= 9, "{count:?}");
-    assert!(rt; count.tighter >= 9, "{count:?}");
-    assert!(rt; count.wider >= 3, "{count:?}");
+    after_all(alloc, &lone(alloc)?, &mut count)?;
+    after_all(alloc, &shared(alloc)?, &mut count)?;
+    after_all(alloc, &meshed(alloc)?, &mut count)?;
+    after_all(alloc, &spare(alloc)?, &mut count)?;
+    is_often(&rt, count.below, 9, &count);
+    is_often(&rt, count.at, 9, &count);
+    is_often(&rt, count.above, 9, &count);
+    is_often(&rt, count.idle, 9, &count);
+    is_often(&rt, count.tighter, 9, &count);
+    is_often(&rt, count.wider, 3, &count);
     Ok(())
+}
+
+fn is_often(rt: &impl Abort, found: u64, least: u64, count: &Count) {
+    assert!(rt; found >= least, "{count:?}");
 }

@@ -1,4 +1,5 @@
 //! A port with as many connections as it can have.
+use super::same;
 use abt_cell::Vc;
 use abt_keep::StorePlan;
 use abt_node::Onward;
@@ -91,16 +92,19 @@ fn requests(rt: &impl Abort, world: &mut World<'_>) -> Result<u64, Fail> {
 // The run has 1,024 starts, and 98,976 events of which each fifth is a request.
 #[test]
 fn an_event_looks_up_few_entries_however_many_there_are(rt: HostRuntime) -> Result<(), Fail> {
+    let net = crowd(rt.alloc())?;
+    looks_up_few(&rt, &mut World::new(rt.alloc(), &net)?)
+}
+
+fn looks_up_few(rt: &impl Abort, world: &mut World<'_>) -> Result<(), Fail> {
     // Names a type within an outcome, without which the checker can't follow one here.
     let _ = Onward::Pass;
-    let net = crowd(rt.alloc())?;
-    let mut world = World::new(rt.alloc(), &net)?;
-    assert_eq!(rt; world.looks(), 0);
-    assert_eq!(rt; requests(&rt, &mut world)?, 19_795);
+    same(rt, &world.looks(), &0);
+    same(rt, &requests(rt, world)?, &19_795);
     assert!(rt; world.safe());
     let past = Event::Crash { conn: CONNECTIONS };
     let unknown = Outcome::NotEnabled(Cause::Unknown);
-    assert_eq!(rt; world.step(&past)?, unknown);
-    assert_eq!(rt; world.looks(), 0);
+    same(rt, &world.step(&past)?, &unknown);
+    same(rt, &world.looks(), &0);
     Ok(())
 }

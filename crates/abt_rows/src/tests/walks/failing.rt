@@ -1,8 +1,8 @@
 //! Stories in which a store fails to take the number of an ask, once at each ask, with and without a restart behind it. The
 //! stories are those that were worked by hand for single events; codes 5120, 5258 and 53e8 are 400, 600 and 1,000 cells per
 //! second, 7fff is the greatest.
-use super::agrees;
 use super::stories::*;
+use super::{agrees, same};
 use abt_keep::StorePlan;
 use abt_node::Onward;
 use abt_walk::drawn::walk_through;
@@ -31,26 +31,46 @@ fn failing_at(
     plan: StorePlan,
     restarts: bool,
 ) -> Result<Vec<Event>, AllocError> {
+    let mut events = Vec::new(alloc);
+    for (at, event) in story.iter().enumerate() {
+        if at == place {
+            push_failing(alloc, net, &mut events, event, plan, restarts)?;
+        } else {
+            events.push(*event)?;
+        }
+    }
+    Ok(events)
+}
+
+// Adds an ask with this plan, with a crash and a start at the last moment behind it if so wanted.
+fn push_failing(
+    alloc: Global,
+    net: &Net,
+    events: &mut Vec<Event>,
+    event: &Event,
+    plan: StorePlan,
+    restarts: bool,
+) -> Result<(), AllocError> {
+    let (true, Some(conn)) = (restarts, event.conn()) else {
+        events.push(planned(event, plan))?;
+        return Ok(());
+    };
+    let now = clock_after(alloc, net, events, conn)?;
+    events.push(planned(event, plan))?;
+    events.push(Event::Crash { conn })?;
+    events.push(Event::Start { conn, now })?;
+    Ok(())
+}
+
+// The clock of a source after these events.
+fn clock_after(alloc: Global, net: &Net, events: &[Event], conn: u16) -> Result<u64, AllocError> {
     // Names a type within an outcome, without which the checker can't follow one round the loop.
     let _ = Onward::Pass;
     let mut walk = Walk::new(alloc, net);
-    let mut events = Vec::new(alloc);
-    for event in story.iter().take(place) {
+    for event in events {
         walk.step(alloc, event)?;
-        events.push(*event)?;
     }
-    for event in story.iter().skip(place).take(1) {
-        events.push(planned(event, plan))?;
-        if let (true, Some(conn)) = (restarts, event.conn()) {
-            let now = clock(&walk.facts_of(alloc, conn)?);
-            events.push(Event::Crash { conn })?;
-            events.push(Event::Start { conn, now })?;
-        }
-    }
-    for event in story.iter().skip(place).skip(1) {
-        events.push(*event)?;
-    }
-    Ok(events)
+    Ok(clock(&walk.facts_of(alloc, conn)?))
 }
 
 // Demands that a run of these events answers what a walk does, and is safe.
@@ -95,23 +115,35 @@ fn fails_in_turn(
             count = count.saturating_add(1);
         }
     }
-    assert_eq!(rt; count, asks);
+    same(rt, &count, &asks);
     Ok(())
+}
+
+// The same of a story that is carried further.
+fn fails_behind(
+    rt: &impl Abort,
+    alloc: Global,
+    net: &Net,
+    begun: Vec<Event>,
+    more: &[Event],
+    asks: u64,
+) -> Result<(), Fail> {
+    let story = further(begun, more)?;
+    fails_in_turn(rt, alloc, net, &story, asks)
 }
 
 #[test]
 fn stores_fail_at_each_ask_of_two_that_share_a_port(rt: HostRuntime) -> Result<(), Fail> {
     let net = shared(rt.alloc())?;
-    let story = two_share(rt.alloc())?;
-    fails_in_turn(&rt, rt.alloc(), &net, &story, 3)?;
+    let alloc = rt.alloc();
+    fails_in_turn(&rt, alloc, &net, &two_share(alloc)?, 3)?;
     let gives_back = [
         ask(0, 0),
         deliver(0, 1, 2),
         deliver(1, 1, 2),
         deliver(1, 2, 2),
     ];
-    let story = further(story, &gives_back)?;
-    fails_in_turn(&rt, rt.alloc(), &net, &story, 4)
+    fails_behind(&rt, alloc, &net, two_share(alloc)?, &gives_back, 4)
 }
 
 #[test]
@@ -133,10 +165,11 @@ fn stores_fail_before_and_after_a_restart(rt: HostRuntime) -> Result<(), Fail> {
         ask(0, 0x5258),
         tell(0, 1, true),
     ];
-    let story = further(further(Vec::new(rt.alloc()), &granted)?, &asks_again)?;
-    fails_in_turn(&rt, rt.alloc(), &net, &story, 2)?;
-    let story = further(further(Vec::new(rt.alloc()), &granted)?, &restarts)?;
-    fails_in_turn(&rt, rt.alloc(), &net, &story, 3)
+    let alloc = rt.alloc();
+    let begun = further(Vec::new(alloc), &granted)?;
+    fails_behind(&rt, alloc, &net, begun, &asks_again, 2)?;
+    let begun = further(Vec::new(alloc), &granted)?;
+    fails_behind(&rt, alloc, &net, begun, &restarts, 3)
 }
 
 #[test]
@@ -158,10 +191,9 @@ fn stores_fail_between_cells(rt: HostRuntime) -> Result<(), Fail> {
         arrive(1, 6_001_000_001_200),
         arrive(2, 6_003_500_001_000),
     ];
-    let story = further(has_emitted_one(rt.alloc())?, &in_turn)?;
-    fails_in_turn(&rt, rt.alloc(), &net, &story, 1)?;
-    let story = further(has_emitted_one(rt.alloc())?, &fenced)?;
-    fails_in_turn(&rt, rt.alloc(), &net, &story, 2)
+    let alloc = rt.alloc();
+    fails_behind(&rt, alloc, &net, has_emitted_one(alloc)?, &in_turn, 1)?;
+    fails_behind(&rt, alloc, &net, has_emitted_one(alloc)?, &fenced, 2)
 }
 
 #[test]

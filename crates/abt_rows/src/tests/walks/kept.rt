@@ -8,6 +8,7 @@ use abt_walk::nets::{lone, meshed, shared};
 use abt_walk::walk::Walk;
 use abt_world::Net;
 use std::alloc::{AllocError, Global};
+use std::process::Abort;
 use std::test::Fail;
 
 /// What lists came to.
@@ -74,24 +75,35 @@ fn after(alloc: Global, net: &Net, walked: &Walked, count: Count) -> Result<Coun
     Ok(count)
 }
 
+// Counts those of the lists of a net.
+fn after_all(alloc: Global, net: &Net, count: Count) -> Result<Count, AllocError> {
+    let mut count = count;
+    for seed in 1..=30 {
+        let walked = generated(alloc, net, seed, EVENTS)?;
+        count = after(alloc, net, &walked, count)?;
+    }
+    Ok(count)
+}
+
 #[test]
 fn strides_end_and_needs_rise_in_generated_lists(rt: HostRuntime) -> Result<(), Fail> {
-    let nets = [lone(rt.alloc())?, shared(rt.alloc())?, meshed(rt.alloc())?];
-    let mut count = Count {
+    let alloc = rt.alloc();
+    let count = Count {
         strides: 0,
         needs: 0,
         restarts: 0,
         shorter: 0,
     };
-    for net in &nets {
-        for seed in 1..=30 {
-            let walked = generated(rt.alloc(), net, seed, EVENTS)?;
-            count = after(rt.alloc(), net, &walked, count)?;
-        }
-    }
-    assert!(rt; count.strides >= 9, "{count:?}");
-    assert!(rt; count.needs >= 9, "{count:?}");
-    assert!(rt; count.restarts >= 90, "{count:?}");
-    assert!(rt; count.shorter >= 1, "{count:?}");
+    let count = after_all(alloc, &lone(alloc)?, count)?;
+    let count = after_all(alloc, &shared(alloc)?, count)?;
+    let count = after_all(alloc, &meshed(alloc)?, count)?;
+    is_often(&rt, count.strides, 9, &count);
+    is_often(&rt, count.needs, 9, &count);
+    is_often(&rt, count.restarts, 90, &count);
+    is_often(&rt, count.shorter, 1, &count);
     Ok(())
+}
+
+fn is_often(rt: &impl Abort, found: u64, least: u64, count: &Count) {
+    assert!(rt; found >= least, "{count:?}");
 }

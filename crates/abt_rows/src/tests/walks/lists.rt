@@ -1,9 +1,9 @@
 //! Generated lists of 200 events.
-use super::{agrees, stands};
+use super::{agrees, same, same_at, stands};
 use abt_walk::drawn::{Walked, generated};
 use abt_walk::nets::{lone, meshed, shared, spare};
 use abt_walk::walk::Walk;
-use abt_world::{Net, Outcome, World, run};
+use abt_world::{Event, Net, Outcome, World, run};
 use std::alloc::Global;
 use std::process::Abort;
 use std::test::Fail;
@@ -36,7 +36,7 @@ fn counted(count: Count, outcome: &Outcome) -> Count {
 fn steps(rt: &impl Abort, alloc: Global, net: &Net, walked: &Walked) -> Result<(), Fail> {
     let mut world = World::new(alloc, net)?;
     for (event, answer) in walked.events.iter().zip(&walked.outcomes) {
-        assert_eq!(rt; world.step(event)?, *answer, "{event:?}");
+        same_at(rt, &world.step(event)?, answer, event);
     }
     stands(rt, &world, &walked.end);
     Ok(())
@@ -58,7 +58,7 @@ fn follow(rt: &impl Abort, alloc: Global, net: &Net, first: u64) -> Result<(), F
             count = counted(count, outcome);
         }
     }
-    assert_eq!(rt; count.events, LISTS.saturating_mul(EVENTS));
+    same(rt, &count.events, &LISTS.saturating_mul(EVENTS));
     assert!(rt; count.enabled.saturating_mul(2) > count.events, "{count:?}");
     Ok(())
 }
@@ -107,25 +107,37 @@ fn looks(rt: &impl Abort, alloc: Global, net: &Net, seed: u64) -> Result<(), Fai
     let mut world = World::new(alloc, net)?;
     stands(rt, &world, &walk.standing(alloc)?);
     for event in &walked.events {
-        let answer = walk.step(alloc, event)?;
-        assert_eq!(rt; world.step(event)?, answer, "{event:?}");
-        stands(rt, &world, &walk.standing(alloc)?);
+        looks_after(rt, alloc, &mut walk, &mut world, event)?;
+    }
+    Ok(())
+}
+
+fn looks_after(
+    rt: &impl Abort,
+    alloc: Global,
+    walk: &mut Walk<'_>,
+    world: &mut World<'_>,
+    event: &Event,
+) -> Result<(), Fail> {
+    let answer = walk.step(alloc, event)?;
+    same_at(rt, &world.step(event)?, &answer, event);
+    stands(rt, world, &walk.standing(alloc)?);
+    Ok(())
+}
+
+// Looks so at lists of a net.
+fn looks_at_all(rt: &impl Abort, alloc: Global, net: &Net) -> Result<(), Fail> {
+    for seed in 6001..=6005 {
+        looks(rt, alloc, net, seed)?;
     }
     Ok(())
 }
 
 #[test]
 fn a_world_stands_after_each_event_as_a_slow_walk_does(rt: HostRuntime) -> Result<(), Fail> {
-    let nets = [
-        lone(rt.alloc())?,
-        shared(rt.alloc())?,
-        meshed(rt.alloc())?,
-        spare(rt.alloc())?,
-    ];
-    for net in &nets {
-        for seed in 6001..=6005 {
-            looks(&rt, rt.alloc(), net, seed)?;
-        }
-    }
-    Ok(())
+    let alloc = rt.alloc();
+    looks_at_all(&rt, alloc, &lone(alloc)?)?;
+    looks_at_all(&rt, alloc, &shared(alloc)?)?;
+    looks_at_all(&rt, alloc, &meshed(alloc)?)?;
+    looks_at_all(&rt, alloc, &spare(alloc)?)
 }

@@ -1,5 +1,6 @@
 //! Logs, against lists of facts that are searched.
 use super::lists::EVENTS;
+use super::same;
 use abt_facts::Fact;
 use abt_gcra::Verdict;
 use abt_log::{Log, Looks};
@@ -26,27 +27,29 @@ fn conforms(fact: &Fact) -> bool {
 fn agrees_on_hop(rt: &impl Abort, log: &Log, facts: &[Fact], seq: u32, hop: u16) {
     let looks = &mut Looks::new();
     let passed = facts.contains(&Fact::Passed { seq, hop });
-    assert_eq!(rt; log.was_passed(seq, hop, looks), passed);
+    same(rt, &log.was_passed(seq, hop, looks), &passed);
     let shut = facts.contains(&Fact::Shut { seq, hop });
-    assert_eq!(rt; log.was_shut(seq, hop, looks), shut);
+    same(rt, &log.was_shut(seq, hop, looks), &shut);
     let back = facts.contains(&Fact::Back { seq, hop });
-    assert_eq!(rt; log.was_back(seq, hop, looks), back);
-    assert_eq!(rt; looks.count(), 3);
+    same(rt, &log.was_back(seq, hop, looks), &back);
+    same(rt, &looks.count(), &3);
 }
 
 // Demands that a log tells of a number what its facts do.
 fn agrees_on_number(rt: &impl Abort, log: &Log, facts: &[Fact], seq: u32) {
     let looks = &mut Looks::new();
     let terms = words::asked(facts, seq);
-    assert_eq!(rt;
-        log.asked(seq, looks),
-        terms.map(|terms| (terms.floor, terms.ask))
+    same(
+        rt,
+        &log.asked(seq, looks),
+        &terms.map(|terms| (terms.floor, terms.ask)),
     );
-    assert_eq!(rt;
-        log.was_turned(seq, looks),
-        facts.contains(&Fact::Turned { seq })
+    same(
+        rt,
+        &log.was_turned(seq, looks),
+        &facts.contains(&Fact::Turned { seq }),
     );
-    assert_eq!(rt; looks.count(), 2);
+    same(rt, &looks.count(), &2);
     for hop in 0..=HOPS {
         agrees_on_hop(rt, log, facts, seq, hop);
     }
@@ -61,12 +64,16 @@ fn agrees(rt: &impl Abort, log: &Log, facts: &[Fact]) {
     let fence = cells::fence(facts);
     for cell in 0..=words::emitted(facts).saturating_add(1) {
         let moment = cells::emission(facts, cell).unwrap_or(0);
-        assert_eq!(rt; log.emission(cell, looks), moment);
+        same(rt, &log.emission(cell, looks), &moment);
         let fenced = log.is_behind_last(cell) || cell < log.delivered_mark();
-        assert_eq!(rt; fenced, cell < fence);
+        same(rt, &fenced, &(cell < fence));
     }
-    assert_eq!(rt; log.last_arrival(), cells::last_arrival(facts));
-    assert_eq!(rt; log.all_conform(), facts.iter().all(|fact| conforms(fact)));
+    same(rt, &log.last_arrival(), &cells::last_arrival(facts));
+    same(
+        rt,
+        &log.all_conform(),
+        &facts.iter().all(|fact| conforms(fact)),
+    );
 }
 
 // Notes the facts of each connection of a list, and demands after each tenth that the log tells what they do.
@@ -77,27 +84,37 @@ fn notes(rt: &impl Abort, alloc: Global, net: &Net, seed: u64) -> Result<(), Fai
         walk.step(alloc, event)?;
     }
     for conn in 0..number(net.conns().len()) {
-        let facts = walk.facts_of(alloc, conn)?;
-        let mut log = Log::new(alloc);
-        for (place, fact) in facts.iter().enumerate() {
-            log.reserve()?;
-            log.note(*fact, &mut Looks::new());
-            if place % 10 == 9 {
-                agrees(rt, &log, facts.iter().as_slice().split_at(place + 1).0);
-            }
+        notes_all(rt, alloc, &walk.facts_of(alloc, conn)?)?;
+    }
+    Ok(())
+}
+
+// The same of these facts, the oldest first.
+fn notes_all(rt: &impl Abort, alloc: Global, facts: &[Fact]) -> Result<(), Fail> {
+    let mut log = Log::new(alloc);
+    for (place, fact) in facts.iter().enumerate() {
+        log.reserve()?;
+        log.note(*fact, &mut Looks::new());
+        if place % 10 == 9 {
+            agrees(rt, &log, facts.split_at(place + 1).0);
         }
-        agrees(rt, &log, &facts);
+    }
+    agrees(rt, &log, facts);
+    Ok(())
+}
+
+// The same of lists of a net.
+fn notes_of_all(rt: &impl Abort, alloc: Global, net: &Net) -> Result<(), Fail> {
+    for seed in 7001..=7005 {
+        notes(rt, alloc, net, seed)?;
     }
     Ok(())
 }
 
 #[test]
 fn a_log_tells_what_a_search_of_its_facts_does(rt: HostRuntime) -> Result<(), Fail> {
-    let nets = [lone(rt.alloc())?, shared(rt.alloc())?, meshed(rt.alloc())?];
-    for net in &nets {
-        for seed in 7001..=7005 {
-            notes(&rt, rt.alloc(), net, seed)?;
-        }
-    }
-    Ok(())
+    let alloc = rt.alloc();
+    notes_of_all(&rt, alloc, &lone(alloc)?)?;
+    notes_of_all(&rt, alloc, &shared(alloc)?)?;
+    notes_of_all(&rt, alloc, &meshed(alloc)?)
 }

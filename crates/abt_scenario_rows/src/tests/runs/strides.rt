@@ -59,7 +59,8 @@ fn events(alloc: Global, later: &[(&str, &str)]) -> Result<String, AllocError> {
     Ok(text)
 }
 
-// Demands what the events answer that come behind these asks, and how the net stands in the end.
+// Demands what the events answer that come behind these asks, and how the net stands in the end. The texts are made again where memory was
+// refused for them.
 fn expect_behind(
     rt: &impl Abort,
     alloc: Global,
@@ -67,13 +68,29 @@ fn expect_behind(
     later: &[(&str, &str)],
     end: &str,
 ) -> Result<(), Fail> {
-    let text = events(alloc, later)?;
+    let text = match events(alloc, later) {
+        Ok(text) => text,
+        Err(_) => events(alloc, later)?,
+    };
+    let report = match answers(alloc, head, later, end) {
+        Ok(report) => report,
+        Err(_) => answers(alloc, head, later, end)?,
+    };
+    reports(rt, alloc, text.as_str(), report.as_str())
+}
+
+fn answers(
+    alloc: Global,
+    head: &str,
+    later: &[(&str, &str)],
+    end: &str,
+) -> Result<String, AllocError> {
     let mut report = String::from_str(alloc, head)?;
     push_answers(alloc, &mut report, &RAISED, 1)?;
     push_asked(alloc, &mut report)?;
     push_answers(alloc, &mut report, later, 73)?;
     report.push_str(end)?;
-    reports(rt, alloc, text.as_str(), report.as_str())
+    Ok(report)
 }
 
 #[test]
