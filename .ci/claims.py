@@ -1,7 +1,7 @@
-"""Compares what documents claim with the repository: counts of must-fail edits, and the edits that tables name.
+"""Compares what documents claim with the repository: counts of must-fail edits, and the edits that promises name.
 
 docs/GUARANTEES.md has a list under "What is proved, crate by crate" whose entries begin with the crates that they speak of and end in
-`N edits`; a table below the heading of a crate names edits in its last column.
+`N edits`; below the heading of a crate an entry of the list names edits behind `*Refused:*`, and a table in its last column.
 
 usage: claims.py            compares
        claims.py --write    writes the counts of the list anew
@@ -52,17 +52,23 @@ def with_counts(text):
     return head + begins + "".join(written) + ends + after
 
 
+def naming(part):
+    """The places below a heading that name edits: the last columns of tables, and what stands behind `*Refused:*` in an entry of a list."""
+    rows = re.findall(r"^\|.*\|$", part, re.M)
+    listed = [re.sub(r"\s+", " ", entry) for entry in re.findall(r"\*Refused:\*(.*?)(?=\n-|\n\n|\Z)", part, re.S)]
+    return [row.strip("|").split("|")[-1] for row in rows] + listed
+
+
 def named_edits(text):
-    """The edits in the last columns of the tables below a crate's heading. A name that ends in `*` stands for several."""
+    """The edits that stand below a crate's heading. A name that ends in `*` stands for several."""
     everywhere = {edit for crate in (ROOT / "crates").iterdir() for edit in edits_of(crate.name)}
     for part in re.split(r"\n### ", text)[1:]:
         heading = part.split("\n", 1)[0]
         crates = re.findall(r"\babt_?\w*", heading)
         known = {edit for crate in crates for edit in edits_of(crate) | misuses_of(crate)}
-        for row in re.findall(r"^\|.*\|$", part.split("\n## ", 1)[0], re.M):
-            last = row.strip("|").split("|")[-1]
-            elsewhere = everywhere if "(and abt_" in last else set()
-            for name in re.findall(r"\b[a-z0-9]+(?:_[a-z0-9]+)+\b(?!\*|\(|`)", last):
+        for named in naming(part.split("\n## ", 1)[0]):
+            elsewhere = everywhere if "(and abt_" in named else set()
+            for name in re.findall(r"\b[a-z0-9]+(?:_[a-z0-9]+)+\b(?!\*|\(|`)", named):
                 yield heading, name, name in known | elsewhere or name.startswith("abt_")
 
 

@@ -535,8 +535,8 @@ def main():
     crates = [crate for crate in rt.rtlib.crates_below(root) if rt.edits_of(crate) != ([], [])]
     named = {name.split("/")[0] for name in words.names}
     crates = [crate for crate in crates if not named or crate.name in named]
-    # The longest first, so that no processor waits for one crate in the end.
-    crates.sort(key=lambda crate: -len(rt.edits_of(crate)[0]) * crate.count(rb"\n"))
+    # The longest first, so that no processor waits for one crate in the end. An edit takes longer the more crates are below its own.
+    crates.sort(key=lambda crate: -len(rt.edits_of(crate)[0]) * (5 + len(crate.below())))
     with ThreadPoolExecutor(words.jobs) as pool:
         given = list(pool.map(lambda crate: report(crate, words), crates))
     edits = [edit for tried, _, _, _ in given for edit in tried]

@@ -19,6 +19,8 @@ DOCUMENTS = [
     "docs/DECISIONS.md",
 ]
 LONGEST_FILE = 400
+# The columns of a line of documents at most, but for what a program reads or prints.
+LONGEST_LINE = 140
 # Crates of types, laws or tests, and the program, which is `main` alone: no public function of theirs has a body that a bug of the
 # program could stand in.
 WITHOUT_BODIES = {
@@ -94,6 +96,12 @@ def faults():
         for file in linked_files(document):
             if not file.exists():
                 yield f"{document} names {file}, which isn't there"
+    for document in [*documents, *Path(".").glob("*.md"), *Path("bench").glob("*.md"), *Path("c").glob("**/*.md")]:
+        is_shown = False
+        for number, line in enumerate(document.read_text().split("\n"), 1):
+            is_shown ^= line.startswith("```")
+            if len(line) > LONGEST_LINE and not is_shown:
+                yield f"{document}:{number} has {len(line)} columns"
     for file in [*documents, *Path("crates").glob("*/src/**/*.rt"), *Path("crates").glob("*/specs/**/*.antt")]:
         for name, heading in citations(file):
             if not Path(name).is_file():

@@ -270,10 +270,11 @@ def order_of(file):
     return crates.index(crate), "/specs/" in file, file
 
 
-def in_lines(names, room):
-    """The names in lines that are no longer than there is room."""
+def in_lines(names, first, others):
+    """The names in lines that are no longer than there is room: in the first, and in the others."""
     lines = [[]]
     for name in names:
+        room = first if len(lines) == 1 else others
         if lines[-1] and len(", ".join([*lines[-1], name])) > room:
             lines.append([])
         lines[-1].append(name)
@@ -286,7 +287,8 @@ def table(words, said):
     held = by_file(words)
     for file in sorted(held, key=order_of):
         head, says = f"| `{file}` | {sum(word.lines for word in held[file])} |", said.get(file, "")
-        first, *more = in_lines([f"`{word.name}`" for word in held[file]], WIDTH - len(head) - len(says) - 6)
+        names = [f"`{word.name}`" for word in held[file]]
+        first, *more = in_lines(names, WIDTH - len(head) - len(says) - 6, WIDTH - len("| | |  | |"))
         rows.append(f"{head} {first} | {says} |")
         rows += [f"| | | {line} | |" for line in more]
     return rows

@@ -38,8 +38,19 @@ COMMANDS = [
     (["run", "none.toml"], b""),
     (["run", "."], b""),
     (["police", "--tau", "0", "--rate", "53e8"], b"5\n"),
+    (["audit"], b'{"net":{"ports":[1],"connections":[]}}\n{"port":0,"place":0,"input":{"capacity":2},"reply":"set"}\n{"end":true}\n'),
+    (["audit"], b'{"net":{"ports":[1],"connections":[]}}\n{"port":0,"place":0,"input":{"capacity":2},"reply":"passed"}\n{"end":true}\n'),
     (["shape", "--rate", "53e8"], b"x\n"),
     (["shape", "--rate", "53e"], b""),
+    (["check"], b"ports = [\n"),
+    (["check"], b"ports = [1]\nevents = ['akk 0 5120']\n[[connection]]\nevent = 1\n"),
+    (["check", "threads_fault_jitter.toml"], b""),
+    (["cell", "--stdin"], CELL.encode() + b"\nzz\n"),
+    (["port", "512000", "--stdin"], CELL.encode() + b"\nzz\n"),
+    (["code", "1.3Mbps"], b""),
+    (["code", "5"], b""),
+    (["write", "request", "1", "100", "1", "0000", "5258"], b""),
+    (["write", "no", "1", "100", "0", "0000", "5258"], b""),
     (["explain"], b"ports = [\n"),
     (["explain", "none.toml"], b""),
     (["explain", "one_source.toml"], b""),
@@ -82,11 +93,18 @@ def ends_of(program, preload, folder, command, most):
     return ends
 
 
+def beginnings(text):
+    """What may have gone out where lines are answered one by one: none of the answers, or some."""
+    lines = text.splitlines(keepends=True)
+    return ["".join(lines[:count]) for count in range(len(lines))]
+
+
 def faults(program, preload, folder, command):
     """The refusals of a command that end otherwise, how many there are, and how many are told."""
     without = run(program, preload, command)
     with_threads = command is THREADS
-    allowed = {(text, MEMORY, 1) for text in (LINES if with_threads else ("",))}
+    texts = LINES if with_threads else beginnings(without[0]) if "--stdin" in command[0] else ("",)
+    allowed = {(text, MEMORY, 1) for text in texts}
     if with_threads:
         allowed.add(("", "fault: Thread\n", 1))
     ends = ends_of(program, preload, folder, command, THREADS_TRIED if with_threads else MOST_TRIED)

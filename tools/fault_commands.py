@@ -28,6 +28,10 @@ class Command:
     def has_threads(self):
         return self.words[:1] == ("threads",) and "--help" not in self.words
 
+    def answers_lines(self):
+        """Whether each line of the standard input is answered before the next one is read."""
+        return "--stdin" in self.words or self.words[:1] in (("police",), ("shape",)) and "--help" not in self.words
+
 
 PLAIN = [
     ("rate", "53e8"),
@@ -39,7 +43,26 @@ PLAIN = [
     ("port", "512000", CELL, "zz", SECOND_CELL, NO, CELL),
     ("port", "0", CELL),
 ]
-HELP = [("--help",), ("help",), *(words for name in ("rate", "cell", "port", "run", "explain", "threads") for words in ((name, "--help"), ("help", name)))]
+AS_JSON = [
+    ("rate", "53e8", "--json"),
+    ("rate", "none", "--json"),
+    ("cell", CELL, "--json"),
+    ("cell", "00", "--json"),
+    ("run", "refused_and_retried.toml", "--json"),
+    ("explain", "refused_and_retried.toml", "--json"),
+]
+POLICE = ("police", "--tau", "200000000", "--rate", "53e8")
+SHAPE = ("shape", "--rate", "53e8")
+MOMENTS = b"0\n800000000\nnone\n1500000000\n" + b"7" * 5_000 + b"\n5"
+CELLS = "\n".join((CELL, "zz", SECOND_CELL, NO, CELL)).encode()
+BY_LINES = [
+    (POLICE, MOMENTS),
+    (SHAPE, MOMENTS),
+    (("cell", "--stdin"), CELLS),
+    (("port", "512000", "--stdin"), CELLS),
+]
+NAMES = ("rate", "cell", "port", "run", "explain", "police", "shape", "threads")
+HELP = [("--help",), ("help",), ("--version",), *(words for name in NAMES for words in ((name, "--help"), ("help", name)))]
 REFUSED = [
     (),
     ("none",),
@@ -49,6 +72,8 @@ REFUSED = [
     ("port", "1152921504606846977", CELL),
     ("run", "one_source.toml", "two_ports.toml"),
     ("explain", "one_source.toml", "two_ports.toml"),
+    ("police", "--tau", "0"),
+    ("shape", "--rate", "none"),
     ("threads", "threads_one_source.toml"),
     ("threads", "threads_one_source.toml", "--workers", "0"),
     ("threads", "threads_one_source.toml", "--workers", "65"),
@@ -75,7 +100,8 @@ def of_samples():
 
 
 def all_commands():
-    return [*(Command(words) for words in [*PLAIN, *HELP, *REFUSED, *UNREAD]), *of_samples()]
+    by_lines = [Command(words, text, "lines") for words, text in BY_LINES]
+    return [*(Command(words) for words in [*PLAIN, *AS_JSON, *HELP, *REFUSED, *UNREAD]), *by_lines, *of_samples()]
 
 
 def connection(conn):

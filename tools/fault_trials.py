@@ -28,14 +28,20 @@ class End(NamedTuple):
 HANG = End("", f"no end after {SECONDS} seconds", -99)
 
 
+def may_be_out(command, plain, end):
+    """Whether what was printed may have gone out before a fault: nothing, some lines of a run in threads, or the first answers to lines."""
+    if command.answers_lines():
+        return plain.output.startswith(end.output) and end.output[-1:] in ("", "\n")
+    return end.output in (LINES if command.has_threads() else LINES[:1])
+
+
 def is_of_memory(command, plain, end, descriptor):
-    lines = LINES if command.has_threads() else LINES[:1]
     may_be_thread = command.has_threads() and end == ("", THREAD, 1)
-    return end == plain or may_be_thread or end.output in lines and end[1:] == (MEMORY, 1)
+    return end == plain or may_be_thread or may_be_out(command, plain, end) and end[1:] == (MEMORY, 1)
 
 
 def is_unread(command, plain, end, descriptor):
-    return end == ("", READ, 1)
+    return may_be_out(command, plain, end) and end[1:] == (READ, 1)
 
 
 def is_a_part(text, whole):
