@@ -11,6 +11,7 @@ DOCUMENTS = [
     "docs/RULES.md",
     "docs/FORMATS.md",
     "docs/GUARANTEES.md",
+    "docs/LAYOUT.md",
     "docs/READING.md",
     "docs/SCENARIOS.md",
     "docs/THREADS.md",
@@ -44,8 +45,23 @@ WITHOUT_BODIES = {
 
 
 def crates_listed():
-    lines = Path("crates.txt").read_text().split("\n")
-    return {line.split(":")[0].split()[0] for line in lines if ":" in line and not line.startswith("#")}
+    """The crates of crates.txt, each with those that it stands on."""
+    lines = [line for line in Path("crates.txt").read_text().split("\n") if ":" in line and not line.startswith("#")]
+    return {line.split(":")[0].split()[0]: set(line.split(":", 1)[1].split()) for line in lines}
+
+
+def faults_of_picture(crates):
+    """What the picture of docs/LAYOUT.md has wrong: each crate stands there once, and on crates below it alone. What stands beside the
+    house, and the tests, come last there, and stand on all of the house."""
+    picture = Path("docs/LAYOUT.md").read_text().split("```text\n")[-1].split("```")[0]
+    house, beside = picture.split("\nBESIDE THE HOUSE\n")
+    shown = [re.findall(r"^    (\w+)  +\S", part, re.M) for part in (house, beside)]
+    order = shown[1] + shown[0]
+    for name in sorted(set(order) ^ crates.keys()) + sorted({name for name in order if order.count(name) > 1}):
+        yield f"docs/LAYOUT.md has {name} {order.count(name)} times, crates.txt {int(name in crates)} times"
+    for at, name in enumerate(order):
+        for below in sorted(crates.get(name, set()) & set(order[:at])):
+            yield f"docs/LAYOUT.md has {name} below {below}, on which it stands"
 
 
 def linked_files(document):
@@ -74,8 +90,10 @@ def faults():
         if not Path(name).is_file():
             yield f"{name} is missing"
     folders = {path.name for path in Path("crates").iterdir() if (path / "src").is_dir()}
-    for name in sorted(folders ^ crates_listed()):
+    crates = crates_listed()
+    for name in sorted(folders ^ crates.keys()):
         yield f"{name} stands in only one of crates.txt and crates/"
+    yield from faults_of_picture(crates)
     for name in sorted(folders):
         root = Path("crates") / name
         if not (root / "README.md").is_file():
