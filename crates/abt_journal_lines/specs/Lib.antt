@@ -1,0 +1,5 @@
+pub mod NetJson
+pub mod Lines
+pub mod Fits
+pub mod Tellable
+pub mod RoundTrip
