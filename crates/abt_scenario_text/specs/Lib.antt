@@ -1,0 +1,3 @@
+pub mod ScenarioText
+pub mod Samples
+pub mod Faults

@@ -1,0 +1,14 @@
+//! Nets and events, written as the texts of scenarios.
+#![tactic(auto)]
+
+mod comparing;
+mod fault;
+mod sample;
+mod writing;
+
+pub use fault::EventsFault;
+pub use sample::sample_text;
+pub use writing::scenario_text;
+
+#[cfg(test)]
+mod tests;
