@@ -1,4 +1,5 @@
 """Audits journals: the run of docs/JOURNALS.md, those that the slow model writes of each sample of scenarios/, and the same with one entry wrong.
+Those that `abt threads --journals` writes of each sample for threads come back through `abt audit`.
 
 Journals that the model writes are woven, also with the lines of different actors mixed anew and spread over two files. With one reply or outcome
 changed no list of events is woven from them. A step of a port that comes twice, is missing or stands before the one before it is a fault of the text, at
@@ -177,6 +178,44 @@ def try_other_ways(auditor, lines):
         auditor.found.append(f"a file that isn't there: {done}")
 
 
+def try_threads(auditor):
+    """The journals of each sample for threads go out and come back; and each way in which they don't go out."""
+    runs = 0
+    out = auditor.folder / "journals"
+    run = lambda sample, workers, to: subprocess.run(
+        [auditor.program, "threads", sample, "--workers", str(workers), "--journals", to], capture_output=True, timeout=60
+    )
+    for sample in sorted((ROOT / "scenarios").glob("threads_*.toml")):
+        shown = Path(f"{sample}.stdout").read_bytes()
+        for workers in (1, 4, 64):
+            out.unlink(missing_ok=True)
+            done = run(sample, workers, out)
+            if not shown:
+                if done.returncode != 1 or done.stdout or not done.stderr or out.read_bytes():
+                    auditor.found.append(f"{sample.name}, which can't run: {done}")
+                continue
+            runs += 1
+            if (done.returncode, done.stdout, done.stderr) != (0, shown, b""):
+                auditor.found.append(f"{sample.name}: {done}")
+                continue
+            text = out.read_bytes()
+            auditor.wants(f"the journals of {sample.name}", WHOLE, text)
+            auditor.wants(f"the journals of {sample.name}, mixed", WHOLE, *mixed(text.decode().splitlines(), sample.name))
+    sample = ROOT / "scenarios" / "threads_crossing.toml"
+    rows = [
+        ("a folder that isn't there", sample, auditor.folder / "none" / "journals", (1, b"", b"fault: open\n")),
+        ("a full disk", sample, Path("/dev/full"), (1, b"gathered\nwoven\nsafe\n", b"fault: journals\n")),
+        ("no scenario", ROOT / "README.md", auditor.folder / "unmade", (1, b"", b"fault: Toml\n")),
+    ]
+    for what, read, to, wanted in rows:
+        done = run(read, 4, to)
+        if (done.returncode, done.stdout, done.stderr) != wanted:
+            auditor.found.append(f"journals to {what}: {done}")
+    if (auditor.folder / "unmade").exists():
+        auditor.found.append("journals of no scenario: the file is made")
+    return runs
+
+
 def main(program):
     with tempfile.TemporaryDirectory() as folder:
         auditor = Auditor(Path(program).resolve(), folder)
@@ -186,9 +225,10 @@ def main(program):
             try_sample(auditor, name, lines)
         try_texts(auditor, worked)
         try_other_ways(auditor, worked)
+        runs = try_threads(auditor)
     for difference in auditor.found:
         print(f"audits: {difference}")
-    print(f"audits: {len(every)} runs, {auditor.runs} audits, {len(auditor.found)} differences")
+    print(f"audits: {len(every)} runs, {runs} in threads, {auditor.runs} audits, {len(auditor.found)} differences")
     return not auditor.found
 
 

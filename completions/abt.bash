@@ -10,7 +10,7 @@ _abt() {
         cell) COMPREPLY=($(compgen -W "--json --stdin -h --help" -- "$word")) ;;
         port) COMPREPLY=($(compgen -W "--stdin -h --help" -- "$word")) ;;
         run) COMPREPLY=($(compgen -f -W "--json --explain -h --help" -- "$word")) ;;
-        threads) COMPREPLY=($(compgen -f -W "--workers --explain -h --help" -- "$word")) ;;
+        threads) COMPREPLY=($(compgen -f -W "--workers --journals --explain -h --help" -- "$word")) ;;
         explain) COMPREPLY=($(compgen -f -W "--json -h --help" -- "$word")) ;;
         check) COMPREPLY=($(compgen -f -W "-h --help" -- "$word")) ;;
         audit) COMPREPLY=($(compgen -f -W "-h --help" -- "$word")) ;;

@@ -27,6 +27,9 @@ pub const EXPLAIN: &str = "explain";
 /// How many link workers `abt threads` has.
 pub const WORKERS: &str = "workers";
 
+/// The file for the journals of `abt threads`.
+pub const JOURNALS: &str = "journals";
+
 /// The version that `abt --version` tells; CHANGELOG.md tells what each is.
 pub const VERSION: &str = "0.1.0";
 
@@ -109,11 +112,17 @@ fn threads_command<'a>(alloc: Global) -> Result<Command<'a>, AllocError> {
         .required(true)
         .value_parser(value_parser!(u64).range(1..=64))
         .help("How many link workers carry messages between ports: 1 to 64");
+    let journals = Arg::new(alloc, JOURNALS)
+        .long("journals")
+        .value_name("OUT")
+        .help("Write the journals of the run to this file, once it is shown to be woven and safe")
+        .conflicts_with(EXPLAIN)?;
     Command::new(alloc, "threads")
         .about("Run a scenario's scripts in threads, and say what is shown of the run")
         .after_help(THREADS_EXAMPLE)
         .arg(file_argument(alloc))?
         .arg(workers)?
+        .arg(journals)?
         .arg(explain_flag(alloc))
 }
 

@@ -1,9 +1,11 @@
 //! The words of a command line, and the plans that they ask for.
 ghost use Rattle.std.specs.Prelude.{◌≤◌, IfOk, IfSome};
-ghost use Rattle.abt_rate.specs.Limits.{capacity_max};
+ghost use Rattle.abt_rate.specs.Limits.{capacity_max, AreWorkers};
 ghost use Rattle.abt_perform.specs.Plans.{IsWithinLimits};
 
-use crate::command::{CAPACITY, CODE, FILE, HEX, JSON, STDIN, WORKERS, add_commands, program};
+use crate::command::{
+    CAPACITY, CODE, FILE, HEX, JOURNALS, JSON, STDIN, WORKERS, add_commands, program,
+};
 use abt_perform::{Plan, WordsFault};
 use abt_rate::{CAPACITY_MAX, WORKERS_MAX};
 use clap::ArgMatches;
@@ -37,7 +39,7 @@ pub fn plan_words<'a>(alloc: Global, words: &'a [&'a str]) -> Result<Plan, Words
 }
 
 /// The plan of a command of this crate, by what `clap` found behind its name; None if the name is no such command's, or it is to answer as
-/// JSON, or line by line.
+/// JSON, or line by line, or to write journals.
 pub fn plan_of(
     alloc: Global,
     name: &str,
@@ -45,7 +47,7 @@ pub fn plan_of(
 ) -> Result<Option<Plan>, WordsFault>
     ensures limits { IfOk result (λ plan. IfSome plan IsWithinLimits) }
 {
-    if found.get_flag(JSON) || found.get_flag(STDIN) {
+    if found.get_flag(JSON) || found.get_flag(STDIN) || found.get_str(JOURNALS).is_some() {
         return Ok(None);
     }
     let plan = match name {
@@ -90,16 +92,23 @@ pub fn capacity_of(alloc: Global, found: &ArgMatches<'_>) -> Result<u64, WordsFa
 fn threads_plan(alloc: Global, found: &ArgMatches<'_>) -> Result<Plan, WordsFault>
     ensures { IfOk result IsWithinLimits }
 {
+    let workers = workers_of(alloc, found)?;
+    let file = file_of(alloc, found)?;
+    Ok(Plan::Threads { file, workers })
+}
+
+/// How many link workers are asked for.
+pub fn workers_of(alloc: Global, found: &ArgMatches<'_>) -> Result<u16, WordsFault>
+    ensures limits { IfOk result AreWorkers }
+{
     let digits = found.get_str(WORKERS).unwrap_or("");
     let Some(workers) = found.get_one::<u64>(WORKERS) else {
-        return no_plan(alloc, WORKERS_RULE);
+        return Err(wrong_words(alloc, WORKERS_RULE)?);
     };
     if workers == 0 || workers > u64::from(WORKERS_MAX) || !is_digits(digits) {
-        return no_plan(alloc, WORKERS_RULE);
+        return Err(wrong_words(alloc, WORKERS_RULE)?);
     }
-    let file = file_of(alloc, found)?;
-    let workers = workers as u16;
-    Ok(Plan::Threads { file, workers })
+    Ok(workers as u16)
 }
 
 // Whether a text is digits alone: `clap` takes a plus sign as well.

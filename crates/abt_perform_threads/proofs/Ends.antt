@@ -5,11 +5,10 @@ use Rattle.abt_threads.specs.Runs.{ScriptsFit}
 use Rattle.abt_operator.specs.Operations.{AreForPorts}
 use Rattle.abt_threads.specs.declared.fault.RunFault.{RunFault}
 use Rattle.abt_threads.specs.declared.fault.RunFault.TheVariants as run
-use Rattle.abt_perform.specs.declared.fault.Fault.{Fault}
 use Rattle.abt_perform.specs.declared.fault.Fault.TheVariants.{Code, Hex, Length, Rm, Full, Read, TooLong, NotUtf8, Scenario as Text, Workers, Scripts, Operator, Thread, Wound, Gather, NoOrder, Mismatch, Write, Memory}
 use Rattle.abt_perform_threads.specs.Faults.{fault_of_run}
 use Rattle.abt_rate.specs.Limits.{AreWorkers}
-use Rattle.abt_perform_threads.specs.Performing.{IsUnfit, MayRun, EndsRunBy}
+use Rattle.abt_perform_threads.specs.Performing.{MayRun, EndsRunBy}
 
 -- the result is refused for workers, for scripts or for the operator's list, exactly where these don't fit
 pub record IsExact {T : Type 0} (workers : ℕ) (scenario : Scenario) (result : Result T RunFault) : Type 0 where

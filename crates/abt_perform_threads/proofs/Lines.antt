@@ -1,5 +1,5 @@
 -- Lines that go out one after the other.
-use Rattle.std.proofs.Common.{◌≡◌, ℕ, List, [], Option, Result, Ok, Err, IfErr, IsErrAnd, take, ◌++◌, sym, subst, inl, inr}
+use Rattle.std.proofs.Common.{◌≡◌, ℕ, List, [], Option, Result, Ok, Err, IfErr, IsErrAnd, take, sym, subst, inr}
 use Rattle.std.proofs.KnownBytes.{Appends-trans}
 use Rattle.std.specs.Io.KnownBytes.{Appends}
 use Rattle.abt_text.specs.Streams.{AppendsPrefix}
@@ -9,7 +9,7 @@ use Rattle.abt_trace.specs.Traces.{IsTrace}
 use Rattle.abt_threads.specs.declared.gathered.Gathered.{Gathered}
 use Rattle.abt_woven.specs.Woven.{IsWoven}
 use Rattle.abt_perform_threads.specs.Judging.{IsJudged, IsVerdict}
-use Rattle.abt_perform_threads.specs.Shown.{BreaksOff, BreaksOffJudged, ShowsAll, ShowsUntil, gathered_line, woven_line}
+use Rattle.abt_perform_threads.specs.Shown.{BreaksOff, ShowsAll, ShowsUntil, gathered_line, woven_line}
 use Rattle.abt_report.specs.Report.{safe_line}
 use Rattle.abt_perform_threads.specs.declared.judging.Judged.{Judged}
 use Rattle.abt_perform_threads.specs.declared.ran.Ran.{Ran}

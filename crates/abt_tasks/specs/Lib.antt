@@ -2,4 +2,5 @@ pub mod Audits
 pub mod Check
 pub mod Checked
 pub mod Json
+pub mod Keeping
 pub mod Tasks

@@ -4,6 +4,7 @@ use Rattle.std.specs.Option.{option_map}
 use Rattle.std.specs.Io.KnownBytes.{Keeps}
 use Rattle.abt_text.specs.Text.{Text}
 use Rattle.abt_text.specs.Streams.{ConsumesAtMost, text_max}
+use Rattle.abt_rate.specs.Limits.{AreWorkers}
 use Rattle.abt_perform.specs.Plans.{IsWithinLimits}
 use Rattle.abt_commands.specs.Carried.{IsDoneHere, IsRefusedHere, ReadsHere, IsUnopened}
 use Rattle.abt_explain.specs.Explained.{IsExplained, IsRefused}
@@ -14,12 +15,14 @@ use Rattle.abt_tasks.specs.Audits.{IsAuditedHere, IsUnauditedHere}
 use Rattle.abt_tasks.specs.Check.{TakesToCheck, IsCheckedHere, IsFaultyHere}
 use Rattle.abt_tasks.specs.Checked as checked
 use Rattle.abt_tasks.specs.Json.{TakesToSay, IsSaidHere, IsUnsaidHere}
+use Rattle.abt_tasks.specs.Keeping.{TakesToKeep, IsKeptHere, IsUnkeptHere}
 use Rattle.abt_tasks.specs.declared.task.Task.{Task}
-use Rattle.abt_tasks.specs.declared.task.Task.TheVariants.{Plan, Checked, Explain, Check, Json, Audit, Parts, Codes}
+use Rattle.abt_tasks.specs.declared.task.Task.TheVariants.{Plan, Checked, Keep, Explain, Check, Json, Audit, Parts, Codes}
 
 abbrev pub IsAllowed : Task → Type 0
 IsAllowed (Plan plan) = IsWithinLimits plan
 IsAllowed (Checked plan) = IsWithinLimits plan
+IsAllowed (Keep plan) = AreWorkers plan.workers
 IsAllowed (Explain plan) = ⊤
 IsAllowed (Check plan) = ⊤
 IsAllowed (Json plan) = ⊤
@@ -58,6 +61,7 @@ IsUnexplainedHere plan left old new errors_old errors_new = MatchOption (file_of
 abbrev pub TakesOf : Task → (old new : Option Text) → Type 0
 TakesOf (Plan plan) old new = ReadsHere plan old new
 TakesOf (Checked plan) old new = checked.TakesToRun plan old new
+TakesOf (Keep plan) old new = TakesToKeep plan old new
 TakesOf (Explain plan) old new = TakesToExplain plan old new
 TakesOf (Check plan) old new = TakesToCheck plan old new
 TakesOf (Json plan) old new = TakesToSay plan old new
@@ -69,6 +73,7 @@ TakesOf (Codes plan) old new = Keeps old new
 abbrev pub IsCarriedOut : Task → (left old new : Option Text) → Type 0
 IsCarriedOut (Plan plan) left old new = IsDoneHere plan left old new
 IsCarriedOut (Checked plan) left old new = checked.IsDoneHere plan left old new
+IsCarriedOut (Keep plan) left old new = IsKeptHere plan left old new
 IsCarriedOut (Explain plan) left old new = IsExplainedHere plan left old new
 IsCarriedOut (Check plan) left old new = IsCheckedHere plan left old new
 IsCarriedOut (Json plan) left old new = IsSaidHere plan left old new
@@ -85,6 +90,7 @@ TellsOf task left old new = Keeps old new
 abbrev pub IsNotCarriedOut : Task → (left old new errors_old errors_new : Option Text) → Type 0
 IsNotCarriedOut (Plan plan) left old new errors_old errors_new = IsRefusedHere plan left old new errors_old errors_new
 IsNotCarriedOut (Checked plan) left old new errors_old errors_new = checked.IsRefusedHere plan left old new errors_old errors_new
+IsNotCarriedOut (Keep plan) left old new errors_old errors_new = IsUnkeptHere plan left old new errors_old errors_new
 IsNotCarriedOut (Explain plan) left old new errors_old errors_new = IsUnexplainedHere plan left old new errors_old errors_new
 IsNotCarriedOut (Check plan) left old new errors_old errors_new = IsFaultyHere plan left old new errors_old errors_new
 IsNotCarriedOut (Json plan) left old new errors_old errors_new = IsUnsaidHere plan left old new errors_old errors_new

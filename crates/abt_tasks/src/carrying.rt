@@ -7,6 +7,7 @@ use crate::checked::carry_out_checked;
 use crate::checking::check;
 use crate::explaining::explain;
 use crate::json::say_as_json;
+use crate::keeping::keep;
 use crate::task::Task;
 use abt_codes::perform_codes;
 use abt_commands::carry_out;
@@ -39,6 +40,7 @@ where
     match task {
         Task::Plan(plan) => carry_out(rt, plan, input, out, errors),
         Task::Checked(plan) => carry_out_checked(rt, plan, input, out, errors),
+        Task::Keep(plan) => keep(rt, plan, input, out, errors),
         Task::Explain(plan) => explain(rt, plan, input, out, errors),
         Task::Check(plan) => check(rt, plan, input, out, errors),
         Task::Json(plan) => say_as_json(rt, plan, input, out, errors),

@@ -8,6 +8,7 @@ mod checking;
 mod environment;
 mod explaining;
 mod json;
+mod keeping;
 mod streams;
 mod task;
 mod words;

@@ -6,6 +6,7 @@ use abt_explain::ExplainPlan;
 use abt_json::JsonPlan;
 use abt_parts::PartsPlan;
 use abt_perform::Plan;
+use abt_perform_threads::KeepPlan;
 
 /// What to do, by the crate whose command asks for it.
 #[derive(Drop)]
@@ -14,6 +15,8 @@ pub enum Task {
     Plan(Plan),
     /// Run a scenario, also in threads, and tell what is wrong or doubtful in it besides.
     Checked(Plan),
+    /// Run a scenario in threads, and write the journals of its run.
+    Keep(KeepPlan),
     /// Run a scenario, and tell each of its events with its reason.
     Explain(ExplainPlan),
     /// Tell what is wrong or doubtful in a scenario.

@@ -3,6 +3,7 @@ ghost use Rattle.std.specs.Prelude.{IfOk};
 ghost use Rattle.abt_tasks.specs.Tasks.{IsAllowed};
 
 use crate::json::json_plan_of;
+use crate::keeping::keep_plan_of;
 use crate::streams::stream_of;
 use crate::task::Task;
 use abt_commands::{EXPLAIN, add_commands, no_plan, plan_of, program, refusal};
@@ -44,6 +45,9 @@ fn task_of(alloc: Global, name: &str, found: &ArgMatches<'_>) -> Result<Task, Wo
     }
     if let Some(plan) = stream_of(alloc, name, found)? {
         return Ok(Task::Parts(plan));
+    }
+    if let Some(plan) = keep_plan_of(alloc, name, found)? {
+        return Ok(Task::Keep(plan));
     }
     if let Some(plan) = plan_of(alloc, name, found)? {
         if found.get_flag(EXPLAIN) {
