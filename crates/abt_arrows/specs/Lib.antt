@@ -1,0 +1,3 @@
+pub mod Messages
+pub mod Tellings
+pub mod Arrows

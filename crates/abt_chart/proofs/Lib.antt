@@ -1,0 +1,4 @@
+mod Numbered
+mod Read
+mod Below
+mod Frames

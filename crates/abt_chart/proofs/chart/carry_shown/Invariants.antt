@@ -1,0 +1,14 @@
+-- The world stands for the events so far, and what they told, and what was held meanwhile, is there.
+use Rattle.std.proofs.Common.{◌≡◌, ◌++◌, List, take}
+use Rattle.abt_arrows.specs.Tellings.{told_after}
+use Rattle.abt_model.specs.declared.event.Event.{Event}
+use Rattle.abt_model.specs.Run.{facts_after}
+use Rattle.abt_world.specs.Standing.{StandsFor}
+use Rattle.abt_chart.specs.Frames.{frames_from}
+use Rattle.abt_chart.proofs.chart.carry_shown.Given as goal
+
+abbrev pub invariant-loop-event : goal.invariant-loop-event
+invariant-loop-event l = (past : List Event) → StandsFor l.net past l.initial.world →
+    StandsFor l.net (past ++ take l.event-index l.events) l.world
+    × (l.initial.told ≡ told_after l.net past → l.told ≡ told_after l.net (past ++ take l.event-index l.events))
+    × (l.frames ≡ frames_from l.net (facts_after l.net past) (take l.event-index l.events))
