@@ -1,13 +1,15 @@
-"""Runs `abt check` over scenarios in many layouts, and compares each line with one that was written by hand.
+"""Runs `abt check` and `abt explain` over scenarios in many layouts, and compares lines and places with those that were written by hand.
 
 The proof says that the first fault is the one of `abt run`, and that a place is the line and column behind so many octets. Where a key or an item
 stands in a text is told by no clause of the TOML reader: that is what these layouts are for. Over every sample of scenarios/ the first fault that is
-told has to be the one that `abt run` prints.
+told has to be the one that `abt run` prints, and `abt explain` has to tell the lines in which the events stand.
 
 usage: check_texts.py PROGRAM..
 """
+import re
 import subprocess
 import sys
+import tomllib
 from pathlib import Path
 
 ROOT = Path(__file__).resolve().parent.parent
@@ -117,6 +119,24 @@ CASES = [
         f"line 2, column {11 + 4 * i}: fault EventText {i + 1}: no event begins with `z`" for i in range(100)
     ], ("100 or more", 0)),
 ]
+# name, text, the lines in which `abt explain` says that its events stand
+LAYOUTS = [
+    ("no events", NET, []),
+    ("scripts alone", NET + 'script = ["start 0"]\n', []),
+    ("events behind a connection, explained", NET + 'events = ["again 0"]\n', []),
+    ("all in one line", 'events = ["again 0", "again 1", "again 0"]\nports = [1]\n', [1, 1, 1]),
+    ("one a line", 'ports = [\n 1]\nevents = [\n"again 0",\n"again 0",\n"again 1"]\n', [4, 5, 6]),
+    ("comments between", 'ports = []\n# events = ["again 7"]\nevents = [ # "again 8"\n"again 0", # ] , "\n# "again 9",\n\n   "again 1"\n,"again 2" ]\n',
+     [4, 7, 8]),
+    ("strings of all kinds", "ports = []\nevents = ['again 0', \"again \\u0031\",\n\"\"\"again \\\n  2\"\"\", '''\nagain 3''',\n\"\"\"\nagain 4\"\"\",\n'again 5']\n",
+     [2, 2, 3, 4, 6, 8]),
+    ("brackets and commas in strings", 'ports = []\n"events" = ["again 0",\n\n"again 1", ]\nother = "]]"\n', [2, 4]),
+    ("connections in brackets before", "ports = [1]\nconnection = [ { vpi = 1, vci = 2, path = [\n0], delay = 0, tau = 0, 'events' = ['again 9'] } ]\n"
+     "events = [\n'again 0']\n", [5]),
+    ("a byte order mark and carriage returns", "\ufeffports = []\r\nevents = [\r\n'again 0',\r\n'again 1']\r\n", [3, 4]),
+    ("letters of two octets", "ports = [] # \u00e4\n# \u00e4\u00f6\nevents = ['again 0'] # \u00fc\n", [3]),
+    ("another table's events", "ports = []\nevents = ['again 0']\n[other]\nevents = ['again 1']\n", [2]),
+]
 
 
 def run(program, words, text):
@@ -131,6 +151,35 @@ def differs(program, text, lines, counts):
     if found == (0 if faults == 0 else 1, wanted, ""):
         return None
     return f"wanted:\n{wanted}found, with status {found[0]}:\n{found[1]}{found[2]}"
+
+
+def lines_of(explanation):
+    """Number and line of each event that an explanation tells."""
+    return [(int(number), int(line)) for number, line in re.findall(r"^(\d+) line (\d+) ", explanation, flags=re.M)]
+
+
+def misplaced(program, text, wanted):
+    """What of the lines of events differs from those that are wanted."""
+    status, out, told = run(program, ["explain"], text.encode())
+    count = len(re.findall(r"^\d+ ", out, flags=re.M))
+    found = lines_of(out)
+    if (status, told, count, found) == (0, "", len(wanted), list(enumerate(wanted, 1))):
+        return None
+    return f"wanted the lines {wanted}, found {found} of {count} events, with status {status}\n{told}"
+
+
+def misplaced_sample(program, sample):
+    """The same of a sample that is a scenario: its events stand in the lines in which their texts are found, one behind the other."""
+    if run(program, ["run"], sample.read_bytes())[0]:
+        return None
+    text = sample.read_bytes().decode()
+    events = tomllib.loads(text).get("events", [])
+    wanted, at = [], re.search(r"^events\b|\Z", text, flags=re.M).end()
+    for event in events:
+        at = text.index(f'"{event}"', at)
+        wanted.append(text.count("\n", 0, at) + 1)
+        at += len(event) + 2
+    return misplaced(program, text, wanted)
 
 
 def explained(program, sample):
@@ -166,13 +215,17 @@ def main():
             if told := differs(program, text, lines, counts):
                 print(f"check_texts: {name}: {told}")
                 failed += 1
+        for name, text, lines in LAYOUTS:
+            if told := misplaced(program, text, lines):
+                print(f"check_texts: {name}: {told}")
+                failed += 1
         for sample in samples:
-            if told := first_fault(program, sample) or explained(program, sample):
+            if told := first_fault(program, sample) or explained(program, sample) or misplaced_sample(program, sample):
                 print(f"check_texts: {sample.name}: {told}")
                 failed += 1
     if failed:
         raise SystemExit(f"check_texts: {failed} failed")
-    print(f"check_texts: {len(CASES)} texts and {len(samples)} samples")
+    print(f"check_texts: {len(CASES) + len(LAYOUTS)} texts and {len(samples)} samples")
 
 
 if __name__ == "__main__":

@@ -2,7 +2,9 @@
 
 Each object is put into the words of docs/FORMATS.md, and these have to be what the command prints without `--json`, with the same faults and
 the same status. Looked at are `run` of each sample that is run, from its file and from the standard input, and of a file that isn't there, and
-`explain` of the same, whose objects have to be those of `run` with the texts and the words of `explain` in them;
+`explain` of the same, whose objects have to be those of `run` with the lines, the texts and the words of `explain`
+in them;
+`check` of all samples and of texts with faults of every kind;
 `rate` of every 97th code, of the codes that the documents name and of words that are none; `cell` of the test cells and of texts that are none.
 
 usage: json_texts.py PROGRAM
@@ -17,6 +19,13 @@ ROOT = Path(__file__).resolve().parent.parent
 FOLDER = ROOT / "scenarios"
 FORMATS = ROOT / "docs" / "FORMATS.md"
 CODES = [f"{code:04x}" for code in range(0, 65536, 97)] + ["0000", "53e8", "5258", "ffff", "53E8", "", "5", "53e8 ", "g000"]
+CONNECTION = "[[connection]]\nvpi = 1\nvci = 2\npath = [0]\ndelay = 0\ntau = 0\n"
+# Texts with faults of every kind, and with warnings.
+FAULTY = [
+    "", "ports = [", "ports = 'x'\n", "ports = [-1]\nevnts = []\n", "ports = []\n" + CONNECTION, "ports = [1]\n" + 2 * CONNECTION,
+    "ports = [1]\n" + CONNECTION.replace("[0]", "[0, 0]"), "ports = [1]\n" + CONNECTION.replace("[0]", "[]"), "ports = [9223372036854775807]\n",
+    "ports = [1]\nevents = ['akk \"0\" \\\\']\noperator = ['x']\n" + CONNECTION + "script = ['start 0', 'stop']\n", "ports = []\nevents = [" + "'x'," * 150 + "]\n",
+]
 CELLS = ["", "0", "00", "zz", "6a" * 51, "00" * 52]
 
 
@@ -83,12 +92,40 @@ def unexplained(program, words, text=b""):
     as_json, in_words, report = (run(program, given, text) for given in (["explain", *words, "--json"], ["explain", *words], ["run", *words]))
     try:
         found = objects(as_json[0])
-        told = [f"{each['event']} {each.pop('text')}: {each.pop('words')}" for each in found if "event" in each]
-        is_same = (report_of(found), *as_json[1:]) == report and in_words[0].splitlines()[: len(told)] == told and as_json[1:] == in_words[1:]
+        events = [each for each in found if "event" in each]
+        told = [f"{each['event']} line {each.pop('line')} {each.pop('text')}: {each.pop('words')}" for each in events]
+        is_run = (report_of(found), as_json[2]) == (report[0], report[2]) and as_json[1].startswith(report[1])
+        is_same = is_run and in_words[0].splitlines()[: len(told)] == told and as_json[1:] == in_words[1:]
     except (ValueError, TypeError, KeyError) as error:
         is_same, told = False, error
     if not is_same:
         yield f"explain {words}: {as_json!r}, told {told!r}, in words {in_words!r}, the report {report!r}"
+
+
+def named(found):
+    """The name of a fault of `check`, with what it names, as it is written on standard error."""
+    names = ("fault", "net", "key", "connection", "event", "command", "operation")
+    return " ".join(str(found[name]) for name in names if name in found)
+
+
+def checked(program, words, text=b""):
+    """Where `check` says another thing as JSON than in lines."""
+    in_lines, as_json = run(program, ["check", *words], text), run(program, ["check", *words, "--json"], text)
+    lines = []
+    try:
+        for each in objects(as_json[0]):
+            if "faults" in each:
+                counts = [f"{number} or more" if number == 100 else str(number) for number in (each["faults"], each["warnings"])]
+                lines.append(f"faults: {counts[0]}, warnings: {counts[1]}")
+                continue
+            place = f"line {each['line']}, column {each['column']}: " if "line" in each else ""
+            what = {"fault": f"fault {named(each)}: ", "warning": "warning: "}[each["kind"]]
+            lines.append(f"{place}{what}{each['message']}")
+        is_same = "".join(f"{line}\n" for line in lines) == in_lines[0] and as_json[1:] == in_lines[1:]
+    except (ValueError, TypeError, KeyError) as error:
+        is_same, lines = False, error
+    if not is_same:
+        yield f"check {words}: {as_json!r}, told {lines!r}, in lines {in_lines!r}"
 
 
 def main(program):
@@ -103,9 +140,11 @@ def main(program):
     explained = [(words[1:], text) for words, said, text in tries if words[0] == "run"]
     found = [line for words, said, text in tries for line in differences(program, words, said, text)]
     found += [line for words, text in explained for line in unexplained(program, words, text)]
+    checks = [([], text.encode()) for text in FAULTY] + [([sample.name], b"") for sample in sorted(FOLDER.glob("*.toml"))] + [(["none.toml"], b"")]
+    found += [line for words, text in checks for line in checked(program, words, text)]
     for line in found:
         print(f"json_texts: {line}")
-    print(f"json_texts: {len(tries) + len(explained)} commands, {len(found)} differences")
+    print(f"json_texts: {len(tries) + len(explained) + len(checks)} commands, {len(found)} differences")
     sys.exit(1 if found else 0)
 
 

@@ -9,6 +9,7 @@ docs/EXPLAIN.md has to be what `abt explain` prints of its scenario.
 
 usage: scenarios.py [PROGRAM..]    as each of these programs prints it, else the proved program, which `./abt --prove` makes where need be
 """
+import os
 import re
 import subprocess
 import sys
@@ -20,6 +21,10 @@ FOLDER = ROOT / "scenarios"
 INDEX = ROOT / "docs" / "SCENARIOS.md"
 EXPLAINED = ROOT / "docs" / "EXPLAIN.md"
 LONGEST = 16_777_216
+# What tells the name of a file that can't be opened, and why.
+NAMING = [["explain"], ["explain", "--json"], ["check"], ["check", "--json"], ["run", "--explain"], ["threads", "--workers", "1", "--explain"]]
+THROUGH = "fault: open\none_source.toml/x: its path goes through a file\n"
+LONG = "fault: open\n" + "n" * 5000 + ": the system takes no such name\n"
 
 
 def beside(sample, suffix, default):
@@ -59,8 +64,10 @@ def of_files_and_outputs(program):
         ("the longest text", ["run"], b"\n" * LONGEST, "fault: MissingKey ports\n"),
         ("threads over no file", ["threads", "none.toml", "--workers", "1"], b"", "fault: open\n"),
         ("threads over a folder", ["threads", ".", "--workers", "1"], b"", "fault: read\n"),
-        ("an explanation of no file", ["explain", "none.toml"], b"", "fault: open\n"),
-        ("an explanation of a folder", ["explain", "."], b"", "fault: read\n"),
+        *((f"no file for {words}", [*words, "none.toml"], b"", "fault: open\nnone.toml: there is no such file\n") for words in NAMING),
+        *((f"a folder for {words}", [*words, "."], b"", "fault: read\n.: it is a folder\n") for words in NAMING),
+        *((f"a path through a file for {words}", [*words, "one_source.toml/x"], b"", THROUGH) for words in NAMING),
+        *((f"a name of 5,000 octets for {words}", [*words, "n" * 5000], b"", LONG) for words in NAMING),
     ]:
         yield from differences(name, ("", line, 1), run(program, words, text))
     beyond = "one_source.toml/x"
@@ -71,6 +78,12 @@ def of_files_and_outputs(program):
         ("a name of 5,000 octets, with threads", ["threads", "n" * 5000, "--workers", "1"]),
     ]:
         yield from differences(name, ("", "fault: open\n", 1), run(program, words))
+    with tempfile.NamedTemporaryFile(suffix=".toml") as file:
+        Path(file.name).chmod(0)
+        if not os.access(file.name, os.R_OK):
+            line = f"fault: open\n{file.name}: it may not be read\n"
+            for words in NAMING:
+                yield from differences(f"a file that may not be read for {words}", ("", line, 1), run(program, [*words, file.name]))
     if Path("/dev/full").exists():
         for words in (["run", "one_source.toml"], ["explain", "one_source.toml"], ["rate", "53e8"], ["--help"], ["help", "port"]):
             with open("/dev/full", "wb") as full:

@@ -12,7 +12,7 @@ _abt() {
         run) COMPREPLY=($(compgen -f -W "--json --explain -h --help" -- "$word")) ;;
         threads) COMPREPLY=($(compgen -f -W "--workers --journals --explain -h --help" -- "$word")) ;;
         explain) COMPREPLY=($(compgen -f -W "--json -h --help" -- "$word")) ;;
-        check) COMPREPLY=($(compgen -f -W "-h --help" -- "$word")) ;;
+        check) COMPREPLY=($(compgen -f -W "--json -h --help" -- "$word")) ;;
         audit) COMPREPLY=($(compgen -f -W "-h --help" -- "$word")) ;;
         police) COMPREPLY=($(compgen -W "--tau --rate -h --help" -- "$word")) ;;
         shape) COMPREPLY=($(compgen -W "--rate -h --help" -- "$word")) ;;

@@ -7,7 +7,7 @@ complete -c abt -n __fish_use_subcommand -a cell -d 'Say what an RM cell says'
 complete -c abt -n __fish_use_subcommand -a port -d 'Serve RM cells at one port of a switch'
 complete -c abt -n __fish_use_subcommand -a run -d 'Run a scenario, and report what each of its events answered'
 complete -c abt -n __fish_use_subcommand -a threads -d 'Run a scenario\'s scripts in threads, and say what is shown of the run'
-complete -c abt -n __fish_use_subcommand -a explain -d 'Run a scenario, and tell each of its events with its reason'
+complete -c abt -n __fish_use_subcommand -a explain -d 'Run a scenario, and tell each of its events with its line and its reason'
 complete -c abt -n __fish_use_subcommand -a check -d 'Tell what is wrong or doubtful in a scenario, with its line and column'
 complete -c abt -n __fish_use_subcommand -a audit -d 'Say whether journals are those of one safe run'
 complete -c abt -n __fish_use_subcommand -a police -d 'Judge the arrivals of cells, a line of the standard input each'
@@ -34,6 +34,7 @@ complete -c abt -n '__fish_seen_subcommand_from threads' -F
 complete -c abt -n '__fish_seen_subcommand_from explain' -l json -d 'Answer as JSON, one object a line'
 complete -c abt -n '__fish_seen_subcommand_from explain' -s h -l help -d 'Print help'
 complete -c abt -n '__fish_seen_subcommand_from explain' -F
+complete -c abt -n '__fish_seen_subcommand_from check' -l json -d 'Answer as JSON, one object a line'
 complete -c abt -n '__fish_seen_subcommand_from check' -s h -l help -d 'Print help'
 complete -c abt -n '__fish_seen_subcommand_from check' -F
 complete -c abt -n '__fish_seen_subcommand_from audit' -s h -l help -d 'Print help'

@@ -1,3 +1,4 @@
 pub mod Check
 pub mod CheckText
 pub mod Performed
+pub mod CheckObjects

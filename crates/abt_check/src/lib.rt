@@ -7,6 +7,7 @@ mod finding;
 mod keys;
 mod near;
 mod net;
+mod objects;
 mod performing;
 mod plan;
 mod telling;

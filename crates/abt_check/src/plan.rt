@@ -1,15 +1,19 @@
 //! The words of `abt check`.
 use abt_perform::WordsFault;
-use clap::{Arg, ArgMatches, Command};
+use clap::{Arg, ArgAction, ArgMatches, Command};
 use std::alloc::{AllocError, Global};
 
 // The scenario to check.
 const FILE: &str = "FILE";
 
-/// What the words of `abt check` ask for: to check the scenario of this file, or of the standard input.
+// Whether the check is to be told as JSON.
+const JSON: &str = "json";
+
+/// What the words of `abt check` ask for: to check the scenario of this file, or of the standard input, and to tell it in lines, or as JSON.
 #[derive(Drop)]
 pub struct CheckPlan {
     pub file: Option<String>,
+    pub as_json: bool,
 }
 
 /// Adds `check` to the commands of a program.
@@ -17,10 +21,15 @@ pub fn add_commands<'a>(alloc: Global, program: Command<'a>) -> Result<Command<'
     let file = Arg::new(alloc, FILE).help(
         "The scenario, a TOML text; without a file it is read from the standard input",
     );
+    let json = Arg::new(alloc, JSON)
+        .long("json")
+        .action(ArgAction::SetTrue)
+        .help("Answer as JSON, one object a line");
     let check = Command::new(alloc, "check")
         .about("Tell what is wrong or doubtful in a scenario, with its line and column")
         .after_help(EXAMPLE)
-        .arg(file)?;
+        .arg(file)?
+        .arg(json)?;
     program.subcommand(check)
 }
 
@@ -37,7 +46,8 @@ pub fn plan_of(
         Some(file) => Some(String::from_str(alloc, file)?),
         None => None,
     };
-    Ok(Some(CheckPlan { file }))
+    let as_json = found.get_flag(JSON);
+    Ok(Some(CheckPlan { file, as_json }))
 }
 
 const EXAMPLE: &str = "Example:

@@ -34,7 +34,7 @@ pub fn answer_of(alloc: Global, source: &str) -> Result<Answer, AllocError>
 }
 
 // Whether there is a fault.
-fn has_some(faults: &[Found]) -> bool
+pub(crate) fn has_some(faults: &[Found]) -> bool
     ensures { result ≡ has_some faults.now }
 {
     faults.split_first().is_some()

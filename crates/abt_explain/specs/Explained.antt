@@ -1,23 +1,23 @@
 -- What goes out where a scenario is explained.
-use Rattle.std.specs.Prelude.{◌≡◌, ℕ, List, [], Option, IfSome, Ok}
+use Rattle.std.specs.Prelude.{Option, IfSome}
 use Rattle.std.specs.Io.KnownBytes.{Appends, Keeps}
 use Rattle.abt_text.specs.Text.{Text}
 use Rattle.abt_text.specs.Streams.{AppendsPrefix}
-use Rattle.abt_scenario.specs.Scenarios.{Reads}
 use Rattle.abt_scenario.specs.Engine.{Explains}
-use Rattle.abt_scenario.specs.declared.scenario.Scenario as declared
 use Rattle.abt_scenario.specs.declared.engine.EngineFault.{EngineFault}
 use Rattle.abt_scenario.specs.declared.engine.EngineFault.TheVariants.{Write}
 use Rattle.abt_perform.specs.Names.{fault_line, fault_of_engine}
 use Rattle.abt_perform.specs.Plans.{Tells}
 use Rattle.abt_perform.specs.declared.fault.Fault.{Fault}
+use Rattle.abt_placed.specs.Placed.{IsPlacedIn}
+use Rattle.abt_placed.specs.declared.placed.Placed.{Placed}
 use Rattle.abt_reason.specs.Explanation.{IsExplanation}
 
--- The text explains the scenario that was read.
+-- The text explains the scenario that was read, with the lines of its events.
 pub record IsExplanationOf (left : Option Text) (text : Text) : Type 0 where
-  pub scenario : declared.Scenario
-  pub read : IfSome left (λ source. Reads source (Ok scenario))
-  pub explained : IsExplanation scenario.net [] scenario.events text
+  pub placed : Placed
+  pub read : IfSome left (IsPlacedIn placed)
+  pub explained : IsExplanation placed.scenario.net placed.lines.items placed.scenario.events text
 
 -- That explanation went out, and nothing else.
 pub record IsExplained (left old new : Option Text) : Type 0 where

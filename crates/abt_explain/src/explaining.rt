@@ -1,20 +1,22 @@
 //! Scenarios from any reader, explanations to any writer.
-ghost use Rattle.std.specs.Prelude.{◌≡◌, ◌⊎◌, ◌+◌, [], IfOk, IfErr, OnOk, string_bytes};
+ghost use Rattle.std.specs.Prelude.{◌≡◌, ◌≢◌, ◌⊎◌, ◌+◌, IfOk, IfErr, IfSome, OnOk, string_bytes};
 ghost use Rattle.std.specs.Io.KnownBytes.{Keeps};
 ghost use Rattle.abt_reason.specs.Explanation.{IsExplanation};
 ghost use Rattle.abt_text.specs.Streams.{ConsumesAtMost, text_max};
-ghost use Rattle.abt_explain.specs.Explained.{IsExplained, IsRefused, Leaves};
+ghost use Rattle.abt_scenario.specs.Engine.{Explains};
+ghost use Rattle.abt_explain.specs.Explained.{IsExplanationOf, IsExplained, IsRefused, Leaves};
 
 use crate::plan::ExplainPlan;
 use abt_perform::{Fault, tell_fault};
+use abt_placed::{Placed, read_placed};
 use abt_reason::explanation_of;
-use abt_scenario::{EngineFault, Scenario, read_from};
+use abt_scenario::EngineFault;
 use abt_text::put;
 use std::alloc::{AllocError, Global};
 use std::io::{Read, Write};
 
-/// Reads a scenario, runs it and writes its explanation (docs/EXPLAIN.md). Nothing is written before the whole explanation is made; where
-/// the writer fails, or takes no octet, a part of it went out.
+/// Reads a scenario, runs it and writes its explanation, with the line of each event (docs/EXPLAIN.md). Nothing is written before the
+/// whole explanation is made; where the writer fails, or takes no octet, a part of it went out.
 pub fn explain_text<R: Read, W: Write>(
     alloc: Global,
     reader: &mut R,
@@ -25,21 +27,38 @@ pub fn explain_text<R: Read, W: Write>(
         (W.contents writer.old) (W.contents writer.new)) }
     ensures stops { ConsumesAtMost (R.remaining reader.old) (R.remaining reader.new) (text_max + 1) }
 {
-    let scenario = read_from(alloc, reader)?;
-    let Ok(text) = explanation_in(alloc, &scenario) else {
-        return Err(EngineFault::Memory);
-    };
+    let text = explained_from(alloc, reader)?;
     match put(writer, text.as_bytes()) {
         Ok(()) => Ok(()),
         Err(_) => Err(EngineFault::Write),
     }
 }
 
-// The explanation of a scenario's run.
-fn explanation_in(alloc: Global, scenario: &Scenario) -> Result<String, AllocError>
-    ensures { IfOk result (λ text. IsExplanation scenario.now.net [] scenario.now.events (string_bytes text)) }
+// The explanation of the scenario that a reader has left.
+fn explained_from<R: Read>(alloc: Global, reader: &mut R) -> Result<String, EngineFault>
+    ensures ok { IfOk result (λ text. IsExplanationOf (R.remaining reader.old) (string_bytes text)) }
+    ensures err { IfErr result (λ fault. IfSome (R.remaining reader.old) (Explains fault)) }
+    ensures reads { IfErr result (λ fault. fault ≢ EngineFault.Write) }
+    ensures stops { ConsumesAtMost (R.remaining reader.old) (R.remaining reader.new) (text_max + 1) }
 {
-    explanation_of(alloc, &scenario.net, scenario.events.as_slice(), &[])
+    let placed = read_placed(alloc, reader)?;
+    match explanation_in(alloc, &placed) {
+        Ok(text) => Ok(text),
+        Err(_) => Err(EngineFault::Memory),
+    }
+}
+
+// The explanation of a scenario's run, with the lines of its events.
+fn explanation_in(alloc: Global, placed: &Placed) -> Result<String, AllocError>
+    ensures { IfOk result (λ text. IsExplanation placed.now.scenario.net placed.now.lines.items placed.now.scenario.events (string_bytes text)) }
+{
+    let scenario = &placed.scenario;
+    explanation_of(
+        alloc,
+        &scenario.net,
+        scenario.events.as_slice(),
+        placed.lines.as_slice(),
+    )
 }
 
 /// Carries a plan out, and gives the exit status: 0 where the whole explanation went out to `writer`, and 1 where a line on `errors`

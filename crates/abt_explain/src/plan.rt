@@ -25,7 +25,7 @@ pub fn add_commands<'a>(alloc: Global, program: Command<'a>) -> Result<Command<'
         .action(ArgAction::SetTrue)
         .help("Answer as JSON, one object a line");
     let explain = Command::new(alloc, "explain")
-        .about("Run a scenario, and tell each of its events with its reason")
+        .about("Run a scenario, and tell each of its events with its line and its reason")
         .after_help(EXAMPLE)
         .arg(file)?
         .arg(json)?;
@@ -50,7 +50,7 @@ pub fn plan_of(
 
 const EXAMPLE: &str = "Example:
   printf 'ports = [512000]\\nevents = [\"start 0 0\"]\\n' | abt explain
-  1 start 0 0: not-enabled Unknown: the net has 0 connections
+  1 line 2 start 0 0: not-enabled Unknown: the net has 0 connections
   port 0: 0 of 512000 units, 0 of 1000 cells/s
   safe
 What the reasons say stands in docs/EXPLAIN.md.";

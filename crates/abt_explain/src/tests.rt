@@ -60,37 +60,37 @@ const THREE: &str = "ports = [512000, 614400, 307200, 1024000]\n\
     tau = 2000000\n";
 
 /// Its explanation.
-const THREE_EXPLAINED: &str = "1 start 0 0: started\n\
-    2 start 1 0: started\n\
-    3 start 2 0: started\n\
-    4 ask 0 5258: asked 1 0000 5258: asks for 600 cells/s, keeps 0\n\
-    5 request 0 1 1: passed\n\
-    6 request 0 2 1: passed\n\
-    7 ask 1 5258: asked 1 0000 5258: asks for 600 cells/s, keeps 0\n\
-    8 request 1 1 1: passed\n\
-    9 request 1 2 1: passed\n\
-    10 ask 2 5120: asked 1 0000 5120: asks for 400 cells/s, keeps 0\n\
-    11 request 2 1 1: passed\n\
-    12 request 2 2 1: refuses: asks 204800, holds 0, others hold 614400 of 614400\n\
-    13 request 2 2 1: refuses: 1 was refused here\n\
-    14 told-yes 0 1: not-enabled NotSent: no such message lies there\n\
-    15 turn 0 1: turned\n\
-    16 yes 0 2 1: passed\n\
-    17 yes 0 1 1: passed\n\
-    18 told-yes 0 1: told Raised\n\
-    19 emit 0 500000000000: refused TooSoon 1000000000000: not before 1 s\n\
-    20 emit 0 1000000000000: emitted 0 1001666666667: the next not before 1.001666666667 s\n\
-    21 arrive 0 0 1000000500000: not-enabled Delay: cell 0 left at 1 s and takes 0.000001 s and up to 0.000002 s more, so it isn't there at 1.0000005 s\n\
-    22 arrive 0 0 1000001000000: arrived Conforming\n\
-    23 arrive 0 0 1000001000000: not-enabled Fenced: cell 0 is below the fence 1\n\
-    24 ask 0 5120: asked 2 5120 5120: asks for 400 cells/s, keeps 400\n\
-    25 request 0 1 2: passed\n\
-    26 request 0 1 1: dropped Stale: 2 is the newest here\n\
-    27 told-yes 0 1: told Ignored: waits for 2\n\
-    28 capacity 2 307199: refused BelowSum: 307200 are held there\n\
-    29 capacity 4 1: not-enabled Unknown: the net has 4 ports\n\
-    30 request 3 1 1: not-enabled Unknown: the net has 3 connections\n\
-    31 request 0 3 1: not-enabled Unknown: the path has 2 hops, counted from 1\n\
+const THREE_EXPLAINED: &str = "1 line 3 start 0 0: started\n\
+    2 line 4 start 1 0: started\n\
+    3 line 5 start 2 0: started\n\
+    4 line 6 ask 0 5258: asked 1 0000 5258: asks for 600 cells/s, keeps 0\n\
+    5 line 7 request 0 1 1: passed\n\
+    6 line 8 request 0 2 1: passed\n\
+    7 line 9 ask 1 5258: asked 1 0000 5258: asks for 600 cells/s, keeps 0\n\
+    8 line 10 request 1 1 1: passed\n\
+    9 line 11 request 1 2 1: passed\n\
+    10 line 12 ask 2 5120: asked 1 0000 5120: asks for 400 cells/s, keeps 0\n\
+    11 line 13 request 2 1 1: passed\n\
+    12 line 14 request 2 2 1: refuses: asks 204800, holds 0, others hold 614400 of 614400\n\
+    13 line 15 request 2 2 1: refuses: 1 was refused here\n\
+    14 line 16 told-yes 0 1: not-enabled NotSent: no such message lies there\n\
+    15 line 17 turn 0 1: turned\n\
+    16 line 18 yes 0 2 1: passed\n\
+    17 line 19 yes 0 1 1: passed\n\
+    18 line 20 told-yes 0 1: told Raised\n\
+    19 line 21 emit 0 500000000000: refused TooSoon 1000000000000: not before 1 s\n\
+    20 line 22 emit 0 1000000000000: emitted 0 1001666666667: the next not before 1.001666666667 s\n\
+    21 line 23 arrive 0 0 1000000500000: not-enabled Delay: cell 0 left at 1 s and takes 0.000001 s and up to 0.000002 s more, so it isn't there at 1.0000005 s\n\
+    22 line 24 arrive 0 0 1000001000000: arrived Conforming\n\
+    23 line 25 arrive 0 0 1000001000000: not-enabled Fenced: cell 0 is below the fence 1\n\
+    24 line 26 ask 0 5120: asked 2 5120 5120: asks for 400 cells/s, keeps 400\n\
+    25 line 27 request 0 1 2: passed\n\
+    26 line 28 request 0 1 1: dropped Stale: 2 is the newest here\n\
+    27 line 29 told-yes 0 1: told Ignored: waits for 2\n\
+    28 line 30 capacity 2 307199: refused BelowSum: 307200 are held there\n\
+    29 line 31 capacity 4 1: not-enabled Unknown: the net has 4 ports\n\
+    30 line 32 request 3 1 1: not-enabled Unknown: the net has 3 connections\n\
+    31 line 33 request 0 3 1: not-enabled Unknown: the path has 2 hops, counted from 1\n\
     connection 0 (1/100): its source shapes at 400 cells/s, port 0 holds 400, port 1 holds 600\n\
     connection 1 (1/101): its source shapes at 0 cells/s, port 1 holds 600, port 2 holds 600\n\
     connection 2 (1/102): its source shapes at 0 cells/s, port 3 holds 400, port 1 holds 0\n\

@@ -1,5 +1,5 @@
 -- The explanation of a run as JSON: an object a line (docs/FORMATS.md, "JSON").
-use Rattle.std.specs.Prelude.{◌≡◌, ℕ, ◌+◌, true, List, [], ◌∷◌, ◌++◌, codes}
+use Rattle.std.specs.Prelude.{◌≡◌, ℕ, ◌+◌, true, List, [], ◌∷◌, ◌++◌, codes, Option, None, Some, slice_get}
 use Rattle.json.specs.Token.{Token}
 use Rattle.abt_model.specs.Outcomes.{outcome_of, after_event}
 use Rattle.abt_model.specs.Past.{Past}
@@ -14,31 +14,37 @@ use Rattle.abt_wording.specs.EventText.{event_text}
 use Rattle.abt_reason.specs.declared.grounds.Grounds.{Grounds}
 use Rattle.abt_reason.specs.Grounds.{grounds_of}
 use Rattle.abt_reason.specs.Reasons.{reason_text}
-use Rattle.abt_json.specs.Members.{text_member, number_member, object_line}
+use Rattle.abt_objects.specs.Members.{text_member, number_member, object_line}
 use Rattle.abt_json.specs.Objects.{outcome_members, end_objects}
 
--- an event of a number: its own text, what it answers, and the same in words with its reason
-abbrev pub explained_members : ℕ → Event → Grounds → Outcome → List Token
-explained_members number event grounds outcome =
-    number_member (codes "event") number ++ text_member (codes "text") (event_text event) ++ outcome_members outcome
+-- the line of the file in which an event's text stands, where it is known
+abbrev pub line_members : Option ℕ → List Token
+line_members None = []
+line_members (Some line) = number_member (codes "line") line
+
+-- an event of a number: its line, its own text, what it answers, and the same in words with its reason
+abbrev pub explained_members : ℕ → Option ℕ → Event → Grounds → Outcome → List Token
+explained_members number line event grounds outcome =
+    number_member (codes "event") number ++ line_members line ++ text_member (codes "text") (event_text event) ++ outcome_members outcome
     ++ text_member (codes "words") (outcome_text outcome ⋅ reason_text grounds outcome)
 
-abbrev pub explained_object : ℕ → Event → Grounds → Outcome → Text
-explained_object number event grounds outcome = object_line (explained_members number event grounds outcome)
+abbrev pub explained_object : ℕ → Option ℕ → Event → Grounds → Outcome → Text
+explained_object number line event grounds outcome = object_line (explained_members number line event grounds outcome)
 
 -- an event after a past; numbers count from 1
-abbrev pub event_object : Topology → Past → (index : ℕ) → Event → Text
-event_object net past index event = explained_object (index + 1) event (grounds_of net past event) (outcome_of net past event)
+abbrev pub event_object : Topology → Past → (lines : List ℕ) → (index : ℕ) → Event → Text
+event_object net past lines index event =
+    explained_object (index + 1) (slice_get lines index) event (grounds_of net past event) (outcome_of net past event)
 
 -- an object for each event, each after those before it
-abbrev pub event_objects : Topology → Past → (index : ℕ) → List Event → Text
-event_objects net past index [] = []
-event_objects net past index (event ∷ events) =
-    event_object net past index event ⋅ event_objects net (after_event net past event) (index + 1) events
+abbrev pub event_objects : Topology → Past → (lines : List ℕ) → (index : ℕ) → List Event → Text
+event_objects net past lines index [] = []
+event_objects net past lines index (event ∷ events) =
+    event_object net past lines index event ⋅ event_objects net (after_event net past event) lines (index + 1) events
 
 -- The text explains the run of these events, an object for each, and then says how the net stands, which is safe.
-pub record IsExplainedJson (net : Topology) (events : List Event) (text : Text) : Type 0 where
+pub record IsExplainedJson (net : Topology) (lines : List ℕ) (events : List Event) (text : Text) : Type 0 where
   pub trace : Trace
   pub is_trace : IsTrace net events trace
   pub is_safe : trace.safe ≡ true
-  pub is : text ≡ event_objects net [] 0 events ⋅ end_objects trace
+  pub is : text ≡ event_objects net [] lines 0 events ⋅ end_objects trace

@@ -1,4 +1,3 @@
-pub mod Members
 pub mod Objects
 pub mod Explained
 pub mod Printed

@@ -24,7 +24,7 @@ use Rattle.abt_trace.specs.declared.trace.Trace.{Trace}
 use Rattle.abt_perform.specs.CellText.{message_of}
 use Rattle.abt_perform.specs.declared.fault.Fault.{Fault}
 use Rattle.abt_perform.specs.declared.fault.Fault.TheVariants.{Code}
-use Rattle.abt_json.specs.Members.{text_member, number_member, rate_member, object_line}
+use Rattle.abt_objects.specs.Members.{text_member, number_member, rate_member, object_line}
 
 -- the spacing of a rate's cells in picoseconds, of which the rate 0 has none
 abbrev pub spacing_token : ℕ → Token

@@ -14,6 +14,8 @@ use Rattle.abt_scenario.specs.declared.engine.EngineFault.TheVariants as engine
 use Rattle.abt_perform.specs.Names.{fault_line, fault_of_engine}
 use Rattle.abt_perform.specs.Plans.{EndsTextBy, Tells}
 use Rattle.abt_perform.specs.declared.fault.Fault.{Fault}
+use Rattle.abt_placed.specs.Placed.{IsPlacedIn}
+use Rattle.abt_placed.specs.declared.placed.Placed.{Placed}
 use Rattle.abt_json.specs.Explained.{IsExplainedJson}
 use Rattle.abt_json.specs.Objects.{rate_json, cell_json, trace_objects}
 use Rattle.abt_json.specs.declared.plan.JsonPlan.{JsonPlan}
@@ -28,16 +30,22 @@ pub record IsRunJson (scenario : declared.Scenario) (text : Text) : Type 0 where
   pub is_safe : trace.safe ≡ true
   pub is_report : text ≡ trace_objects trace
 
--- the text is the report of the scenario's run, or its explanation
-abbrev pub Says : Telling → declared.Scenario → Text → Type 0
-Says Report scenario text = IsRunJson scenario text
-Says Explanation scenario text = IsExplainedJson scenario.net scenario.events text
-
--- The text says this of the scenario that was read.
-pub record SaysOf (telling : Telling) (left : Option Text) (text : Text) : Type 0 where
+-- The text is the report of the scenario that was read.
+pub record IsReportOf (left : Option Text) (text : Text) : Type 0 where
   pub scenario : declared.Scenario
   pub read : IfSome left (λ source. Reads source (Ok scenario))
-  pub said : Says telling scenario text
+  pub said : IsRunJson scenario text
+
+-- The text explains the scenario that was read, with the lines of its events.
+pub record IsExplanationOf (left : Option Text) (text : Text) : Type 0 where
+  pub placed : Placed
+  pub read : IfSome left (IsPlacedIn placed)
+  pub said : IsExplainedJson placed.scenario.net placed.lines.items placed.scenario.events text
+
+-- the text says this of the scenario that was read
+abbrev pub SaysOf : Telling → (left : Option Text) → Text → Type 0
+SaysOf Report left text = IsReportOf left text
+SaysOf Explanation left text = IsExplanationOf left text
 
 -- That went out, and nothing else.
 pub record Reports (telling : Telling) (left old new : Option Text) : Type 0 where

@@ -3,7 +3,6 @@
 
 mod cell;
 mod explain;
-mod members;
 mod outcome;
 mod perform;
 mod plan;

@@ -1,12 +1,14 @@
 //! Scenarios from any reader, what is said of their runs to any writer.
-ghost use Rattle.std.specs.Prelude.{◌≡◌, ◌+◌, IfOk, IfErr, OnOk};
+ghost use Rattle.std.specs.Prelude.{◌≡◌, ◌≢◌, ◌+◌, IfOk, IfErr, IfSome, OnOk};
 ghost use Rattle.abt_text.specs.Streams.{ConsumesAtMost, text_max};
 ghost use Rattle.abt_json.specs.Explained.{IsExplainedJson};
-ghost use Rattle.abt_json.specs.Printed.{IsRunJson, Says, Reports, Leaves};
+ghost use Rattle.abt_scenario.specs.Engine.{Explains};
+ghost use Rattle.abt_json.specs.Printed.{IsRunJson, IsReportOf, IsExplanationOf, SaysOf, Reports, Leaves};
 
 use crate::explain::explanation_json;
 use crate::plan::Telling;
 use crate::report::report_json;
+use abt_placed::{Placed, read_placed};
 use abt_scenario::{EngineFault, Scenario, read_from};
 use abt_text::put;
 use abt_world::run;
@@ -26,23 +28,55 @@ pub fn scenario_json<R: Read, W: Write>(
         (W.contents writer.old) (W.contents writer.new)) }
     ensures stops { ConsumesAtMost (R.remaining reader.old) (R.remaining reader.new) (text_max + 1) }
 {
-    let scenario = read_from(alloc, reader)?;
-    let Ok(text) = said_of(alloc, telling, scenario) else {
-        return Err(EngineFault::Memory);
-    };
+    let text = said_from(alloc, telling, reader)?;
     match put(writer, text.as_slice()) {
         Ok(()) => Ok(()),
         Err(_) => Err(EngineFault::Write),
     }
 }
 
-// What is said of a scenario.
-fn said_of(alloc: Global, telling: Telling, scenario: Scenario) -> Result<Vec<u8>, AllocError>
-    ensures { IfOk result (λ text. Says telling scenario text.items) }
+// What is said of the scenario that a reader has left.
+fn said_from<R: Read>(
+    alloc: Global,
+    telling: Telling,
+    reader: &mut R,
+) -> Result<Vec<u8>, EngineFault>
+    ensures ok { IfOk result (λ text. SaysOf telling (R.remaining reader.old) text.items) }
+    ensures err { IfErr result (λ fault. IfSome (R.remaining reader.old) (Explains fault)) }
+    ensures reads { IfErr result (λ fault. fault ≢ EngineFault.Write) }
+    ensures stops { ConsumesAtMost (R.remaining reader.old) (R.remaining reader.new) (text_max + 1) }
 {
     match telling {
-        Telling::Report => json_of_run(alloc, scenario),
-        Telling::Explanation => explanation_in(alloc, &scenario),
+        Telling::Report => report_from(alloc, reader),
+        Telling::Explanation => explanation_from(alloc, reader),
+    }
+}
+
+// The report of the run of such a scenario.
+fn report_from<R: Read>(alloc: Global, reader: &mut R) -> Result<Vec<u8>, EngineFault>
+    ensures ok { IfOk result (λ text. IsReportOf (R.remaining reader.old) text.items) }
+    ensures err { IfErr result (λ fault. IfSome (R.remaining reader.old) (Explains fault)) }
+    ensures reads { IfErr result (λ fault. fault ≢ EngineFault.Write) }
+    ensures stops { ConsumesAtMost (R.remaining reader.old) (R.remaining reader.new) (text_max + 1) }
+{
+    let scenario = read_from(alloc, reader)?;
+    match json_of_run(alloc, scenario) {
+        Ok(text) => Ok(text),
+        Err(_) => Err(EngineFault::Memory),
+    }
+}
+
+// The explanation of the run of such a scenario.
+fn explanation_from<R: Read>(alloc: Global, reader: &mut R) -> Result<Vec<u8>, EngineFault>
+    ensures ok { IfOk result (λ text. IsExplanationOf (R.remaining reader.old) text.items) }
+    ensures err { IfErr result (λ fault. IfSome (R.remaining reader.old) (Explains fault)) }
+    ensures reads { IfErr result (λ fault. fault ≢ EngineFault.Write) }
+    ensures stops { ConsumesAtMost (R.remaining reader.old) (R.remaining reader.new) (text_max + 1) }
+{
+    let placed = read_placed(alloc, reader)?;
+    match explanation_in(alloc, &placed) {
+        Ok(text) => Ok(text),
+        Err(_) => Err(EngineFault::Memory),
     }
 }
 
@@ -62,9 +96,15 @@ fn json_of_run(alloc: Global, scenario: Scenario) -> Result<Vec<u8>, AllocError>
     report_json(alloc, &trace)
 }
 
-// The explanation of a scenario's run.
-fn explanation_in(alloc: Global, scenario: &Scenario) -> Result<Vec<u8>, AllocError>
-    ensures { IfOk result (λ text. IsExplainedJson scenario.now.net scenario.now.events text.items) }
+// The explanation of a scenario's run, with the lines of its events.
+fn explanation_in(alloc: Global, placed: &Placed) -> Result<Vec<u8>, AllocError>
+    ensures { IfOk result (λ text. IsExplainedJson placed.now.scenario.net placed.now.lines.items placed.now.scenario.events text.items) }
 {
-    explanation_json(alloc, &scenario.net, scenario.events.as_slice())
+    let scenario = &placed.scenario;
+    explanation_json(
+        alloc,
+        &scenario.net,
+        scenario.events.as_slice(),
+        placed.lines.as_slice(),
+    )
 }

@@ -1,5 +1,5 @@
 -- One octet more at the end of a text.
-use Rattle.std.proofs.Common.{◌≡◌, ◌==◌, ℕ, ◌≤◌, ◌+◌, suc, List, [], ◌∷◌, ◌++◌, length, refl, ap, inl, inr, true, false, arith}
+use Rattle.std.proofs.Common.{◌≡◌, ◌==◌, ℕ, ◌≤◌, ◌+◌, zero, suc, List, [], ◌∷◌, ◌++◌, length, take, drop, refl, ap, inl, inr, true, false, arith}
 use Rattle.std.proofs.lemmas.Bool.{cases_Bool, ne_eqb}
 use Rattle.abt_places.specs.Places.{line_feeds, last_line, begins_character, characters, place_behind}
 
@@ -82,3 +82,21 @@ line_within xs = let h = feeds_within xs in omega (arith, h)
 
 pub column_within : (xs : List ℕ) → (place_behind xs).column ≤ length xs + 1
 column_within xs = let h = characters_within (last_line xs) in let k = last_within xs in omega (arith, h, k)
+
+-- the line feeds of a front, and those between it and the end of a longer one
+pub feeds_split : (n : ℕ) (xs : List ℕ) → line_feeds (take n xs) + line_feeds (drop n xs) ≡ line_feeds xs
+feeds_split zero xs = omega arith
+feeds_split (suc n) [] = omega arith
+feeds_split (suc n) (o ∷ xs) = let h = feeds_split n xs in elim (cases_Bool (o == 10)) [
+  | inl is ↦ rw is (omega (arith, h))
+  | inr other ↦ rw other h
+]
+
+pub take_less : (m n : ℕ) (xs : List ℕ) → m ≤ n → take m (take n xs) ≡ take m xs
+take_less zero n xs h = refl
+take_less (suc m) zero xs h = absurd (omega (arith, h))
+take_less (suc m) (suc n) [] h = refl
+take_less (suc m) (suc n) (o ∷ xs) h = ap (λ ys. o ∷ ys) (take_less m n xs (omega (arith, h)))
+
+pub line_behind : (m n : ℕ) (xs : List ℕ) → m ≤ n → line_feeds (take m xs) + line_feeds (drop m (take n xs)) ≡ line_feeds (take n xs)
+line_behind m n xs h = rw (take_less m n xs h) at (feeds_split m (take n xs))

@@ -32,3 +32,12 @@ place_behind text = record { line = suc (line_feeds text); column = suc (charact
 -- the place behind so many octets of a text
 abbrev pub place_at : ℕ → List ℕ → Place
 place_at at text = place_behind (take at text)
+
+-- the line of that place
+abbrev pub line_at : ℕ → List ℕ → ℕ
+line_at at text = (place_at at text).line
+
+-- the lines of some places of a text
+abbrev pub lines_at : List ℕ → List ℕ → List ℕ
+lines_at text [] = []
+lines_at text (at ∷ places) = line_at at text ∷ lines_at text places

@@ -27,7 +27,7 @@ pub fn place_at(text: &str, at: usize) -> Place
 }
 
 // The octets before a place.
-fn before(octets: &[u8], at: usize) -> &[u8]
+pub(crate) fn before(octets: &[u8], at: usize) -> &[u8]
     ensures { result.now ≡ take at octets.now }
 {
     if at < octets.len() {

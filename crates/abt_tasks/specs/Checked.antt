@@ -11,9 +11,10 @@ use Rattle.abt_perform.specs.Plans.{Tells}
 use Rattle.abt_perform.specs.declared.fault.Fault.{Fault}
 use Rattle.abt_perform.specs.declared.fault.Fault.TheVariants.{Read, TooLong, Memory}
 use Rattle.abt_perform.specs.declared.plan.Plan.{Plan}
-use Rattle.abt_commands.specs.Carried.{IsDone, IsRefused, IsUnopened, file_of}
+use Rattle.abt_commands.specs.Carried.{IsDone, IsRefused, file_of}
 use Rattle.abt_check.specs.Performed.{IsAnswerTo}
 use Rattle.abt_check.specs.declared.telling.Answer.{Answer}
+use Rattle.abt_tasks.specs.Opening.{IsUnopenedFile}
 
 -- The check of a text was told, as far as the writer took it. There is none of a text that is no UTF-8, and none if memory was refused,
 -- which then is told.
@@ -95,4 +96,4 @@ TellsHere plan left old new = MatchOption (file_of plan) (TellsOver left old new
 abbrev pub IsRefusedHere : Plan → (left old new errors_old errors_new : Option Text) → Type 0
 IsRefusedHere plan left old new errors_old errors_new = MatchOption (file_of plan)
     (IsRefusedOver plan left old new errors_old errors_new)
-    (λ name. IsUnopened old new errors_old errors_new ⊎ IsRefusedByFile plan old new errors_old errors_new)
+    (λ name. IsUnopenedFile name old new errors_old errors_new ⊎ IsRefusedByFile plan old new errors_old errors_new)

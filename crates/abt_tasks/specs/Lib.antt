@@ -4,3 +4,4 @@ pub mod Checked
 pub mod Json
 pub mod Keeping
 pub mod Tasks
+pub mod Opening

@@ -6,7 +6,7 @@ use Rattle.abt_text.specs.Text.{Text}
 use Rattle.abt_text.specs.Streams.{ConsumesAtMost, text_max}
 use Rattle.abt_rate.specs.Limits.{AreWorkers}
 use Rattle.abt_perform.specs.Plans.{IsWithinLimits}
-use Rattle.abt_commands.specs.Carried.{IsDoneHere, IsRefusedHere, ReadsHere, IsUnopened}
+use Rattle.abt_commands.specs.Carried.{IsDoneHere, IsRefusedHere, ReadsHere}
 use Rattle.abt_explain.specs.Explained.{IsExplained, IsRefused}
 use Rattle.abt_explain.specs.declared.plan.ExplainPlan.{ExplainPlan}
 use Rattle.abt_codes.specs.Printed as codes_printed
@@ -16,6 +16,7 @@ use Rattle.abt_tasks.specs.Check.{TakesToCheck, IsCheckedHere, IsFaultyHere}
 use Rattle.abt_tasks.specs.Checked as checked
 use Rattle.abt_tasks.specs.Json.{TakesToSay, IsSaidHere, IsUnsaidHere}
 use Rattle.abt_tasks.specs.Keeping.{TakesToKeep, IsKeptHere, IsUnkeptHere}
+use Rattle.abt_tasks.specs.Opening.{IsUnopenedFile}
 use Rattle.abt_tasks.specs.declared.task.Task.{Task}
 use Rattle.abt_tasks.specs.declared.task.Task.TheVariants.{Plan, Checked, Keep, Explain, Check, Json, Audit, Parts, Codes}
 
@@ -55,7 +56,7 @@ IsExplainedHere plan left old new = MatchOption (file_of plan) (IsExplained left
 abbrev pub IsUnexplainedHere : ExplainPlan → (left old new errors_old errors_new : Option Text) → Type 0
 IsUnexplainedHere plan left old new errors_old errors_new = MatchOption (file_of plan)
     (IsRefused left old new errors_old errors_new)
-    (λ name. IsUnopened old new errors_old errors_new ⊎ IsRefusedOver old new errors_old errors_new)
+    (λ name. IsUnopenedFile name old new errors_old errors_new ⊎ IsRefusedOver old new errors_old errors_new)
 
 -- what a task takes of the input that is there; where lines are answered, whatever it likes
 abbrev pub TakesOf : Task → (old new : Option Text) → Type 0

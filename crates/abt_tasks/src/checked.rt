@@ -8,12 +8,12 @@ ghost use Rattle.abt_perform.specs.Plans.{IsWithinLimits};
 ghost use Rattle.abt_tasks.specs.Checked.{TellsCheck, TellsBesides, TellsOver, TellsHere, IsDoneOver, IsDoneHere, IsRefusedChecked, IsRefusedOver, IsRefusedHere, TakesToRun};
 ghost use Rattle.abt_tasks.specs.Checked as spec;
 
+use crate::opening::{open_named, tell_unopened};
 use abt_check::answer_of;
-use abt_commands::{carry_out_over, line_of_unopened};
+use abt_commands::carry_out_over;
 use abt_perform::{Fault, Plan, tell_fault, tell_text};
 use abt_text::{TextFault, octets_of};
 use std::alloc::{AllocGlobal, Global};
-use std::fs::File;
 use std::io::{Read, Write};
 use std::rt::Files;
 use std::sync::Wait;
@@ -41,10 +41,10 @@ where
     let Some(name) = file_of(plan) else {
         return over_reader(rt, rt.alloc(), plan, input, out, errors);
     };
-    match File::open(rt, name) {
+    match open_named(rt, name) {
         Ok(mut file) => over_reader(rt, rt.alloc(), plan, &mut file, out, errors),
-        Err(error) => {
-            tell_text(errors, line_of_unopened(&error));
+        Err(unopened) => {
+            tell_unopened(name, unopened, errors);
             1
         }
     }

@@ -5,11 +5,9 @@ ghost use Rattle.std.specs.Option.{option_map};
 ghost use Rattle.abt_tasks.specs.Check.{IsCheckedHere, IsFaultyHere, TakesToCheck};
 ghost use Rattle.abt_tasks.specs.Check as spec;
 
+use crate::opening::{open_named, tell_unopened};
 use abt_check::{CheckPlan, perform_check};
-use abt_commands::line_of_unopened;
-use abt_perform::tell_text;
 use std::alloc::AllocGlobal;
-use std::fs::File;
 use std::io::{Read, Write};
 use std::rt::Files;
 
@@ -31,10 +29,10 @@ pub(crate) fn check<T: Files + AllocGlobal, R: Read, W: Write, E: Write>(
     let Some(name) = file_of(plan) else {
         return perform_check(rt.alloc(), plan, input, out, errors);
     };
-    match File::open(rt, name) {
+    match open_named(rt, name) {
         Ok(mut file) => perform_check(rt.alloc(), plan, &mut file, out, errors),
-        Err(error) => {
-            tell_text(errors, line_of_unopened(&error));
+        Err(unopened) => {
+            tell_unopened(name, unopened, errors);
             1
         }
     }

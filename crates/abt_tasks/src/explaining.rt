@@ -5,11 +5,9 @@ ghost use Rattle.std.specs.Option.{option_map};
 ghost use Rattle.abt_tasks.specs.Tasks.{IsExplainedHere, IsUnexplainedHere, TakesToExplain};
 ghost use Rattle.abt_tasks.specs.Tasks as tasks;
 
-use abt_commands::line_of_unopened;
+use crate::opening::{open_named, tell_unopened};
 use abt_explain::{ExplainPlan, perform_explain};
-use abt_perform::tell_text;
 use std::alloc::AllocGlobal;
-use std::fs::File;
 use std::io::{Read, Write};
 use std::rt::Files;
 
@@ -31,10 +29,10 @@ pub(crate) fn explain<T: Files + AllocGlobal, R: Read, W: Write, E: Write>(
     let Some(name) = file_of(plan) else {
         return perform_explain(rt.alloc(), plan, input, out, errors);
     };
-    match File::open(rt, name) {
+    match open_named(rt, name) {
         Ok(mut file) => perform_explain(rt.alloc(), plan, &mut file, out, errors),
-        Err(error) => {
-            tell_text(errors, line_of_unopened(&error));
+        Err(unopened) => {
+            tell_unopened(name, unopened, errors);
             1
         }
     }

@@ -1,10 +1,11 @@
 //! What is said as JSON, over the file that is named or over the input that is there.
-ghost use Rattle.std.specs.Prelude.{◌≡◌, ◌⊎◌};
+ghost use Rattle.std.specs.Prelude.{◌≡◌, ◌⊎◌, true, false};
 ghost use Rattle.std.specs.Io.KnownBytes.{Keeps};
 ghost use Rattle.std.specs.Option.{option_map};
-ghost use Rattle.abt_tasks.specs.Json.{IsSaidHere, IsUnsaidHere, TakesToSay};
+ghost use Rattle.abt_tasks.specs.Json.{IsSaidHere, IsSaidOver, IsUnsaidHere, IsUnsaidOver, TakesToSay, explains};
 ghost use Rattle.abt_tasks.specs.Json as json;
 
+use crate::opening::{open_named, tell_unopened};
 use abt_commands::{CODE, FILE, HEX, JSON, line_of_unopened};
 use abt_json::{JsonPlan, perform_json};
 use abt_perform::{WordsFault, tell_text};
@@ -59,13 +60,81 @@ pub(crate) fn say_as_json<T: Files + AllocGlobal, R: Read, W: Write, E: Write>(
     ensures err { result ≡ 1 → IsUnsaidHere plan.now (R.remaining input.old) (W.contents out.old) (W.contents out.new)
         (E.contents errors.old) (E.contents errors.new) }
 {
-    let Some(name) = file_of(plan) else {
-        return perform_json(rt.alloc(), plan, input, out, errors);
-    };
+    match file_of(plan) {
+        Some(name) => say_named(rt, plan, name, out, errors),
+        None => perform_json(rt.alloc(), plan, input, out, errors),
+    }
+}
+
+// The same over the file of this name.
+fn say_named<T: Files + AllocGlobal, W: Write, E: Write>(
+    rt: &T,
+    plan: &JsonPlan,
+    name: &str,
+    out: &mut W,
+    errors: &mut E,
+) -> u8
+    ensures status { (result ≡ 0) ⊎ (result ≡ 1) }
+    ensures ok { result ≡ 0 → IsSaidOver plan.now (W.contents out.old) (W.contents out.new) }
+    ensures quiet { result ≡ 0 → Keeps (E.contents errors.old) (E.contents errors.new) }
+    ensures err { result ≡ 1 → IsUnsaidOver (explains plan.now) plan.now name.now (W.contents out.old) (W.contents out.new)
+        (E.contents errors.old) (E.contents errors.new) }
+{
+    if explains(plan) {
+        explain_named(rt, plan, name, out, errors)
+    } else {
+        run_named(rt, plan, name, out, errors)
+    }
+}
+
+// Whether a plan asks for reasons.
+fn explains(plan: &JsonPlan) -> bool
+    ensures { result ≡ explains plan.now }
+{
+    matches!(plan, JsonPlan::Explain(_))
+}
+
+// The same, where nothing is told of a file that can't be opened but its fault.
+fn run_named<T: Files + AllocGlobal, W: Write, E: Write>(
+    rt: &T,
+    plan: &JsonPlan,
+    name: &str,
+    out: &mut W,
+    errors: &mut E,
+) -> u8
+    ensures status { (result ≡ 0) ⊎ (result ≡ 1) }
+    ensures ok { result ≡ 0 → IsSaidOver plan.now (W.contents out.old) (W.contents out.new) }
+    ensures quiet { result ≡ 0 → Keeps (E.contents errors.old) (E.contents errors.new) }
+    ensures err { result ≡ 1 → IsUnsaidOver false plan.now name.now (W.contents out.old) (W.contents out.new)
+        (E.contents errors.old) (E.contents errors.new) }
+{
     match File::open(rt, name) {
         Ok(mut file) => perform_json(rt.alloc(), plan, &mut file, out, errors),
         Err(error) => {
             tell_text(errors, line_of_unopened(&error));
+            1
+        }
+    }
+}
+
+// The same, where it is told why a file can't be opened.
+fn explain_named<T: Files + AllocGlobal, W: Write, E: Write>(
+    rt: &T,
+    plan: &JsonPlan,
+    name: &str,
+    out: &mut W,
+    errors: &mut E,
+) -> u8
+    ensures status { (result ≡ 0) ⊎ (result ≡ 1) }
+    ensures ok { result ≡ 0 → IsSaidOver plan.now (W.contents out.old) (W.contents out.new) }
+    ensures quiet { result ≡ 0 → Keeps (E.contents errors.old) (E.contents errors.new) }
+    ensures err { result ≡ 1 → IsUnsaidOver true plan.now name.now (W.contents out.old) (W.contents out.new)
+        (E.contents errors.old) (E.contents errors.new) }
+{
+    match open_named(rt, name) {
+        Ok(mut file) => perform_json(rt.alloc(), plan, &mut file, out, errors),
+        Err(unopened) => {
+            tell_unopened(name, unopened, errors);
             1
         }
     }

@@ -9,6 +9,7 @@ mod environment;
 mod explaining;
 mod json;
 mod keeping;
+mod opening;
 mod streams;
 mod task;
 mod words;

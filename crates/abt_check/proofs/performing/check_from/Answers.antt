@@ -1,17 +1,17 @@
-use Rattle.std.proofs.Common.{rules, refl}
+use Rattle.std.proofs.Common.{rules}
 use Rattle.abt_check.proofs.performing.check_from.Goals as goal
 
 pub returns-in-Ok-clause-ok : goal.returns-in-Ok-clause-ok
 returns-in-Ok-clause-ok g c = record {
-  answer = c.in_ok-answer.answer;
-  is_answer = c.in_ok-answer.ensures.ok;
-  is_faulty = refl;
+  text = c.in_ok-said.said.octets.items;
+  said = c.in_ok-said.ensures.ok;
   written = search rules;
 }
 
 pub returns-clause-err : goal.returns-clause-err
 returns-clause-err g c = record {
-  answer = c.in_ok-answer.answer;
-  is_answer = c.in_ok-answer.ensures.ok;
+  faulty = c.in_ok-said.said.is_faulty;
+  text = c.in_ok-said.said.octets.items;
+  said = c.in_ok-said.ensures.ok;
   written = search rules;
 }

@@ -9,4 +9,4 @@ abbrev pub invariant-loop-index : goal.invariant-loop-index
 invariant-loop-index l =
     StandsFor l.net (take l.index l.events) l.world
     × (l.outcomes ≡ outcomes_of l.net (take l.index l.events))
-    × (l.text.items ++ event_objects l.net (facts_after l.net (take l.index l.events)) l.index (drop l.index l.events) ≡ event_objects l.net [] 0 l.events)
+    × (l.text.items ++ event_objects l.net (facts_after l.net (take l.index l.events)) l.lines l.index (drop l.index l.events) ≡ event_objects l.net [] l.lines 0 l.events)

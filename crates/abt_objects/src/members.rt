@@ -4,7 +4,7 @@ ghost use Rattle.json.specs.Print.{print};
 ghost use Rattle.json.specs.Token.{end_object, key, string};
 ghost use Rattle.abt_rate.specs.Code.{code_of};
 ghost use Rattle.abt_text.specs.Text.{◌⋅◌, newline, code_text};
-ghost use Rattle.abt_json.specs.Members.{Adds, Holds, text_member, number_member, rate_member};
+ghost use Rattle.abt_objects.specs.Members.{Adds, Holds, text_member, number_member, rate_member};
 
 use abt_rate::Rate;
 use abt_text::HexCode;
@@ -13,7 +13,7 @@ use std::alloc::{AllocError, Global};
 use std::mem;
 
 /// Begins an object behind the octets of a text, which it takes until the object's end.
-pub(crate) fn begin(alloc: Global, text: &mut Vec<u8>) -> Result<Writer, AllocError>
+pub fn begin(alloc: Global, text: &mut Vec<u8>) -> Result<Writer, AllocError>
     ensures { IfOk result (λ writer. Holds text.old.items [] writer) }
 {
     let taken = mem::replace(text, Vec::new(alloc));
@@ -23,7 +23,7 @@ pub(crate) fn begin(alloc: Global, text: &mut Vec<u8>) -> Result<Writer, AllocEr
 }
 
 /// Ends an object and its line, and gives the octets back to the text.
-pub(crate) fn end(writer: Writer, text: &mut Vec<u8>) -> Result<(), AllocError>
+pub fn end(writer: Writer, text: &mut Vec<u8>) -> Result<(), AllocError>
     ensures { OnOk result
         (text.new.items ≡ (writer.before ++ print (writer.tokens ++ end_object ∷ [])) ⋅ newline) }
 {
@@ -36,7 +36,7 @@ pub(crate) fn end(writer: Writer, text: &mut Vec<u8>) -> Result<(), AllocError>
 }
 
 /// Adds a member with a text.
-pub(crate) fn push_text(writer: &mut Writer, name: &str, text: &str) -> Result<(), AllocError>
+pub fn push_text(writer: &mut Writer, name: &str, text: &str) -> Result<(), AllocError>
     ensures { OnOk result (Adds (text_member name.now text.now) writer.old writer.new) }
 {
     writer.key(name)?;
@@ -44,7 +44,7 @@ pub(crate) fn push_text(writer: &mut Writer, name: &str, text: &str) -> Result<(
 }
 
 /// Adds a member with a number.
-pub(crate) fn push_number(writer: &mut Writer, name: &str, number: u64) -> Result<(), AllocError>
+pub fn push_number(writer: &mut Writer, name: &str, number: u64) -> Result<(), AllocError>
     ensures { OnOk result (Adds (number_member name.now number) writer.old writer.new) }
 {
     writer.key(name)?;
@@ -52,7 +52,7 @@ pub(crate) fn push_number(writer: &mut Writer, name: &str, number: u64) -> Resul
 }
 
 /// Adds a member with the code of a rate.
-pub(crate) fn push_rate(
+pub fn push_rate(
     alloc: Global,
     writer: &mut Writer,
     name: &str,
@@ -65,7 +65,7 @@ pub(crate) fn push_rate(
 }
 
 /// Adds the code of a rate.
-pub(crate) fn push_code(alloc: Global, writer: &mut Writer, rate: Rate) -> Result<(), AllocError>
+pub fn push_code(alloc: Global, writer: &mut Writer, rate: Rate) -> Result<(), AllocError>
     ensures { OnOk result (Adds (string (code_text (code_of rate)) ∷ []) writer.old writer.new) }
 {
     let code = HexCode(rate.code());

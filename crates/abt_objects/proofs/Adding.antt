@@ -4,7 +4,7 @@ use Rattle.json.specs.Token.{Token, end_object}
 use Rattle.json.specs.Print.{print}
 use Rattle.json.specs.Written.{Written}
 use Rattle.abt_text.specs.Text.{◌⋅◌, newline}
-use Rattle.abt_json.specs.Members.{Adds, Holds, object_line}
+use Rattle.abt_objects.specs.Members.{Adds, Holds, object_line}
 
 pub adds_both : (a b : List Token) (x y z : Written) → Adds a x y → Adds b y z → Adds (a ++ b) x z
 adds_both a b x y z p q =
