@@ -1,14 +1,14 @@
 //! Cells as hexadecimal text, and the text of `abt cell`.
 ghost use Rattle.std.specs.Prelude.{◌≡◌, ◌⊎◌, Ok, Err, IfOk, IfErr, string_bytes};
 ghost use Rattle.abt_cell.specs.Codec.{request_of};
-ghost use Rattle.abt_perform.specs.CellText.{message_of, message_hex, vc_text, rates_text, terms_text, cell_line, cell_text};
+ghost use Rattle.abt_perform.specs.CellText.{message_in, message_of, message_hex, vc_text, rates_text, terms_text, cell_line, cell_text};
 ghost use Rattle.abt_perform.specs.declared.fault.Fault.TheVariants.{Memory};
 
 use crate::fault::Fault;
 use abt_cell::{Cell, Rm, Vc, read_rm, write_rm};
 use abt_rate::Rate;
 use abt_text::HexCode;
-use hex::FromHexError;
+use hex::{FromHex, FromHexError};
 use std::alloc::{AllocError, Global};
 
 /// The text of `abt cell`: what the RM cell says that a text spells.
@@ -25,12 +25,30 @@ pub fn message_of(alloc: Global, hex: &str) -> Result<Rm, Fault>
     ensures ok { IfOk result (λ rm. message_of hex.now ≡ Ok rm) }
     ensures err { IfErr result (λ fault. (fault ≡ Memory) ⊎ (message_of hex.now ≡ Err fault)) }
 {
-    let octets = match hex::decode(alloc, hex) {
-        Ok(octets) => octets,
-        Err(FromHexError::OutOfMemory) => return Err(Fault::Memory),
-        Err(_) => return Err(Fault::Hex),
-    };
-    let Ok(cell) = Cell::from_octets(octets.as_slice()) else {
+    match <[u8; 52] as FromHex>::from_hex(hex) {
+        Ok(octets) => message_in(&octets),
+        Err(FromHexError::InvalidStringLength) => message_of_any_length(alloc, hex),
+        Err(_) => Err(Fault::Hex),
+    }
+}
+
+// The same for a text of whatever length. Of one that isn't a cell's, bad digits are told before the length.
+fn message_of_any_length(alloc: Global, hex: &str) -> Result<Rm, Fault>
+    ensures ok { IfOk result (λ rm. message_of hex.now ≡ Ok rm) }
+    ensures err { IfErr result (λ fault. (fault ≡ Memory) ⊎ (message_of hex.now ≡ Err fault)) }
+{
+    match hex::decode(alloc, hex) {
+        Ok(octets) => message_in(octets.as_slice()),
+        Err(FromHexError::OutOfMemory) => Err(Fault::Memory),
+        Err(_) => Err(Fault::Hex),
+    }
+}
+
+// What the octets of a cell say.
+fn message_in(octets: &[u8]) -> Result<Rm, Fault>
+    ensures { result ≡ message_in (Ok octets.now) }
+{
+    let Ok(cell) = Cell::from_octets(octets) else {
         return Err(Fault::Length);
     };
     read_rm(&cell).map_err(Fault::Rm)
