@@ -1,0 +1,16 @@
+//! How far a task has read its input, drawn on a terminal while it works.
+#![tactic(auto)]
+
+mod cleared;
+mod drawing;
+mod line;
+mod meter;
+mod progress;
+mod watched;
+
+pub use cleared::Cleared;
+pub use progress::Progress;
+pub use watched::Watched;
+
+#[cfg(test)]
+mod tests;
