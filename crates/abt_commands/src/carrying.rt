@@ -1,11 +1,12 @@
 //! Plans, carried out over files or over the standard input.
 ghost use Rattle.std.specs.Prelude.{◌≡◌, ◌⊎◌};
 ghost use Rattle.std.specs.Io.KnownBytes.{Keeps};
+ghost use Rattle.std.specs.IoError.{error_kind};
 ghost use Rattle.std.specs.Option.{option_map};
 ghost use Rattle.abt_perform.specs.Names.{fault_line};
 ghost use Rattle.abt_perform.specs.Plans.{IsWithinLimits, ReadsFor};
 ghost use Rattle.abt_perform.specs.declared.fault.Fault.TheVariants.{Memory};
-ghost use Rattle.abt_commands.specs.Carried.{IsDone, IsRefused, IsDoneHere, IsRefusedHere, ReadsHere, file_of, open_line};
+ghost use Rattle.abt_commands.specs.Carried.{IsDone, IsRefused, IsDoneHere, IsRefusedHere, ReadsHere, file_of, line_of_kind, open_line};
 
 use abt_perform::{MEMORY_LINE, OPEN_LINE, Plan, perform, tell_text};
 use abt_perform_threads::perform_threads;
@@ -48,7 +49,8 @@ where
 
 /// What is told of a file that isn't opened: that, or want of memory.
 pub fn line_of_unopened(error: &Error) -> &'static str
-    ensures { (result.now ≡ open_line) ⊎ (result.now ≡ fault_line Memory) }
+    ensures value { result.now ≡ line_of_kind (error_kind error.now) }
+    ensures either { (result.now ≡ open_line) ⊎ (result.now ≡ fault_line Memory) }
 {
     match error.kind() {
         ErrorKind::OutOfMemory => MEMORY_LINE,

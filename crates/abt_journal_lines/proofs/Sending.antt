@@ -26,7 +26,7 @@ breaks_behind : (why : WriteFault) (xs front : List Text) (line : Text) (a b c :
 breaks_behind fault.TooLong xs front line a b c p q =
     (q.0, subst (Appends a c) (sym (text_both xs front)) (Appends-trans a b c (text_of xs) (text_of front) p q.1))
 breaks_behind fault.Write xs front line a b c p q =
-    (q.0, q.1, subst (Appends a c) (behind xs front (take q.0 (line ++ 10 ∷ []))) (Appends-trans a b c (text_of xs) (text_of front ++ take q.0 (line ++ 10 ∷ [])) p q.2))
+    (q.0, q.1, q.2, subst (Appends a c) (behind xs front (take q.0 (line ++ 10 ∷ []))) (Appends-trans a b c (text_of xs) (text_of front ++ take q.0 (line ++ 10 ∷ [])) p q.3))
 breaks_behind fault.Memory xs front line a b c p q = subst (Appends a c) (sym (text_both xs front)) (Appends-trans a b c (text_of xs) (text_of front) p q)
 
 pub sends_both : (xs ys : List Text) (a b c : Option Text) → Sends xs a b → Sends ys b c → Sends (xs ++ ys) a c
@@ -42,6 +42,7 @@ stops_first xs ys why a b p = record {
   line = p.line;
   rest = p.rest ++ ys;
   are = ap (λ (ls : List Text). ls ++ ys) p.are ∙ append_assoc p.front (p.line ∷ p.rest) ys;
+  short = p.short;
   breaks = p.breaks;
 }
 
@@ -52,11 +53,15 @@ stops_second xs ys why a b c p q = record {
   line = q.line;
   rest = q.rest;
   are = ap (λ (ls : List Text). xs ++ ls) q.are ∙ sym (append_assoc xs q.front (q.line ∷ q.rest));
+  short = All-append IsShort xs q.front p.short q.short;
   breaks = breaks_behind why xs q.front q.line a b c p.sent q.breaks;
 }
 
+none_short : All IsShort []
+none_short = λ k d low. absurd (omega (arith, low))
+
 pub sends_none : (a : Option Text) → Sends [] a a
-sends_none a = record { sent = Appends-nil a; short = λ k d low. absurd (omega (arith, low)) }
+sends_none a = record { sent = Appends-nil a; short = none_short }
 
 one_short : (line : Text) → length line ≤ line_max → All IsShort (line ∷ [])
 one_short line short zero d low = short
@@ -73,6 +78,7 @@ line_long line more why a is long = record {
   line = line;
   rest = more;
   are = refl;
+  short = none_short;
   breaks = subst (λ (w : WriteFault). BreaksAt w [] line a a) (sym is) (long, Appends-nil a);
 }
 
@@ -83,13 +89,14 @@ line_unmade line more why a is = record {
   line = line;
   rest = more;
   are = refl;
+  short = none_short;
   breaks = subst (λ (w : WriteFault). BreaksAt w [] line a a) (sym is) (Appends-nil a);
 }
 
 -- a part of it goes out
-pub line_cut : (line text : Text) (more : List Text) (why : WriteFault) (a b : Option Text) → why ≡ fault.Write → text ≡ line ++ 10 ∷ []
-    → AppendsPrefix a b text → Stops (line ∷ more) why a b
-line_cut line text more why a b is same p =
+pub line_cut : (line text : Text) (more : List Text) (why : WriteFault) (a b : Option Text) → why ≡ fault.Write → length line ≤ line_max
+    → text ≡ line ++ 10 ∷ [] → AppendsPrefix a b text → Stops (line ∷ more) why a b
+line_cut line text more why a b is within same p =
     let sum = length-append line (10 ∷ []) in
     let long : length text ≡ length (line ++ 10 ∷ []) = ap length same in
     let short = p.short in record {
@@ -97,7 +104,8 @@ line_cut line text more why a b is same p =
       line = line;
       rest = more;
       are = refl;
-      breaks = subst (λ (w : WriteFault). BreaksAt w [] line a b) (sym is) (p.count, omega arith, subst (λ (t : Text). Appends a b (take p.count t)) same p.front);
+      short = none_short;
+      breaks = subst (λ (w : WriteFault). BreaksAt w [] line a b) (sym is) (p.count, omega arith, within, subst (λ (t : Text). Appends a b (take p.count t)) same p.front);
     }
 
 -- What becomes of the lines that are left becomes of all.

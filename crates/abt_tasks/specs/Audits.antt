@@ -1,5 +1,5 @@
 -- What an audit leaves, over the files that are named or over the input that is there.
-use Rattle.std.specs.Prelude.{◌≡◌, ◌⊎◌, List, [], ◌∷◌, length, Option, String}
+use Rattle.std.specs.Prelude.{◌≡◌, ◌⊎◌, ⊤, List, [], ◌∷◌, length, Option, String}
 use Rattle.std.specs.declared.alloc.Global.{Global}
 use Rattle.std.specs.Io.KnownBytes.{Keeps}
 use Rattle.abt_text.specs.Text.{Text}
@@ -21,6 +21,11 @@ pub record IsNotShownOver (names : List (String Global)) (old new errors_old err
   pub lefts : List (Option Text)
   pub each : length lefts ≡ length names
   pub not_shown : IsNotShown names lefts old new errors_old errors_new
+
+-- what an audit takes of the input that is there: nothing where files are named
+abbrev pub TakesToAudit : AuditPlan → (old new : Option Text) → Type 0
+TakesToAudit Input old new = ⊤
+TakesToAudit (Files names) old new = Keeps old new
 
 -- the journals of the texts are shown to be those of one safe run
 abbrev pub IsAuditedHere : AuditPlan → (left old new : Option Text) → Type 0

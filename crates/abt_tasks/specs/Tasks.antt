@@ -11,7 +11,7 @@ use Rattle.abt_explain.specs.Explained.{IsExplained, IsRefused}
 use Rattle.abt_explain.specs.declared.plan.ExplainPlan.{ExplainPlan}
 use Rattle.abt_codes.specs.Printed as codes_printed
 use Rattle.abt_parts.specs.Answered as parts
-use Rattle.abt_tasks.specs.Audits.{IsAuditedHere, IsUnauditedHere}
+use Rattle.abt_tasks.specs.Audits.{IsAuditedHere, IsUnauditedHere, TakesToAudit}
 use Rattle.abt_tasks.specs.Check.{TakesToCheck, IsCheckedHere, IsFaultyHere}
 use Rattle.abt_tasks.specs.Checked as checked
 use Rattle.abt_tasks.specs.Json.{TakesToSay, IsSaidHere, IsUnsaidHere}
@@ -58,7 +58,7 @@ IsUnexplainedHere plan left old new errors_old errors_new = MatchOption (file_of
     (IsRefused left old new errors_old errors_new)
     (λ name. IsUnopenedFile name old new errors_old errors_new ⊎ IsRefusedOver old new errors_old errors_new)
 
--- what a task takes of the input that is there; where lines are answered, whatever it likes
+-- what a task takes of the input that is there; where it is read to its end, as lines or as journals, whatever it likes
 abbrev pub TakesOf : Task → (old new : Option Text) → Type 0
 TakesOf (Plan plan) old new = ReadsHere plan old new
 TakesOf (Checked plan) old new = checked.TakesToRun plan old new
@@ -66,7 +66,7 @@ TakesOf (Keep plan) old new = TakesToKeep plan old new
 TakesOf (Explain plan) old new = TakesToExplain plan old new
 TakesOf (Check plan) old new = TakesToCheck plan old new
 TakesOf (Json plan) old new = TakesToSay plan old new
-TakesOf (Audit plan) old new = ⊤
+TakesOf (Audit plan) old new = TakesToAudit plan old new
 TakesOf (Parts plan) old new = ⊤
 TakesOf (Codes plan) old new = Keeps old new
 

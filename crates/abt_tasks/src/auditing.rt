@@ -1,7 +1,7 @@
 //! Audits, over the files that are named or over the input that is there.
 ghost use Rattle.std.specs.Prelude.{◌≡◌, ◌⊎◌, length, IfOk};
 ghost use Rattle.std.specs.Io.KnownBytes.{Keeps};
-ghost use Rattle.abt_tasks.specs.Audits.{IsAuditedHere, IsUnauditedHere};
+ghost use Rattle.abt_tasks.specs.Audits.{IsAuditedHere, IsUnauditedHere, TakesToAudit};
 
 use abt_audit::{AuditPlan, perform_audit};
 use abt_commands::line_of_unopened;
@@ -20,6 +20,7 @@ pub(crate) fn audit<T: Files + AllocGlobal, R: Read, W: Write, E: Write>(
     errors: &mut E,
 ) -> u8
     ensures status { (result ≡ 0) ⊎ (result ≡ 1) }
+    ensures reads { TakesToAudit plan.now (R.remaining input.old) (R.remaining input.new) }
     ensures ok { result ≡ 0 → IsAuditedHere plan.now (R.remaining input.old) (W.contents out.old) (W.contents out.new) }
     ensures quiet { result ≡ 0 → Keeps (E.contents errors.old) (E.contents errors.new) }
     ensures err { result ≡ 1 → IsUnauditedHere plan.now (R.remaining input.old) (W.contents out.old) (W.contents out.new)
