@@ -92,11 +92,16 @@ impl Gcra {
         ensures { (result, self.new) ≡ checked self.old at spacing }
     {
         self.clock = at;
-        let due = self.tat.unwrap_or(at);
-        if due > at + self.tau {
-            return Verdict::TooEarly;
+        if let Some(due) = self.tat {
+            if due > at + self.tau {
+                return Verdict::TooEarly;
+            }
+            if due > at {
+                self.tat = Some(due + spacing);
+                return Verdict::Conforming;
+            }
         }
-        self.tat = Some(at.max(due) + spacing);
+        self.tat = Some(at + spacing);
         Verdict::Conforming
     }
 

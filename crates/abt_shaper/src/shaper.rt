@@ -95,22 +95,37 @@ impl Shaper {
             (self.new ≡ record { next = next; emitted = Some now }))
             (λ _. self.new ≡ self.old) }
     {
-        if let Some(last) = self.emitted {
-            if now < last {
-                return Err(ShapeFault::ClockBack);
+        if now >= self.next && now <= EMIT_MAX {
+            if let Some(spacing) = rate.spacing() {
+                self.next = now + spacing;
+                self.emitted = Some(now);
+                return Ok(self.next);
             }
         }
+        Err(self.refusal(now, rate))
+    }
+
+    // Why a cell may not leave now.
+    fn refusal(&self, now: u64, rate: Rate) -> ShapeFault
+        requires { (now ≤ emit_max) → (rate ≢ 0) → now < self.now.next }
+        ensures clock_back { (result ≡ ShapeFault.ClockBack) ↔ IsBehind self.now now }
+        ensures time_range { (result ≡ ShapeFault.TimeRange) ↔
+            (IsOnward self.now now × (emit_max < now)) }
+        ensures zero { (result ≡ ShapeFault.Zero) ↔
+            (IsOnward self.now now × (now ≤ emit_max) × (rate ≡ 0)) }
+        ensures too_soon { (next : ℕ) → (result ≡ ShapeFault.TooSoon next) ↔
+            (IsOnward self.now now × (now ≤ emit_max) × (rate ≢ 0) ×
+            (now < self.now.next) × (next ≡ self.now.next)) }
+    {
+        if self.emitted.is_some_and(|last| now < last) {
+            return ShapeFault::ClockBack;
+        }
         if now > EMIT_MAX {
-            return Err(ShapeFault::TimeRange);
+            return ShapeFault::TimeRange;
         }
-        let Some(spacing) = rate.spacing() else {
-            return Err(ShapeFault::Zero);
-        };
-        if now < self.next {
-            return Err(ShapeFault::TooSoon { next: self.next });
+        if rate == Rate::ZERO {
+            return ShapeFault::Zero;
         }
-        self.next = now + spacing;
-        self.emitted = Some(now);
-        Ok(self.next)
+        ShapeFault::TooSoon { next: self.next }
     }
 }
