@@ -1,3 +1,4 @@
 pub mod ScenarioText
 pub mod Samples
 pub mod Faults
+pub mod Sent

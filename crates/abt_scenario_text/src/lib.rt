@@ -4,10 +4,12 @@
 mod comparing;
 mod fault;
 mod sample;
+mod sending;
 mod writing;
 
 pub use fault::EventsFault;
 pub use sample::sample_text;
+pub use sending::{save_events, write_events};
 pub use writing::scenario_text;
 
 #[cfg(test)]
