@@ -2,8 +2,9 @@
 Those that `abt threads --journals` writes of each sample for threads come back through `abt audit`.
 
 Journals that the model writes are woven, also with the lines of different actors mixed anew and spread over two files. With one reply or outcome
-changed no list of events is woven from them. A step of a port that comes twice, is missing or stands before the one before it is a fault of the text, at
-a line that is known. What is told of each fault of a text is compared too.
+changed no list of events is woven from them; if the changed entry is named, what the protocol answers there is what it had before. A step of a port
+that comes twice, is missing or stands before the one before it is a fault of the text, at a line that is known. What is told of each fault of a text is
+compared too.
 
 usage: audits.py PROGRAM..
 """
@@ -24,13 +25,21 @@ WHOLE = (0, "woven\nsafe\n", "")
 END = '{"end":true}'
 
 
+WORKED = (ROOT / "docs" / "JOURNALS.md").read_text()
+
+
 def worked_run():
     """The lines of the run that docs/JOURNALS.md shows."""
-    text = (ROOT / "docs" / "JOURNALS.md").read_text()
-    found = re.search(r"^```\n(\{\"net\".*?)^```$", text, re.M | re.S)
+    found = re.search(r"^```\n(\{\"net\".*?)^```$", WORKED, re.M | re.S)
     if not found:
         raise SystemExit("audits: the run of docs/JOURNALS.md isn't found")
     return found[1].splitlines()
+
+
+def worked_faults():
+    """The logs of docs/JOURNALS.md in which something is wrong: their names, their texts, and what is told of them."""
+    shown = r"^```\n(\{\"net\"[^`]*)^```\n\n```console\n\$ abt audit (\S+)\n(fault:[^`]*)^```$"
+    return [(name, text.encode(), told) for text, name, told in re.findall(shown, WORKED, re.M)]
 
 
 def samples():
@@ -46,7 +55,7 @@ def samples():
 class Auditor:
     def __init__(self, program, folder):
         self.program, self.folder = program, Path(folder)
-        self.runs, self.found = 0, []
+        self.runs, self.answers, self.found = 0, 0, []
 
     def audit(self, *texts):
         """What the program answers of these texts, each in a file of its own."""
@@ -62,10 +71,19 @@ class Auditor:
         if (given := self.audit(*texts)) != answer:
             self.found.append(f"{what}: {given} in place of {answer}")
 
-    def wants_unwoven(self, what, text):
+    def wants_unwoven(self, what, text, line, right):
+        """A fault of weaving. If it is a mismatch at the entry of this line, what the protocol answers there is what the right entry has."""
         status, out, told = self.audit(text)
         if status != 1 or out or not told.startswith(("fault: Mismatch\n", "fault: NoOrder\n")):
             self.found.append(f"{what}: {(status, out, told)} in place of a fault of weaving")
+        elif told.startswith("fault: Mismatch\n"):
+            _, entry, protocol, *more = told.splitlines()
+            if more or not protocol.startswith("protocol: "):
+                self.found.append(f"{what}: {told} has no answer of the protocol")
+            elif entry.startswith(f"0:{line}: "):
+                self.answers += 1
+                if json.loads(protocol.removeprefix("protocol: ")) != answer_in(right):
+                    self.found.append(f"{what}: {protocol} in place of that of {right}")
 
 
 def text_of(lines):
@@ -109,12 +127,19 @@ def changed(one):
     return json.dumps(read, separators=(",", ":"))
 
 
+def answer_in(one):
+    """The reply or the outcome that an entry has."""
+    read = json.loads(one)
+    return read["reply"] if "reply" in read else read["outcome"]
+
+
 def try_sample(auditor, name, lines):
     auditor.wants(name, WHOLE, text_of(lines))
     auditor.wants(f"{name}, mixed", WHOLE, *mixed(lines, name))
     for at in range(1, len(lines) - 1):
         if other := changed(lines[at]):
-            auditor.wants_unwoven(f"{name}, line {at + 1} changed", text_of([*lines[:at], other, *lines[at + 1 :]]))
+            text = text_of([*lines[:at], other, *lines[at + 1 :]])
+            auditor.wants_unwoven(f"{name}, line {at + 1} changed", text, at + 1, lines[at])
         if '"port"' not in lines[at]:
             continue
         place = lambda line: (1, "", f"fault: 0:{line}: Place\n")
@@ -223,12 +248,20 @@ def main(program):
         every = [("docs/JOURNALS.md", worked), *samples()]
         for name, lines in every:
             try_sample(auditor, name, lines)
+        faults = worked_faults()
+        if len(faults) != 2:
+            auditor.found.append(f"docs/JOURNALS.md has {len(faults)} logs in which something is wrong")
+        for name, text, told in faults:
+            auditor.wants(f"{name} of docs/JOURNALS.md", (1, "", told.replace(f"{name}:", "0:")), text)
         try_texts(auditor, worked)
         try_other_ways(auditor, worked)
         runs = try_threads(auditor)
     for difference in auditor.found:
         print(f"audits: {difference}")
-    print(f"audits: {len(every)} runs, {runs} in threads, {auditor.runs} audits, {len(auditor.found)} differences")
+    print(
+        f"audits: {len(every)} runs, {runs} in threads, {auditor.runs} audits, {auditor.answers} answers of the protocol, "
+        f"{len(auditor.found)} differences"
+    )
     return not auditor.found
 
 

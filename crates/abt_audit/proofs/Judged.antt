@@ -16,7 +16,7 @@ use Rattle.abt_journal_text.specs.declared.fault.TextFault.{TextFault}
 use Rattle.abt_journal_text.specs.declared.run.Run.{Run}
 use Rattle.abt_audit.specs.Audits.{AreRead, IsUnreadAmong, IsAudited, IsSafelyTold, IsReadAs, journals_of}
 use Rattle.abt_audit.specs.Performing.{IsStuckRun, IsNoRun, EndsBy, shown_text}
-use Rattle.abt_audit.specs.Stuck.{stuck_lines, stuck_of}
+use Rattle.abt_audit.specs.Protocol.{fault_lines}
 use Rattle.abt_audit.specs.declared.auditing.Audited.{Audited}
 use Rattle.abt_audit.specs.declared.fault.AuditFault.{AuditFault}
 use Rattle.abt_audit.specs.declared.fault.AuditFault.TheVariants as fault
@@ -38,7 +38,7 @@ safely_told told run audited r p = record {
 
 pub stuck_so : (names : List (String Global)) (told : Told) (run : Run) (why : WeaveFault) (lines : Text) → IsToldRun told run
     → IsWeaveFault run.net (record { ports = run.journals; sources = run.sources.items }) why
-    → SaysNoneIsWoven run.net (record { ports = run.journals; sources = run.sources.items }) why → lines ≡ stuck_lines names run (stuck_of why)
+    → SaysNoneIsWoven run.net (record { ports = run.journals; sources = run.sources.items }) why → lines ≡ fault_lines names run why
     → IsStuckRun names told why lines
 stuck_so names told run why lines r p q is = record {
   run = run;

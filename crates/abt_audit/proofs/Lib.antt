@@ -1,3 +1,4 @@
+pub mod Heard
 pub mod Judged
 pub mod Lists
 pub mod Texts

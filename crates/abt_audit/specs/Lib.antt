@@ -1,4 +1,5 @@
 pub mod Audits
 pub mod Names
 pub mod Stuck
+pub mod Protocol
 pub mod Performing

@@ -17,7 +17,7 @@ use Rattle.abt_perform.specs.declared.fault.Fault as program
 use Rattle.abt_perform.specs.declared.fault.Fault.TheVariants as program_fault
 use Rattle.abt_audit.specs.Audits.{IsReadAs, IsUnreadAmong, IsShown, journals_of}
 use Rattle.abt_audit.specs.Names.{text_fault_line}
-use Rattle.abt_audit.specs.Stuck.{stuck_lines, stuck_of}
+use Rattle.abt_audit.specs.Protocol.{fault_lines}
 use Rattle.abt_audit.specs.declared.fault.AuditFault.{AuditFault}
 use Rattle.abt_audit.specs.declared.fault.AuditFault.TheVariants as fault
 
@@ -25,13 +25,13 @@ use Rattle.abt_audit.specs.declared.fault.AuditFault.TheVariants as fault
 abbrev pub shown_text : Text
 shown_text = codes "woven" ⋅ newline ⋅ codes "safe" ⋅ newline
 
--- The journals that were told aren't woven, and these are the lines of the entries at which they are stuck.
+-- The journals that were told aren't woven, and these are the lines of the fault.
 pub record IsStuckRun (names : List (String Global)) (told : Told) (why : WeaveFault) (lines : Text) : Type 0 where
   pub run : Run
   pub is_run : IsToldRun told run
   pub is_fault : IsWeaveFault run.net (journals_of told) why
   pub none : SaysNoneIsWoven run.net (journals_of told) why
-  pub are : lines ≡ stuck_lines names run (stuck_of why)
+  pub are : lines ≡ fault_lines names run why
 
 -- why what was told isn't audited
 abbrev pub IsNoRun : List (String Global) → Told → AuditFault → Type 0

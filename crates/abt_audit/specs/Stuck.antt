@@ -10,8 +10,6 @@ use Rattle.abt_entry_text.specs.Written.{step_json, entry_json}
 use Rattle.abt_woven.specs.declared.actor.Actor.{Actor}
 use Rattle.abt_woven.specs.declared.actor.Actor.TheVariants.{Source, Port}
 use Rattle.abt_woven.specs.declared.actor.Stuck.{Stuck}
-use Rattle.abt_weave.specs.declared.fault.WeaveFault.{WeaveFault}
-use Rattle.abt_weave.specs.declared.fault.WeaveFault.TheVariants.{Mismatch, NoOrder, Memory}
 use Rattle.abt_journal_text.specs.Books.{lists_of}
 use Rattle.abt_journal_text.specs.declared.run.Run.{Run}
 use Rattle.abt_journal_text.specs.declared.spot.Spot.{Spot}
@@ -40,9 +38,3 @@ line_at names run (Source c) place =
 abbrev pub stuck_lines : List (String Global) → Run → List Stuck → Text
 stuck_lines names run [] = []
 stuck_lines names run (stuck ∷ more) = line_at names run stuck.actor stuck.place ⋅ stuck_lines names run more
-
--- the entries that a fault names
-abbrev pub stuck_of : WeaveFault → List Stuck
-stuck_of (Mismatch actor place) = record { actor = actor; place = place } ∷ []
-stuck_of (NoOrder stuck) = stuck
-stuck_of Memory = []

@@ -6,8 +6,10 @@ mod command;
 mod fault;
 mod gathering;
 mod naming;
+mod obeying;
 mod performing;
 mod plan;
+mod protocol;
 mod stuck;
 
 pub use auditing::{Audited, audit};

@@ -1,11 +1,13 @@
 //! The lines of entries at which journals are stuck.
-ghost use Rattle.std.specs.Prelude.{◌≡◌, ◌-◌, map, option_map, slice_get, IfOk, OnOk, string_bytes, Vec};
+ghost use Rattle.std.specs.Prelude.{◌≡◌, ◌-◌, map, option_map, slice_get, length, IfOk, OnOk, string_bytes, Vec};
 ghost use Rattle.std.specs.declared.alloc.Global.{Global as GlobalSpec};
 ghost use Rattle.abt_text.specs.Text.{◌⋅◌, newline};
 ghost use Rattle.abt_woven.specs.declared.actor.Actor.TheVariants.{Port, Source};
 ghost use Rattle.abt_audit.specs.Names.{name_in, spot_head};
-ghost use Rattle.abt_audit.specs.Stuck.{item_at, entry_at, line_at, stuck_lines, stuck_of};
+ghost use Rattle.abt_audit.specs.Protocol.{fault_lines};
+ghost use Rattle.abt_audit.specs.Stuck.{item_at, entry_at, line_at, stuck_lines};
 
+use crate::protocol::add_protocol;
 use abt_entry_text::{entry_line, step_line};
 use abt_journal_text::{Run, Spot};
 use abt_source_journal::{SourceEntry, SourceJournal};
@@ -139,14 +141,15 @@ fn lines_of(
     Ok(text)
 }
 
-// The lines of the entries that a fault names.
+// The lines of the entries that a fault names, and what the protocol answers where one mismatches.
 pub(crate) fn stuck_text(
     alloc: Global,
     names: &[String],
     run: &Run,
     fault: &WeaveFault,
 ) -> Result<Vec<u8>, AllocError>
-    ensures { IfOk result (λ text. text.items ≡ stuck_lines names.now run.now (stuck_of fault.now)) }
+    requires { length run.now.journals ≡ length run.now.net.capacities }
+    ensures { IfOk result (λ text. text.items ≡ fault_lines names.now run.now fault.now) }
 {
     match fault {
         WeaveFault::Mismatch { actor, place } => {
@@ -154,7 +157,10 @@ pub(crate) fn stuck_text(
                 actor: *actor,
                 place: *place,
             };
-            lines_of(alloc, names, run, &[stuck])
+            let mut text = Vec::new(alloc);
+            add_stuck(alloc, &mut text, names, run, stuck)?;
+            add_protocol(alloc, &mut text, run, *actor, *place)?;
+            Ok(text)
         }
         WeaveFault::NoOrder(all) => lines_of(alloc, names, run, all.as_slice()),
         WeaveFault::Memory => Ok(Vec::new(alloc)),

@@ -1,0 +1,103 @@
+-- What the protocol answers where an entry stands (docs/JOURNALS.md, "Audits"): the reply of a port, or the outcome of a source, in the
+-- state that the entries before it leave. Facts are those of one connection, the newest first.
+use Rattle.std.specs.Prelude.{ℕ, ◌++◌, List, [], take, fold, Option, Some, None, option_map, option_and_then, slice_get, codes, String}
+use Rattle.std.specs.declared.alloc.Global.{Global}
+use Rattle.json.specs.Json.{Json}
+use Rattle.json.specs.Print.{print}
+use Rattle.json.specs.Tree.{json_tokens}
+use Rattle.abt_text.specs.Text.{Text, ◌⋅◌, newline}
+use Rattle.abt_cell.specs.Channel.{Channel}
+use Rattle.abt_net.specs.declared.conn.Conn.{Conn}
+use Rattle.abt_net.specs.Topology.{Topology, conn_at}
+use Rattle.abt_facts.specs.declared.fact.Fact.{Fact}
+use Rattle.abt_facts.specs.Source.{state_of}
+use Rattle.abt_model.specs.Answers.{if_up, start_answer, ask_answer, again_answer, emit_answer, told_answer}
+use Rattle.abt_model.specs.Outcomes.{facts_added}
+use Rattle.abt_model.specs.PortTable.{port_table}
+use Rattle.abt_model.specs.Targets.{target_of, event_at_source}
+use Rattle.abt_model.specs.declared.outcome.Outcome.{Outcome}
+use Rattle.abt_model.specs.declared.outcome.Outcome.TheVariants.{Crashed, Told as HasTold}
+use Rattle.abt_model.specs.declared.target.SourceEvent.{SourceEvent}
+use Rattle.abt_model.specs.declared.target.SourceEvent.TheVariants.{Start, Ask, Again, Crash, Emit, Told}
+use Rattle.abt_model.specs.declared.target.Target.{Target}
+use Rattle.abt_model.specs.declared.target.Target.TheVariants as target
+use Rattle.abt_journal.specs.declared.entry.Entry.{Entry}
+use Rattle.abt_journal.specs.declared.input.PortReply.{PortReply}
+use Rattle.abt_journal.specs.Replay.{reply_by, replay}
+use Rattle.abt_source_journal.specs.declared.entry.SourceEntry.{SourceEntry}
+use Rattle.abt_source_journal.specs.declared.entry.SourceEntry.TheVariants.{Did}
+use Rattle.abt_source_journal.specs.declared.journal.SourceJournal.{SourceJournal}
+use Rattle.abt_entry_text.specs.Written.{reply_json, outcome_json}
+use Rattle.abt_woven.specs.declared.actor.Actor.{Actor}
+use Rattle.abt_woven.specs.declared.actor.Actor.TheVariants.{Source, Port}
+use Rattle.abt_weave.specs.declared.fault.WeaveFault.{WeaveFault}
+use Rattle.abt_weave.specs.declared.fault.WeaveFault.TheVariants.{Mismatch, NoOrder, Memory}
+use Rattle.abt_journal_text.specs.declared.run.Run.{Run}
+use Rattle.abt_audit.specs.Stuck.{line_at, stuck_lines}
+
+-- the reply of a port to the input of the entry of a place, after the inputs of the entries before
+abbrev pub port_answer : Topology → (p : ℕ) → List Entry → (place : ℕ) → Option PortReply
+port_answer net p entries place =
+    option_map (λ (entry : Entry). reply_by (replay (port_table net [] p) (take place entries)) entry.input) (slice_get entries place)
+
+-- what a source answers to what it is to do; an answer that came home it hears by its number
+abbrev pub own_answer : Channel → List Fact → SourceEvent → Outcome
+own_answer vc facts (Start now) = start_answer (state_of facts) facts now
+own_answer vc facts (Ask rate plan) = if_up (state_of facts) (ask_answer vc facts rate plan)
+own_answer vc facts Again = again_answer vc (state_of facts) facts
+own_answer vc facts Crash = if_up (state_of facts) Crashed
+own_answer vc facts (Emit now) = if_up (state_of facts) (emit_answer facts now)
+own_answer vc facts (Told seq granted) = HasTold (told_answer (state_of facts) seq granted)
+
+-- its facts then
+abbrev pub own_facts : Channel → List Fact → SourceEvent → List Fact
+own_facts vc facts event = facts_added facts (event_at_source 0 event) (own_answer vc facts event) ++ facts
+
+-- the same of an event where it happens, and of an entry
+abbrev pub facts_at : Channel → List Fact → Target → List Fact
+facts_at vc facts (target.Source c event) = own_facts vc facts event
+facts_at vc facts other = facts
+
+abbrev pub facts_past : Channel → List Fact → SourceEntry → List Fact
+facts_past vc facts (Did event told) = facts_at vc facts (target_of event)
+facts_past vc facts other = facts
+
+abbrev pub answer_at : Channel → List Fact → Target → Option Outcome
+answer_at vc facts (target.Source c event) = Some (own_answer vc facts event)
+answer_at vc facts other = None
+
+abbrev pub answer_in : Channel → List Fact → SourceEntry → Option Outcome
+answer_in vc facts (Did event told) = answer_at vc facts (target_of event)
+answer_in vc facts other = None
+
+-- the facts of a source that was to do all this, one thing after the other
+abbrev pub facts_through : Channel → List SourceEntry → List Fact
+facts_through vc entries = fold (facts_past vc) [] entries
+
+-- the outcome of a source for the entry of a place, after what the entries before had it do
+abbrev pub source_answer : Channel → List SourceEntry → (place : ℕ) → Option Outcome
+source_answer vc entries place = option_and_then (answer_in vc (facts_through vc (take place entries))) (slice_get entries place)
+
+-- the line of an answer
+abbrev pub protocol_line : Option Json → Text
+protocol_line None = []
+protocol_line (Some answer) = codes "protocol: " ⋅ print (json_tokens answer) ⋅ newline
+
+-- what is told of an actor at the entry of a place
+abbrev pub port_told : Topology → (p place : ℕ) → Option (List Entry) → Text
+port_told net p place None = []
+port_told net p place (Some entries) = protocol_line (option_map reply_json (port_answer net p entries place))
+
+abbrev pub source_told : (place : ℕ) → Option Conn → Option SourceJournal → Text
+source_told place (Some conn) (Some journal) = protocol_line (option_map outcome_json (source_answer conn.vc journal.entries place))
+source_told place conn journal = []
+
+abbrev pub protocol_at : Run → Actor → (place : ℕ) → Text
+protocol_at run (Port p) place = port_told run.net p place (slice_get run.journals p)
+protocol_at run (Source c) place = source_told place (conn_at run.net c) (slice_get run.sources.items c)
+
+-- the lines of a fault: those of the entries that it names, and behind that of one that mismatches what the protocol answers there
+abbrev pub fault_lines : List (String Global) → Run → WeaveFault → Text
+fault_lines names run (Mismatch actor place) = line_at names run actor place ⋅ protocol_at run actor place
+fault_lines names run (NoOrder stuck) = stuck_lines names run stuck
+fault_lines names run Memory = []
