@@ -1,3 +1,4 @@
 mod Lines
 mod Counts
 mod Ends
+mod Runs

@@ -18,6 +18,7 @@ use Rattle.abt_perform_threads.specs.Faults.{fault_of_show}
 use Rattle.abt_perform_threads.specs.Shown.{IsRanFrom, ShowsAll, ShowsUntil}
 use Rattle.abt_rate.specs.Limits.{AreWorkers}
 use Rattle.abt_perform_threads.specs.declared.judging.Judged.{Judged}
+use Rattle.abt_perform_threads.specs.declared.performing.JudgedRun.{JudgedRun}
 use Rattle.abt_perform_threads.specs.declared.ran.Ran.{Ran}
 use Rattle.abt_perform_threads.specs.declared.showing.ShowFault.{ShowFault}
 
@@ -36,6 +37,14 @@ IsUnfit workers scenario other = ⊥
 -- Nothing does.
 abbrev pub MayRun : (workers : ℕ) → declared.Scenario → Type 0
 MayRun workers scenario = (reason : Fault) → ¬ IsUnfit workers scenario reason
+
+-- This is a run of the scenario that is a reader's text, and what it is judged to be: all lines are of these.
+pub record IsRunOf (workers : ℕ) (run : JudgedRun) (left old new : Option Text) : Type 0 where
+  pub scenario : declared.Scenario
+  pub read : IfSome left (λ text. Reads text (Ok scenario))
+  pub may_run : MayRun workers scenario
+  pub is_ran : IsRanFrom scenario workers run.ran
+  pub shows : ShowsAll run.ran run.judged old new
 
 -- One run of the scenario that is a reader's text, and what it is judged to be: all lines are of these.
 pub record IsShown (workers : ℕ) (left old new : Option Text) : Type 0 where

@@ -7,12 +7,14 @@ mod keeping;
 mod performing;
 mod ran;
 mod showing;
+mod telling;
 
 pub use judging::{Judged, judge};
 pub use keeping::{KeepFault, KeepPlan, keep_run};
-pub use performing::perform_threads;
+pub use performing::{JudgedRun, perform_threads, show_scenario};
 pub use ran::{Ran, Unrun};
 pub use showing::{ShowFault, Shown, show_run};
+pub use telling::TellPlan;
 
 #[cfg(test)]
 mod tests;

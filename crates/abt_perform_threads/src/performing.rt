@@ -1,13 +1,14 @@
 //! A plan for threads, carried out.
-ghost use Rattle.std.specs.Prelude.{◌≡◌, ◌⊎◌, ◌+◌, IfErr, OnOk};
+ghost use Rattle.std.specs.Prelude.{◌≡◌, ◌⊎◌, ◌+◌, IfErr, IfOk, OnOk};
 ghost use Rattle.std.specs.Io.KnownBytes.{Appends, Keeps};
 ghost use Rattle.abt_perform.specs.Plans.{IsForThreads, ReadsFor};
 ghost use Rattle.abt_text.specs.Streams.{ConsumesAtMost, text_max};
 ghost use Rattle.abt_perform_threads.specs.Shown.{shown_text};
-ghost use Rattle.abt_perform_threads.specs.Performing.{IsShown, EndsBy, IsRefused, workers_of};
+ghost use Rattle.abt_perform_threads.specs.Performing.{IsShown, IsRunOf, EndsBy, IsRefused, workers_of};
 
 use crate::faults::{fault_of_run, fault_of_show};
-use crate::ran::Unrun;
+use crate::judging::Judged;
+use crate::ran::{Ran, Unrun};
 use crate::showing::{Shown, show_run};
 use abt_perform::{Fault, Plan, tell_fault};
 use abt_ports::OpenGate;
@@ -49,6 +50,7 @@ pub fn perform_threads<T: Threads + Wait + Sync, R: Read, W: Write, E: Write>(
     }
 }
 
+#[tactic(auto, using(crate::proofs::Runs::shown_by_run))]
 // Reads a scenario, and shows a run of it.
 fn carry_out<T: Threads + Wait + Sync, R: Read, W: Write>(
     rt: &T,
@@ -62,14 +64,43 @@ fn carry_out<T: Threads + Wait + Sync, R: Read, W: Write>(
     ensures err { IfErr result (λ fault.
         EndsBy workers fault (R.remaining reader.old) (W.contents writer.old) (W.contents writer.new)) }
 {
+    let _run = show_scenario(rt, alloc, workers, reader, writer)?;
+    Ok(())
+}
+
+/// A run in threads, and what it was judged to be.
+#[derive(Debug, Drop)]
+pub struct JudgedRun {
+    /// What the run left.
+    pub ran: Ran,
+    /// The events that its journals are, and their trace.
+    pub judged: Judged,
+}
+
+/// Reads a scenario, and shows a run of it line by line, each once its step is done.
+///
+/// # Errors
+/// Why there is no run, or why not all its lines went out; those before a fault stay.
+pub fn show_scenario<T: Threads + Wait + Sync, R: Read, W: Write>(
+    rt: &T,
+    alloc: Global,
+    workers: u16,
+    reader: &mut R,
+    writer: &mut W,
+) -> Result<JudgedRun, Fault>
+    ensures reads { ConsumesAtMost (R.remaining reader.old) (R.remaining reader.new) (text_max + 1) }
+    ensures shown { IfOk result (λ run. IsRunOf workers run (R.remaining reader.old) (W.contents writer.old) (W.contents writer.new)) }
+    ensures err { IfErr result (λ fault.
+        EndsBy workers fault (R.remaining reader.old) (W.contents writer.old) (W.contents writer.new)) }
+{
     let unrun = Unrun::read_from(alloc, reader)?;
     let shown = match show_run(rt, alloc, workers, unrun, &OpenGate, writer) {
         Ok(shown) => shown,
         Err(fault) => return Err(fault_of_run(fault)),
     };
-    let Shown { ran: _, judged } = shown;
+    let Shown { ran, judged } = shown;
     match judged {
-        Ok(_) => Ok(()),
+        Ok(judged) => Ok(JudgedRun { ran, judged }),
         Err(fault) => Err(fault_of_show(&fault)),
     }
 }

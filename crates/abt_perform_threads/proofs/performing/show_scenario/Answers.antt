@@ -1,7 +1,7 @@
 -- What a run shows, or why there is none, is of the scenario that was read.
 use Rattle.std.proofs.Common.{inl, inr}
 use Rattle.abt_perform_threads.proofs.Ends.{ends_run, may_run_done, IsExact}
-use Rattle.abt_perform_threads.proofs.performing.carry_out.Goals as goal
+use Rattle.abt_perform_threads.proofs.performing.show_scenario.Goals as goal
 
 pub returns-in-Err-clause-err : goal.returns-in-Err-clause-err
 returns-in-Err-clause-err g c =
@@ -18,14 +18,12 @@ returns-in-Ok-judged-clause-shown g c =
       scenario = scenario;
       read = c.in_ok-unrun.ensures.ok;
       may_run = may_run_done c.args.workers scenario c.in-Ok.shown (rw c.in-Ok.is at exact);
-      ran = c.in-Ok.shown.ran;
       is_ran = c.in-Ok.ensures.ran;
-      judged = c.in-Ok-judged.field-0;
       shows = rw c.in-Ok-judged.is at c.in-Ok.ensures.shown;
     }
 
-pub returns-clause-err : goal.returns-clause-err
-returns-clause-err g c =
+pub returns-in-Err-judged-clause-err : goal.returns-in-Err-judged-clause-err
+returns-in-Err-judged-clause-err g c =
     let scenario = c.in_ok-unrun.unrun in
     let exact : IsExact c.args.workers scenario c.show_run.result = record { by_workers = c.show_run.ensures.workers; by_scripts = c.show_run.ensures.scripts; by_operator = c.show_run.ensures.operator } in
     inr (record {
