@@ -1,0 +1,68 @@
+//! The bands below the chart of messages: over the axis of the events, what each port holds, and at which rate each source shapes.
+use crate::sheet::Sheet;
+use crate::words::short_rate;
+use abt_layout::{Actor, BAND_HEIGHT};
+use abt_svg::{Point, push_label, push_line};
+use std::alloc::AllocError;
+
+// Where the axis begins, and what is left free behind its end, in tenths of a unit.
+const AXIS_LEFT: u64 = 1000;
+
+const AXIS_RIGHT: u64 = 200;
+
+/// From the upper edge of a band to that of the next.
+pub(crate) const BAND_STEP: u64 = 860;
+
+/// A band: whose it is, what it is called, how much it has room for, and the line at which it begins.
+#[derive(Clone, Copy)]
+pub(crate) struct Band {
+    pub(crate) most: u64,
+    pub(crate) base: u64,
+}
+
+impl Band {
+    /// The height of a value above the line at which the band begins, as a place of the picture.
+    pub(crate) fn y(self, height: u64) -> u64 {
+        self.base.saturating_sub(height)
+    }
+}
+
+/// The place of the axis after so many of the events that are shown.
+pub(crate) fn edge_of(sheet: &Sheet<'_>, frame: usize) -> u64 {
+    let width = sheet
+        .width()
+        .saturating_sub(AXIS_LEFT)
+        .saturating_sub(AXIS_RIGHT);
+    let frames = u64::from(sheet.rows.count).saturating_add(1);
+    AXIS_LEFT.saturating_add(width.saturating_mul(frame as u64) / frames)
+}
+
+/// Adds the name of a band, its base and what it has room for.
+pub(crate) fn push_ground(
+    sheet: &Sheet<'_>,
+    out: &mut String,
+    actor: Actor,
+    band: Band,
+) -> Result<(), AllocError> {
+    let alloc = sheet.alloc;
+    let words = match actor {
+        Actor::Source(conn) => format!(in alloc; "source {conn}")?,
+        Actor::Port(port) => format!(in alloc; "port {port}")?,
+        Actor::End(conn) => format!(in alloc; "end {conn}")?,
+    };
+    let x = 60;
+    let y = band.y(BAND_HEIGHT / 2);
+    push_label(alloc, out, "band", Point { x, y }, words.as_str())?;
+    let most = short_rate(alloc, band.most)?;
+    let x = AXIS_LEFT.saturating_sub(40);
+    let y = band.y(BAND_HEIGHT).saturating_add(60);
+    push_label(alloc, out, "scale", Point { x, y }, most.as_str())?;
+    let y = band.base;
+    push_label(alloc, out, "scale", Point { x, y }, "0")?;
+    let from = Point { x: AXIS_LEFT, y };
+    let to = Point {
+        x: edge_of(sheet, (sheet.rows.count as usize).saturating_add(1)),
+        y,
+    };
+    push_line(alloc, out, "ground", from, to)
+}

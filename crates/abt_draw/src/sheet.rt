@@ -1,0 +1,120 @@
+//! What a picture is drawn of, and where.
+ghost use Rattle.std.specs.Prelude.{◌≤◌, length};
+
+use crate::words::answer_in;
+use abt_chart::Chart;
+use abt_layout::{Actor, Rows, Spot, x_of, y_of};
+use abt_net::Net;
+use abt_svg::Point;
+use abt_wording::push_event;
+use std::alloc::{AllocError, Global};
+
+// How far the columns are apart, in tenths of a unit, where there are few, some and many.
+const STEP_WIDE: u32 = 1100;
+
+const STEP_MIDDLE: u32 = 720;
+
+const STEP_NARROW: u32 = 460;
+
+// How many signs of a row's words have room, and how wide a sign is.
+const SIGNS_MAX: usize = 66;
+
+const SIGN_WIDTH: u32 = 42;
+
+// How wide a picture is at least.
+const WIDTH_MIN: u64 = 6000;
+
+/// What a picture is drawn of, and where its columns and rows are.
+#[derive(Clone, Copy)]
+pub(crate) struct Sheet<'a> {
+    pub(crate) alloc: Global,
+    pub(crate) net: &'a Net,
+    pub(crate) chart: &'a Chart,
+    pub(crate) columns: &'a [Actor],
+    pub(crate) rows: Rows,
+    /// The middle of the first column.
+    pub(crate) left: u32,
+    /// From one column to the next.
+    pub(crate) step: u32,
+    ghost columns_few: { length columns.now ≤ 1024 },
+    ghost rows_few: { rows.count ≤ 2000 },
+}
+
+/// How far so many columns are apart.
+pub(crate) fn step_of(columns: usize) -> u32 {
+    if columns <= 6 {
+        STEP_WIDE
+    } else if columns <= 12 {
+        STEP_MIDDLE
+    } else {
+        STEP_NARROW
+    }
+}
+
+impl Sheet<'_> {
+    /// The point of a column and a level.
+    pub(crate) fn point(&self, spot: Spot) -> Point {
+        Point {
+            x: self.x(spot.column),
+            y: y_of(spot.level),
+        }
+    }
+
+    /// The middle of a column.
+    pub(crate) fn x(&self, column: u32) -> u64 {
+        x_of(self.left, self.step, column)
+    }
+
+    /// A place beside the lifelines, between them and the words of the rows.
+    pub(crate) fn beside(&self) -> u64 {
+        u64::from(self.left.saturating_sub(self.step / 2).saturating_sub(20))
+    }
+
+    /// The right edge of the picture.
+    pub(crate) fn width(&self) -> u64 {
+        let columns = self.columns.len() as u32;
+        self.x(columns).max(WIDTH_MIN)
+    }
+
+    /// The lower edge of the chart of messages.
+    pub(crate) fn bottom(&self) -> u64 {
+        y_of(self.rows.count.saturating_add(1))
+    }
+}
+
+/// Where the middle of the first column is: behind the words of the rows.
+pub(crate) fn left_of(
+    alloc: Global,
+    chart: &Chart,
+    rows: Rows,
+    step: u32,
+    explanation: &str,
+) -> Result<u32, AllocError> {
+    let mut signs: usize = 16;
+    for (event, told) in chart.told.as_slice().iter().enumerate() {
+        if event < rows.first || event - rows.first >= rows.count as usize {
+            continue;
+        }
+        let mut words = String::new(alloc);
+        push_event(&mut words, &told.event)?;
+        signs = signs.max(words.len().saturating_add(6));
+    }
+    let mut rest = explanation;
+    for event in 0..chart.told.len() {
+        let (line, behind) = line_of(rest);
+        rest = behind;
+        if event >= rows.first && event - rows.first < rows.count as usize {
+            signs = signs.max(answer_in(line).len());
+        }
+    }
+    let signs = signs.min(SIGNS_MAX) as u32;
+    Ok(signs * SIGN_WIDTH + step / 2 + 100)
+}
+
+/// The first line of a text, and what stands behind it.
+pub(crate) fn line_of(text: &str) -> (&str, &str) {
+    match text.split_once("\n") {
+        Some(cut) => cut,
+        None => (text, ""),
+    }
+}

@@ -1,0 +1,83 @@
+//! The words that stand in a picture.
+use crate::sheet::Sheet;
+use abt_arrows::{Kind, Message, Told};
+use abt_rate::Rate;
+use abt_world::Outcome;
+use std::alloc::{AllocError, Global};
+
+// How many signs of an answer stand in a picture at most.
+const SIGNS_MAX: usize = 64;
+
+/// The words beside an arrow: what it is, the number of its request, and the rate that was asked for.
+pub(crate) fn message_words(
+    sheet: &Sheet<'_>,
+    message: &Message,
+    again: bool,
+    late: bool,
+) -> Result<String, AllocError> {
+    let alloc = sheet.alloc;
+    let kind = kind_word(message.kind);
+    let seq = message.seq;
+    let mut words = format!(in alloc; "{kind}{seq}")?;
+    if let Some(rate) = asked_rate(sheet.chart.told.as_slice(), message) {
+        let rate = short_rate(alloc, rate.units())?;
+        write!(words, ": {rate}")?;
+    }
+    if again {
+        words.push_str(" again")?;
+    }
+    if late {
+        words.push_str(" late")?;
+    }
+    Ok(words)
+}
+
+fn kind_word(kind: Kind) -> &'static str {
+    match kind {
+        Kind::Request => "",
+        Kind::Yes => "yes ",
+        Kind::No => "no ",
+    }
+}
+
+// The rate for which the request of a message asked.
+fn asked_rate(told: &[Told], message: &Message) -> Option<Rate> {
+    for event in told {
+        if let Outcome::Asked(request) | Outcome::Repeated(request) = event.outcome {
+            if request.seq() == message.seq && event.event.conn() == Some(message.conn) {
+                return Some(request.ask());
+            }
+        }
+    }
+    None
+}
+
+/// A rate in whole cells per second, with a sign behind it where more than that is meant.
+pub(crate) fn short_rate(alloc: Global, units: u64) -> Result<String, AllocError> {
+    let whole = units / 512;
+    let more = if units % 512 == 0 { "" } else { "+" };
+    format!(in alloc; "{whole}{more}")
+}
+
+/// The answer in the line of an explanation: what stands behind its first colon.
+pub(crate) fn answer_in(line: &str) -> &str {
+    match line.split_once(": ") {
+        Some((_, answer)) => answer,
+        None => line,
+    }
+}
+
+/// The beginning of a text, with a sign behind it where it goes on.
+pub(crate) fn clipped(alloc: Global, text: &str) -> Result<String, AllocError> {
+    let mut out = String::new(alloc);
+    let mut signs: usize = 0;
+    for sign in text.chars() {
+        if signs == SIGNS_MAX {
+            out.push_str("..")?;
+            return Ok(out);
+        }
+        out.push(sign)?;
+        signs = signs.saturating_add(1);
+    }
+    Ok(out)
+}
