@@ -9,11 +9,11 @@ _abt() {
         rate) COMPREPLY=($(compgen -W "--json -h --help" -- "$word")) ;;
         cell) COMPREPLY=($(compgen -W "--json --stdin -h --help" -- "$word")) ;;
         port) COMPREPLY=($(compgen -W "--stdin -h --help" -- "$word")) ;;
-        run) COMPREPLY=($(compgen -f -W "--json --explain -h --help" -- "$word")) ;;
-        threads) COMPREPLY=($(compgen -f -W "--workers --journals --explain -h --help" -- "$word")) ;;
-        explain) COMPREPLY=($(compgen -f -W "--json -h --help" -- "$word")) ;;
+        run) COMPREPLY=($(compgen -f -W "--json --explain --quiet -h --help" -- "$word")) ;;
+        threads) COMPREPLY=($(compgen -f -W "--workers --journals --explain --quiet -h --help" -- "$word")) ;;
+        explain) COMPREPLY=($(compgen -f -W "--json --quiet -h --help" -- "$word")) ;;
         check) COMPREPLY=($(compgen -f -W "--json -h --help" -- "$word")) ;;
-        audit) COMPREPLY=($(compgen -f -W "-h --help" -- "$word")) ;;
+        audit) COMPREPLY=($(compgen -f -W "--quiet -h --help" -- "$word")) ;;
         police) COMPREPLY=($(compgen -W "--tau --rate -h --help" -- "$word")) ;;
         shape) COMPREPLY=($(compgen -W "--rate -h --help" -- "$word")) ;;
         code) COMPREPLY=($(compgen -W "-h --help" -- "$word")) ;;

@@ -24,19 +24,23 @@ complete -c abt -n '__fish_seen_subcommand_from port' -l stdin -d 'Take cells fr
 complete -c abt -n '__fish_seen_subcommand_from port' -s h -l help -d 'Print help'
 complete -c abt -n '__fish_seen_subcommand_from run' -l json -d 'Answer as JSON, one object a line'
 complete -c abt -n '__fish_seen_subcommand_from run' -l explain -d 'Tell on standard error, behind the run\'s fault, what abt check says of the scenario'
+complete -c abt -n '__fish_seen_subcommand_from run' -l quiet -d 'Draw no progress line; one is drawn on standard error where that is a terminal'
 complete -c abt -n '__fish_seen_subcommand_from run' -s h -l help -d 'Print help'
 complete -c abt -n '__fish_seen_subcommand_from run' -F
 complete -c abt -n '__fish_seen_subcommand_from threads' -l workers -x -d 'How many link workers carry messages between ports: 1 to 64'
 complete -c abt -n '__fish_seen_subcommand_from threads' -l journals -x -d 'Write the journals of the run to this file, once it is shown to be woven and safe'
 complete -c abt -n '__fish_seen_subcommand_from threads' -l explain -d 'Tell on standard error, behind the run\'s fault, what abt check says of the scenario'
+complete -c abt -n '__fish_seen_subcommand_from threads' -l quiet -d 'Draw no progress line; one is drawn on standard error where that is a terminal'
 complete -c abt -n '__fish_seen_subcommand_from threads' -s h -l help -d 'Print help'
 complete -c abt -n '__fish_seen_subcommand_from threads' -F
 complete -c abt -n '__fish_seen_subcommand_from explain' -l json -d 'Answer as JSON, one object a line'
+complete -c abt -n '__fish_seen_subcommand_from explain' -l quiet -d 'Draw no progress line; one is drawn on standard error where that is a terminal'
 complete -c abt -n '__fish_seen_subcommand_from explain' -s h -l help -d 'Print help'
 complete -c abt -n '__fish_seen_subcommand_from explain' -F
 complete -c abt -n '__fish_seen_subcommand_from check' -l json -d 'Answer as JSON, one object a line'
 complete -c abt -n '__fish_seen_subcommand_from check' -s h -l help -d 'Print help'
 complete -c abt -n '__fish_seen_subcommand_from check' -F
+complete -c abt -n '__fish_seen_subcommand_from audit' -l quiet -d 'Draw no progress line; one is drawn on standard error where that is a terminal'
 complete -c abt -n '__fish_seen_subcommand_from audit' -s h -l help -d 'Print help'
 complete -c abt -n '__fish_seen_subcommand_from audit' -F
 complete -c abt -n '__fish_seen_subcommand_from police' -l tau -x -d 'The tolerance in picoseconds, at most 10^12'

@@ -3,16 +3,48 @@
 #![tactic(auto)]
 
 use abt_commands::answer_words;
+use abt_progress::{Cleared, Progress, Watched};
 use abt_tasks::{carry_out_task, given_task};
+use std::env;
+use std::io::IsTerminal;
 use std::process::ExitCode;
 
 fn main(rt: HostRuntime) -> ExitCode {
-    let mut input = rt.stdin();
-    let mut out = rt.stdout();
-    let mut errors = rt.stderr();
-    let status = match given_task(&rt) {
-        Ok(task) => carry_out_task(&rt, &task, &mut input, &mut out, &mut errors),
-        Err(fault) => answer_words(&fault, &mut out, &mut errors),
+    let asked = match given_task(&rt) {
+        Ok(asked) => asked,
+        Err(fault) => {
+            let status = answer_words(&fault, &mut rt.stdout(), &mut rt.stderr());
+            return ExitCode::from(status);
+        }
     };
+    let terminal = if asked.shows_progress() && draws_lines(&rt) {
+        Some(rt.stderr())
+    } else {
+        None
+    };
+    let progress = Progress::new(rt.alloc(), terminal);
+    let mut input = Watched::new(rt.stdin(), &progress);
+    let mut out = Cleared::new(rt.stdout(), &progress);
+    let mut errors = Cleared::new(rt.stderr(), &progress);
+    let status = carry_out_task(
+        &rt,
+        &progress,
+        &asked.task,
+        &mut input,
+        &mut out,
+        &mut errors,
+    );
+    progress.clear();
     ExitCode::from(status)
+}
+
+// Whether standard error is a terminal on which a line can be drawn anew.
+fn draws_lines(rt: &HostRuntime) -> bool {
+    if !rt.stderr().is_terminal() {
+        return false;
+    }
+    match env::var(rt, "TERM") {
+        Ok(kind) => kind.as_str() != "dumb",
+        Err(_) => false,
+    }
 }

@@ -7,6 +7,9 @@ use std::alloc::{AllocError, Global};
 // The files of `abt audit`.
 const FILES: &str = "FILES";
 
+// Whether nothing is shown of how far it is.
+const QUIET: &str = "quiet";
+
 /// Adds `audit` to the commands of a program.
 pub fn add_commands<'a>(alloc: Global, program: Command<'a>) -> Result<Command<'a>, AllocError> {
     program.subcommand(audit_command(alloc)?)
@@ -18,10 +21,15 @@ fn audit_command<'a>(alloc: Global) -> Result<Command<'a>, AllocError> {
         .action(ArgAction::Append)
         .num_args(0..)
         .help("The journals, as JSON Lines; without a file they are read from the standard input");
+    let quiet = Arg::new(alloc, QUIET)
+        .long("quiet")
+        .action(ArgAction::SetTrue)
+        .help("Draw no progress line; one is drawn on standard error where that is a terminal");
     Command::new(alloc, "audit")
         .about("Say whether journals are those of one safe run")
         .after_help(AUDIT_EXAMPLE)
-        .arg(files)
+        .arg(files)?
+        .arg(quiet)
 }
 
 /// The plan that the words behind a command's name ask for, or `None` if the command isn't this.

@@ -9,6 +9,7 @@ ghost use Rattle.abt_commands.specs.Carried.{IsDone, IsRefused, IsDoneHere, IsRe
 
 use abt_perform::{MEMORY_LINE, OPEN_LINE, Plan, perform, tell_text};
 use abt_perform_threads::perform_threads;
+use abt_progress::{Progress, Watched};
 use std::alloc::{AllocGlobal, Global};
 use std::fs::File;
 use std::io::{Error, ErrorKind, Read, Write};
@@ -16,9 +17,11 @@ use std::rt::Files;
 use std::sync::Wait;
 use std::thread::Threads;
 
-/// Carries a plan out over the file that it names, or else over an input that is there, and gives the exit status.
-pub fn carry_out<T, R: Read, W: Write, E: Write>(
+/// Carries a plan out over the file that it names, or else over an input that is there, and gives the exit status. How far it has read
+/// its file is counted.
+pub fn carry_out<T, R: Read, W: Write, E: Write, P: Write + Drop>(
     rt: &T,
+    progress: &Progress<P>,
     plan: &Plan,
     input: &mut R,
     out: &mut W,
@@ -38,7 +41,10 @@ where
         return carry_out_over(rt, rt.alloc(), plan, input, out, errors);
     };
     match File::open(rt, name) {
-        Ok(mut file) => carry_out_over(rt, rt.alloc(), plan, &mut file, out, errors),
+        Ok(file) => {
+            let mut file = Watched::new(file, progress);
+            carry_out_over(rt, rt.alloc(), plan, &mut file, out, errors)
+        }
         Err(error) => {
             tell_text(errors, line_of_unopened(&error));
             1

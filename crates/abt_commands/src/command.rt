@@ -27,6 +27,9 @@ pub const EXPLAIN: &str = "explain";
 /// How many link workers `abt threads` has.
 pub const WORKERS: &str = "workers";
 
+/// Whether `abt run` or `abt threads` shows nothing of how far it is.
+pub const QUIET: &str = "quiet";
+
 /// The file for the journals of `abt threads`.
 pub const JOURNALS: &str = "journals";
 
@@ -102,7 +105,8 @@ fn run_command<'a>(alloc: Global) -> Result<Command<'a>, AllocError> {
         .after_help(RUN_EXAMPLE)
         .arg(file_argument(alloc))?
         .arg(json_flag(alloc))?
-        .arg(explain_flag(alloc).conflicts_with(JSON)?)
+        .arg(explain_flag(alloc).conflicts_with(JSON)?)?
+        .arg(quiet_flag(alloc))
 }
 
 fn threads_command<'a>(alloc: Global) -> Result<Command<'a>, AllocError> {
@@ -123,7 +127,8 @@ fn threads_command<'a>(alloc: Global) -> Result<Command<'a>, AllocError> {
         .arg(file_argument(alloc))?
         .arg(workers)?
         .arg(journals)?
-        .arg(explain_flag(alloc))
+        .arg(explain_flag(alloc))?
+        .arg(quiet_flag(alloc))
 }
 
 fn explain_flag<'a>(alloc: Global) -> Arg<'a> {
@@ -131,6 +136,13 @@ fn explain_flag<'a>(alloc: Global) -> Arg<'a> {
         .long("explain")
         .action(ArgAction::SetTrue)
         .help("Tell on standard error, behind the run's fault, what abt check says of the scenario")
+}
+
+fn quiet_flag<'a>(alloc: Global) -> Arg<'a> {
+    Arg::new(alloc, QUIET)
+        .long("quiet")
+        .action(ArgAction::SetTrue)
+        .help("Draw no progress line; one is drawn on standard error where that is a terminal")
 }
 
 fn file_argument<'a>(alloc: Global) -> Arg<'a> {

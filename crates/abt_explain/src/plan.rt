@@ -9,6 +9,9 @@ const FILE: &str = "FILE";
 // Whether the explanation is to be JSON, for which the plan isn't this crate's.
 const JSON: &str = "json";
 
+// Whether nothing is shown of how far it is.
+const QUIET: &str = "quiet";
+
 /// What the words of `abt explain` ask for: to explain the scenario of this file, or of the standard input.
 #[derive(Drop)]
 pub struct ExplainPlan {
@@ -24,11 +27,16 @@ pub fn add_commands<'a>(alloc: Global, program: Command<'a>) -> Result<Command<'
         .long("json")
         .action(ArgAction::SetTrue)
         .help("Answer as JSON, one object a line");
+    let quiet = Arg::new(alloc, QUIET)
+        .long("quiet")
+        .action(ArgAction::SetTrue)
+        .help("Draw no progress line; one is drawn on standard error where that is a terminal");
     let explain = Command::new(alloc, "explain")
         .about("Run a scenario, and tell each of its events with its line and its reason")
         .after_help(EXAMPLE)
         .arg(file)?
-        .arg(json)?;
+        .arg(json)?
+        .arg(quiet)?;
     program.subcommand(explain)
 }
 

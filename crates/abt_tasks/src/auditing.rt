@@ -6,14 +6,16 @@ ghost use Rattle.abt_tasks.specs.Audits.{IsAuditedHere, IsUnauditedHere};
 use abt_audit::{AuditPlan, perform_audit};
 use abt_commands::line_of_unopened;
 use abt_perform::{MEMORY_LINE, tell_text};
+use abt_progress::{Progress, Watched};
 use std::alloc::{AllocGlobal, Global};
 use std::fs::File;
 use std::io::{self, Error, ErrorKind, Read, Write};
 use std::rt::Files;
 
 // Audits the journals of the files that a plan names, or else of an input that is there, and gives the exit status.
-pub(crate) fn audit<T: Files + AllocGlobal, R: Read, W: Write, E: Write>(
+pub(crate) fn audit<T: Files + AllocGlobal, R: Read, W: Write, E: Write, P: Write + Drop>(
     rt: &T,
+    progress: &Progress<P>,
     plan: &AuditPlan,
     input: &mut R,
     out: &mut W,
@@ -29,7 +31,7 @@ pub(crate) fn audit<T: Files + AllocGlobal, R: Read, W: Write, E: Write>(
         AuditPlan::Input => return audit_input(rt.alloc(), input, out, errors),
         AuditPlan::Files(names) => names.as_slice(),
     };
-    match open_all(rt, names) {
+    match open_all(rt, progress, names) {
         Ok(files) => perform_audit(rt.alloc(), names, files, out, errors),
         Err(error) => {
             tell_text(errors, line_of_unopened(&error));
@@ -59,14 +61,18 @@ fn audit_input<R: Read, W: Write, E: Write>(
     perform_audit(alloc, &[], readers, out, errors)
 }
 
-// The files of these names, in their order.
-fn open_all<T: Files + AllocGlobal>(rt: &T, names: &[String]) -> io::Result<Vec<T::File>>
+// The files of these names, in their order, counted as they are read.
+fn open_all<'a, T: Files + AllocGlobal, P: Write + Drop>(
+    rt: &T,
+    progress: &'a Progress<P>,
+    names: &[String],
+) -> io::Result<Vec<Watched<'a, T::File, P>>>
     ensures { IfOk result (λ files. length files.items ≡ length names.now) }
 {
     let mut files = Vec::new(rt.alloc());
     for name in names {
         let file = File::open(rt, name.as_str())?;
-        if files.push(file).is_err() {
+        if files.push(Watched::new(file, progress)).is_err() {
             return Err(Error::from(ErrorKind::OutOfMemory));
         }
     }

@@ -12,6 +12,7 @@ use crate::task::Task;
 use abt_codes::perform_codes;
 use abt_commands::carry_out;
 use abt_parts::perform_parts;
+use abt_progress::Progress;
 use std::alloc::AllocGlobal;
 use std::io::{Read, Write};
 use std::rt::Files;
@@ -19,9 +20,10 @@ use std::sync::Wait;
 use std::thread::Threads;
 
 /// Carries a task out over the files that it names, or else over an input that is there, and gives the exit status: 0 where it is
-/// done, and 1 where a line on `errors` tells why not, or a check tells a fault.
-pub fn carry_out_task<T, R: Read, W: Write, E: Write>(
+/// done, and 1 where a line on `errors` tells why not, or a check tells a fault. What is read of files that may be long is counted.
+pub fn carry_out_task<T, R: Read, W: Write, E: Write, P: Write + Drop>(
     rt: &T,
+    progress: &Progress<P>,
     task: &Task,
     input: &mut R,
     out: &mut W,
@@ -38,13 +40,13 @@ where
         (E.contents errors.old) (E.contents errors.new) }
 {
     match task {
-        Task::Plan(plan) => carry_out(rt, plan, input, out, errors),
-        Task::Checked(plan) => carry_out_checked(rt, plan, input, out, errors),
-        Task::Keep(plan) => keep(rt, plan, input, out, errors),
-        Task::Explain(plan) => explain(rt, plan, input, out, errors),
+        Task::Plan(plan) => carry_out(rt, progress, plan, input, out, errors),
+        Task::Checked(plan) => carry_out_checked(rt, progress, plan, input, out, errors),
+        Task::Keep(plan) => keep(rt, progress, plan, input, out, errors),
+        Task::Explain(plan) => explain(rt, progress, plan, input, out, errors),
         Task::Check(plan) => check(rt, plan, input, out, errors),
-        Task::Json(plan) => say_as_json(rt, plan, input, out, errors),
-        Task::Audit(plan) => audit(rt, plan, input, out, errors),
+        Task::Json(plan) => say_as_json(rt, progress, plan, input, out, errors),
+        Task::Audit(plan) => audit(rt, progress, plan, input, out, errors),
         Task::Parts(plan) => perform_parts(rt.alloc(), plan, input, out, errors),
         Task::Codes(plan) => perform_codes(rt.alloc(), plan, out, errors),
     }

@@ -12,6 +12,7 @@ use crate::opening::{open_named, tell_unopened};
 use abt_check::answer_of;
 use abt_commands::carry_out_over;
 use abt_perform::{Fault, Plan, tell_fault, tell_text};
+use abt_progress::{Progress, Watched};
 use abt_text::{TextFault, octets_of};
 use std::alloc::{AllocGlobal, Global};
 use std::io::{Read, Write};
@@ -21,8 +22,9 @@ use std::thread::Threads;
 
 // Carries a plan out over the file that it names, or else over an input that is there, tells a check of that text besides, and gives the
 // plan's exit status.
-pub(crate) fn carry_out_checked<T, R: Read, W: Write, E: Write>(
+pub(crate) fn carry_out_checked<T, R: Read, W: Write, E: Write, P: Write + Drop>(
     rt: &T,
+    progress: &Progress<P>,
     plan: &Plan,
     input: &mut R,
     out: &mut W,
@@ -42,7 +44,10 @@ where
         return over_reader(rt, rt.alloc(), plan, input, out, errors);
     };
     match open_named(rt, name) {
-        Ok(mut file) => over_reader(rt, rt.alloc(), plan, &mut file, out, errors),
+        Ok(file) => {
+            let mut file = Watched::new(file, progress);
+            over_reader(rt, rt.alloc(), plan, &mut file, out, errors)
+        }
         Err(unopened) => {
             tell_unopened(name, unopened, errors);
             1

@@ -2,16 +2,16 @@
 ghost use Rattle.std.specs.Prelude.{IfOk};
 ghost use Rattle.abt_tasks.specs.Tasks.{IsAllowed};
 
-use crate::task::Task;
+use crate::asked::Asked;
 use crate::words::task_words;
 use abt_perform::WordsFault;
 use std::alloc::AllocGlobal;
 use std::env::{self, Env};
 use std::io::ErrorKind;
 
-/// The task that the process's words behind the program's name ask for. Words that aren't text are refused.
-pub fn given_task<R: Env + AllocGlobal>(rt: &R) -> Result<Task, WordsFault>
-    ensures limits { IfOk result IsAllowed }
+/// What the process's words behind the program's name ask for. Words that aren't text are refused.
+pub fn given_task<R: Env + AllocGlobal>(rt: &R) -> Result<Asked, WordsFault>
+    ensures limits { IfOk result (λ asked. IsAllowed asked.task) }
 {
     let alloc = rt.alloc();
     let words = match env::args(rt) {

@@ -7,13 +7,15 @@ ghost use Rattle.abt_tasks.specs.Tasks as tasks;
 
 use crate::opening::{open_named, tell_unopened};
 use abt_explain::{ExplainPlan, perform_explain};
+use abt_progress::{Progress, Watched};
 use std::alloc::AllocGlobal;
 use std::io::{Read, Write};
 use std::rt::Files;
 
 // Explains the scenario of the file that a plan names, or else of an input that is there, and gives the exit status.
-pub(crate) fn explain<T: Files + AllocGlobal, R: Read, W: Write, E: Write>(
+pub(crate) fn explain<T: Files + AllocGlobal, R: Read, W: Write, E: Write, P: Write + Drop>(
     rt: &T,
+    progress: &Progress<P>,
     plan: &ExplainPlan,
     input: &mut R,
     out: &mut W,
@@ -30,7 +32,10 @@ pub(crate) fn explain<T: Files + AllocGlobal, R: Read, W: Write, E: Write>(
         return perform_explain(rt.alloc(), plan, input, out, errors);
     };
     match open_named(rt, name) {
-        Ok(mut file) => perform_explain(rt.alloc(), plan, &mut file, out, errors),
+        Ok(file) => {
+            let mut file = Watched::new(file, progress);
+            perform_explain(rt.alloc(), plan, &mut file, out, errors)
+        }
         Err(unopened) => {
             tell_unopened(name, unopened, errors);
             1

@@ -9,6 +9,7 @@ use crate::opening::{open_named, tell_unopened};
 use abt_commands::{CODE, FILE, HEX, JSON, line_of_unopened};
 use abt_json::{JsonPlan, perform_json};
 use abt_perform::{WordsFault, tell_text};
+use abt_progress::{Progress, Watched};
 use clap::ArgMatches;
 use std::alloc::{AllocError, AllocGlobal, Global};
 use std::fs::File;
@@ -46,8 +47,9 @@ fn text_of(alloc: Global, found: &ArgMatches<'_>, id: &str) -> Result<String, Al
 }
 
 // Says as JSON what a plan asks for, over the file that it names or over an input that is there, and gives the exit status.
-pub(crate) fn say_as_json<T: Files + AllocGlobal, R: Read, W: Write, E: Write>(
+pub(crate) fn say_as_json<T: Files + AllocGlobal, R: Read, W: Write, E: Write, P: Write + Drop>(
     rt: &T,
+    progress: &Progress<P>,
     plan: &JsonPlan,
     input: &mut R,
     out: &mut W,
@@ -61,14 +63,15 @@ pub(crate) fn say_as_json<T: Files + AllocGlobal, R: Read, W: Write, E: Write>(
         (E.contents errors.old) (E.contents errors.new) }
 {
     match file_of(plan) {
-        Some(name) => say_named(rt, plan, name, out, errors),
+        Some(name) => say_named(rt, progress, plan, name, out, errors),
         None => perform_json(rt.alloc(), plan, input, out, errors),
     }
 }
 
 // The same over the file of this name.
-fn say_named<T: Files + AllocGlobal, W: Write, E: Write>(
+fn say_named<T: Files + AllocGlobal, W: Write, E: Write, P: Write + Drop>(
     rt: &T,
+    progress: &Progress<P>,
     plan: &JsonPlan,
     name: &str,
     out: &mut W,
@@ -81,9 +84,9 @@ fn say_named<T: Files + AllocGlobal, W: Write, E: Write>(
         (E.contents errors.old) (E.contents errors.new) }
 {
     if explains(plan) {
-        explain_named(rt, plan, name, out, errors)
+        explain_named(rt, progress, plan, name, out, errors)
     } else {
-        run_named(rt, plan, name, out, errors)
+        run_named(rt, progress, plan, name, out, errors)
     }
 }
 
@@ -95,8 +98,9 @@ fn explains(plan: &JsonPlan) -> bool
 }
 
 // The same, where nothing is told of a file that can't be opened but its fault.
-fn run_named<T: Files + AllocGlobal, W: Write, E: Write>(
+fn run_named<T: Files + AllocGlobal, W: Write, E: Write, P: Write + Drop>(
     rt: &T,
+    progress: &Progress<P>,
     plan: &JsonPlan,
     name: &str,
     out: &mut W,
@@ -109,7 +113,10 @@ fn run_named<T: Files + AllocGlobal, W: Write, E: Write>(
         (E.contents errors.old) (E.contents errors.new) }
 {
     match File::open(rt, name) {
-        Ok(mut file) => perform_json(rt.alloc(), plan, &mut file, out, errors),
+        Ok(file) => {
+            let mut file = Watched::new(file, progress);
+            perform_json(rt.alloc(), plan, &mut file, out, errors)
+        }
         Err(error) => {
             tell_text(errors, line_of_unopened(&error));
             1
@@ -118,8 +125,9 @@ fn run_named<T: Files + AllocGlobal, W: Write, E: Write>(
 }
 
 // The same, where it is told why a file can't be opened.
-fn explain_named<T: Files + AllocGlobal, W: Write, E: Write>(
+fn explain_named<T: Files + AllocGlobal, W: Write, E: Write, P: Write + Drop>(
     rt: &T,
+    progress: &Progress<P>,
     plan: &JsonPlan,
     name: &str,
     out: &mut W,
@@ -132,7 +140,10 @@ fn explain_named<T: Files + AllocGlobal, W: Write, E: Write>(
         (E.contents errors.old) (E.contents errors.new) }
 {
     match open_named(rt, name) {
-        Ok(mut file) => perform_json(rt.alloc(), plan, &mut file, out, errors),
+        Ok(file) => {
+            let mut file = Watched::new(file, progress);
+            perform_json(rt.alloc(), plan, &mut file, out, errors)
+        }
         Err(unopened) => {
             tell_unopened(name, unopened, errors);
             1

@@ -10,6 +10,7 @@ ghost use Rattle.abt_tasks.specs.Keeping as spec;
 use abt_commands::{FILE, JOURNALS, line_of_unopened, workers_of};
 use abt_perform::{Fault, WordsFault, tell_fault, tell_text};
 use abt_perform_threads::{KeepPlan, Unrun, keep_run};
+use abt_progress::{Progress, Watched};
 use clap::ArgMatches;
 use std::alloc::{AllocGlobal, Global};
 use std::fs::File;
@@ -47,8 +48,9 @@ pub(crate) fn keep_plan_of(
 
 // Runs the scenario of the file that a plan names, or else of an input that is there, writes its journals to the file for them, and gives
 // the exit status.
-pub(crate) fn keep<T, R: Read, W: Write, E: Write>(
+pub(crate) fn keep<T, R: Read, W: Write, E: Write, P: Write + Drop>(
     rt: &T,
+    progress: &Progress<P>,
     plan: &KeepPlan,
     input: &mut R,
     out: &mut W,
@@ -67,7 +69,7 @@ where
         return keep_over(rt, plan, input, out, errors);
     };
     match File::open(rt, name) {
-        Ok(mut file) => keep_over(rt, plan, &mut file, out, errors),
+        Ok(file) => keep_over(rt, plan, &mut Watched::new(file, progress), out, errors),
         Err(error) => {
             tell_text(errors, line_of_unopened(&error));
             1

@@ -1,6 +1,7 @@
 //! What the program does from its words on: the commands of all crates behind one command line, and what each is carried out by.
 #![tactic(auto)]
 
+mod asked;
 mod auditing;
 mod carrying;
 mod checked;
@@ -14,6 +15,7 @@ mod streams;
 mod task;
 mod words;
 
+pub use asked::Asked;
 pub use carrying::carry_out_task;
 pub use environment::given_task;
 pub use task::Task;

@@ -2,28 +2,36 @@
 ghost use Rattle.std.specs.Prelude.{IfOk};
 ghost use Rattle.abt_tasks.specs.Tasks.{IsAllowed};
 
+use crate::asked::Asked;
 use crate::json::json_plan_of;
 use crate::keeping::keep_plan_of;
 use crate::streams::stream_of;
 use crate::task::Task;
-use abt_commands::{EXPLAIN, add_commands, no_plan, plan_of, program, refusal};
+use abt_commands::{EXPLAIN, QUIET, add_commands, no_plan, plan_of, program, refusal};
 use abt_perform::{Plan, WordsFault};
 use clap::{ArgMatches, Command};
 use std::alloc::{AllocError, Global};
 
-/// The task that the words behind the program's name ask for.
+/// What the words behind the program's name ask for.
 ///
 /// `clap` decides which words are refused, and writes what is told then, and the help.
-pub fn task_words<'a>(alloc: Global, words: &'a [&'a str]) -> Result<Task, WordsFault>
-    ensures limits { IfOk result IsAllowed }
+pub fn task_words<'a>(alloc: Global, words: &'a [&'a str]) -> Result<Asked, WordsFault>
+    ensures limits { IfOk result (λ asked. IsAllowed asked.task) }
 {
     let matches = match whole_program(alloc)?.try_get_matches_from(words) {
         Ok(matches) => matches,
         Err(error) => return Err(refusal(alloc, &error)),
     };
     match matches.subcommand() {
-        Some((name, found)) => task_of(alloc, name, found),
-        None => no_task(alloc),
+        Some((name, found)) => {
+            let task = task_of(alloc, name, found)?;
+            let quiet = found.get_flag(QUIET);
+            Ok(Asked { task, quiet })
+        }
+        None => {
+            let task = no_task(alloc)?;
+            Ok(Asked { task, quiet: true })
+        }
     }
 }
 
