@@ -2,7 +2,7 @@
 use Rattle.std.proofs.Common.{◌≡◌, ◌⊎◌, inl, inr, List, map, Option, refl, subst}
 use Rattle.std.specs.Prelude.{String}
 use Rattle.std.specs.declared.alloc.Global.{Global}
-use Rattle.std.specs.Io.KnownBytes.{Keeps}
+use Rattle.std.specs.Io.KnownBytes.{Appends, Keeps}
 use Rattle.abt_text.specs.Text.{Text}
 use Rattle.abt_text.specs.Streams.{AppendsPrefix}
 use Rattle.abt_journal.specs.declared.entry.Entry.{Entry}
@@ -14,10 +14,11 @@ use Rattle.abt_journal_text.specs.Books.{Told, IsToldRun, blank, journal_of}
 use Rattle.abt_journal_text.specs.Entering.{IsOwn}
 use Rattle.abt_journal_text.specs.declared.fault.TextFault.{TextFault}
 use Rattle.abt_journal_text.specs.declared.run.Run.{Run}
-use Rattle.abt_audit.specs.Audits.{AreRead, IsUnreadAmong, IsAudited, IsSafelyTold, IsReadAs, journals_of}
-use Rattle.abt_audit.specs.Performing.{IsStuckRun, IsNoRun, EndsBy, shown_text}
+use Rattle.abt_audit.specs.Audits.{AreRead, IsUnreadAmong, IsAudited, IsToldAs, IsSafelyTold, IsReadAs, journals_of}
+use Rattle.abt_audit.specs.Performing.{IsStuckRun, IsNoRun, EndsBy, IsShownAs, IsShownWhole, shown_text}
 use Rattle.abt_audit.specs.Protocol.{fault_lines}
 use Rattle.abt_audit.specs.declared.auditing.Audited.{Audited}
+use Rattle.abt_audit.specs.declared.auditing.AuditedRun.{AuditedRun}
 use Rattle.abt_audit.specs.declared.fault.AuditFault.{AuditFault}
 use Rattle.abt_audit.specs.declared.fault.AuditFault.TheVariants as fault
 
@@ -27,12 +28,10 @@ as_told P told run r p =
     subst (λ (ports : List (List Entry)). P (record { ports = ports; sources = map journal_of told.sources })) r.ports
     (subst (λ (sources : List SourceJournal). P (record { ports = run.journals; sources = sources })) r.sources p)
 
-pub safely_told : (told : Told) (run : Run) (audited : Audited) → IsToldRun told run
-    → IsAudited run.net (record { ports = run.journals; sources = run.sources.items }) audited → IsSafelyTold told
-safely_told told run audited r p = record {
-  net = run.net;
+pub told_as : (told : Told) (run : Run) (audited : Audited) → IsToldRun told run
+    → IsAudited run.net (record { ports = run.journals; sources = run.sources.items }) audited → IsToldAs told (record { net = run.net; audited = audited })
+told_as told run audited r p = record {
   net_told = r.net;
-  audited = audited;
   is_audited = as_told (λ (journals : Journaled). IsAudited run.net journals audited) told run r p;
 }
 
@@ -60,6 +59,17 @@ pub ends_judging : (names : List (String Global)) (lefts : List (Option Text)) (
     → AreRead 1 blank lefts told → IsNoRun names told why → EndsBy names lefts why old old
 ends_judging names lefts told why old keeps read none = inr (inl (read_as lefts told (λ t. IsNoRun names t why) read none, keeps))
 
-pub ends_writing : (names : List (String Global)) (lefts : List (Option Text)) (told : Told) (old new : Option Text)
-    → AreRead 1 blank lefts told → IsSafelyTold told → AppendsPrefix old new shown_text → EndsBy names lefts fault.Write old new
-ends_writing names lefts told old new read safe part = inr (inr (inr (refl, read_as lefts told IsSafelyTold read safe, part)))
+pub ends_writing : (names : List (String Global)) (lefts : List (Option Text)) (told : Told) (run : AuditedRun) (old new : Option Text)
+    → AreRead 1 blank lefts told → IsToldAs told run → AppendsPrefix old new shown_text → EndsBy names lefts fault.Write old new
+ends_writing names lefts told run old new read is part =
+    inr (inr (inr (refl, read_as lefts told IsSafelyTold read (record { run = run; is = is }), part)))
+
+pub shown_as : (lefts : List (Option Text)) (told : Told) (run : AuditedRun) (old new : Option Text)
+    → AreRead 1 blank lefts told → IsToldAs told run → Appends old new shown_text → IsShownAs lefts old new run
+shown_as lefts told run old new read is written =
+    record { shown = read_as lefts told (λ t. IsToldAs t run) read is; written = written }
+
+-- what is shown of some net and events is shown whole
+pub shown_whole : (lefts : List (Option Text)) (run : AuditedRun) (old new : Option Text) → IsShownAs lefts old new run → IsShownWhole lefts old new
+shown_whole lefts run old new s =
+    record { shown = read_as lefts s.shown.told IsSafelyTold s.shown.read (record { run = run; is = s.shown.is }); written = s.written }

@@ -10,6 +10,7 @@ use Rattle.abt_journal_text.specs.Books.{Told, blank, journal_of}
 use Rattle.abt_journal_text.specs.Texts.{IsRead, IsUnread}
 use Rattle.abt_journal_text.specs.declared.fault.TextFault.{TextFault}
 use Rattle.abt_audit.specs.declared.auditing.Audited.{Audited}
+use Rattle.abt_audit.specs.declared.auditing.AuditedRun.{AuditedRun}
 
 -- the texts that readers have left are read one after the other, the first of this number
 abbrev pub AreRead : ℕ → Told → List (Option Text) → Told → Type 0
@@ -38,12 +39,15 @@ pub record IsAudited (net : Topology) (journals : Journaled) (audited : Audited)
   pub is_trace : IsTrace net audited.events audited.trace
   pub is_safe : audited.trace.safe ≡ true
 
+-- What was told is this net, and journals over it that are audited so.
+pub record IsToldAs (told : Told) (run : AuditedRun) : Type 0 where
+  pub net_told : told.net ≡ Some run.net
+  pub is_audited : IsAudited run.net (journals_of told) run.audited
+
 -- What was told is a net and journals that are audited.
 pub record IsSafelyTold (told : Told) : Type 0 where
-  pub net : Topology
-  pub net_told : told.net ≡ Some net
-  pub audited : Audited
-  pub is_audited : IsAudited net (journals_of told) audited
+  pub run : AuditedRun
+  pub is : IsToldAs told run
 
 -- The texts that readers have left are read, and so is what they tell.
 pub record IsReadAs (lefts : List (Option Text)) (so : Told → Type 0) : Type 0 where

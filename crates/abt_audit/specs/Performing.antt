@@ -15,9 +15,10 @@ use Rattle.abt_perform.specs.Names.{fault_line}
 use Rattle.abt_perform.specs.Plans.{Tells}
 use Rattle.abt_perform.specs.declared.fault.Fault as program
 use Rattle.abt_perform.specs.declared.fault.Fault.TheVariants as program_fault
-use Rattle.abt_audit.specs.Audits.{IsReadAs, IsUnreadAmong, IsShown, journals_of}
+use Rattle.abt_audit.specs.Audits.{IsReadAs, IsToldAs, IsUnreadAmong, IsShown, journals_of}
 use Rattle.abt_audit.specs.Names.{text_fault_line}
 use Rattle.abt_audit.specs.Protocol.{fault_lines}
+use Rattle.abt_audit.specs.declared.auditing.AuditedRun.{AuditedRun}
 use Rattle.abt_audit.specs.declared.fault.AuditFault.{AuditFault}
 use Rattle.abt_audit.specs.declared.fault.AuditFault.TheVariants as fault
 
@@ -72,6 +73,11 @@ pub record IsNotShown (names : List (String Global)) (lefts : List (Option Text)
   pub fault : AuditFault
   pub ends : EndsBy names lefts fault old new
   pub told : Tells (fault_text names fault) errors_old errors_new ⊎ Tells (fault_line program_fault.Memory) errors_old errors_new
+
+-- An audit that shows all of this net and these events.
+pub record IsShownAs (lefts : List (Option Text)) (old new : Option Text) (run : AuditedRun) : Type 0 where
+  pub shown : IsReadAs lefts (λ told. IsToldAs told run)
+  pub written : Appends old new shown_text
 
 -- An audit that shows all.
 pub record IsShownWhole (lefts : List (Option Text)) (old new : Option Text) : Type 0 where

@@ -21,6 +21,15 @@ pub struct Audited {
     pub trace: Trace,
 }
 
+/// A net, and what journals over it are.
+#[derive(Debug, Drop)]
+pub struct AuditedRun {
+    /// The net.
+    pub net: Net,
+    /// The events that the journals are, and their trace.
+    pub audited: Audited,
+}
+
 /// Weaves the journals of a run into events, and runs these.
 ///
 /// # Errors

@@ -12,9 +12,9 @@ mod plan;
 mod protocol;
 mod stuck;
 
-pub use auditing::{Audited, audit};
+pub use auditing::{Audited, AuditedRun, audit};
 pub use command::{add_commands, plan_of};
 pub use fault::AuditFault;
 pub use gathering::read_all;
-pub use performing::perform_audit;
-pub use plan::AuditPlan;
+pub use performing::{perform_audit, show_audit};
+pub use plan::{AuditPlan, SamplePlan};

@@ -1,21 +1,21 @@
 //! Texts of readers, audited.
-ghost use Rattle.std.specs.Prelude.{◌≡◌, ◌⊎◌, map, IfOk, IfErr, OnOk, string_bytes};
-ghost use Rattle.std.specs.Io.KnownBytes.{Appends, Keeps};
+ghost use Rattle.std.specs.Prelude.{◌≡◌, ◌⊎◌, map, IfOk, IfErr, IfSome, IsSome, IsNone, string_bytes};
+ghost use Rattle.std.specs.Io.KnownBytes.{Keeps};
 ghost use Rattle.abt_perform.specs.Names.{fault_line};
 ghost use Rattle.abt_perform.specs.Plans.{Tells};
 ghost use Rattle.abt_perform.specs.declared.fault.Fault.TheVariants as program;
 ghost use Rattle.abt_text.specs.Text.{◌⋅◌};
-ghost use Rattle.abt_audit.specs.Audits.{IsSafelyTold, IsShown};
+ghost use Rattle.abt_audit.specs.Audits.{IsToldAs};
 ghost use Rattle.abt_audit.specs.Names.{text_fault_line};
 ghost use Rattle.abt_audit.specs.declared.fault.AuditFault.TheVariants as audit_fault;
-ghost use Rattle.abt_audit.specs.Performing.{shown_text, EndsBy, IsNotShown, IsNoRun, IsShownWhole, fault_text, weave_fault};
+ghost use Rattle.abt_audit.specs.Performing.{EndsBy, IsNotShown, IsNoRun, IsShownAs, IsShownWhole, fault_text, weave_fault};
 
-use crate::auditing::audit;
+use crate::auditing::{AuditedRun, audit};
 use crate::fault::AuditFault;
 use crate::gathering::read_all;
 use crate::naming::cause_text;
 use crate::stuck::{head_of, stuck_text};
-use abt_journal_text::{Book, Cause, TextFault};
+use abt_journal_text::{Book, Cause, Run, TextFault};
 use abt_perform::{Fault, MEMORY_LINE};
 use abt_text::put;
 use abt_weave::WeaveFault;
@@ -37,24 +37,46 @@ pub fn perform_audit<R: Read + Drop, W: Write, E: Write>(
     ensures err { result ≡ 1 → IsNotShown names.now (map R.remaining readers.items)
         (W.contents writer.old) (W.contents writer.new) (E.contents errors.old) (E.contents errors.new) }
 {
-    match show_audit(alloc, names, readers, writer) {
-        Ok(()) => 0,
+    match show_audit(alloc, names, readers, writer, errors) {
+        Some(run) => {
+            drop(run);
+            0
+        }
+        None => 1,
+    }
+}
+
+/// Audits the texts that some readers have left, as [`perform_audit`] does, and hands out the net and the events that they are once all
+/// lines went out to `writer`; `None` where `errors` tells why not.
+pub fn show_audit<R: Read + Drop, W: Write, E: Write>(
+    alloc: Global,
+    names: &[String],
+    readers: Vec<R>,
+    writer: &mut W,
+    errors: &mut E,
+) -> Option<AuditedRun>
+    ensures ok { IfSome result (IsShownAs (map R.remaining readers.items) (W.contents writer.old) (W.contents writer.new)) }
+    ensures quiet { IsSome result → Keeps (E.contents errors.old) (E.contents errors.new) }
+    ensures err { IsNone result → IsNotShown names.now (map R.remaining readers.items)
+        (W.contents writer.old) (W.contents writer.new) (E.contents errors.old) (E.contents errors.new) }
+{
+    match audit_texts(alloc, names, readers, writer) {
+        Ok(run) => Some(run),
         Err(fault) => {
             tell(alloc, names, &fault, errors);
-            1
+            None
         }
     }
 }
 
 // Audits the texts, and writes what that shows.
-fn show_audit<R: Read + Drop, W: Write>(
+fn audit_texts<R: Read + Drop, W: Write>(
     alloc: Global,
     names: &[String],
     readers: Vec<R>,
     writer: &mut W,
-) -> Result<(), AuditFault>
-    ensures shown { OnOk result (IsShown (map R.remaining readers.items)) }
-    ensures ok { OnOk result (Appends (W.contents writer.old) (W.contents writer.new) shown_text) }
+) -> Result<AuditedRun, AuditFault>
+    ensures ok { IfOk result (IsShownAs (map R.remaining readers.items) (W.contents writer.old) (W.contents writer.new)) }
     ensures err { IfErr result (λ fault. EndsBy names.now (map R.remaining readers.items) fault
         (W.contents writer.old) (W.contents writer.new)) }
 {
@@ -62,11 +84,12 @@ fn show_audit<R: Read + Drop, W: Write>(
         Ok(book) => book,
         Err(fault) => return Err(fault_of_text(fault)),
     };
-    if let Err(fault) = judge_book(alloc, names, book) {
-        return Err(fault);
-    }
+    let run = match judge_book(alloc, names, book) {
+        Ok(run) => run,
+        Err(fault) => return Err(fault),
+    };
     match put(writer, b"woven\nsafe\n") {
-        Ok(()) => Ok(()),
+        Ok(()) => Ok(run),
         Err(_) => Err(AuditFault::Write),
     }
 }
@@ -82,8 +105,8 @@ fn fault_of_text(fault: TextFault) -> AuditFault
 }
 
 // Audits what was told.
-fn judge_book(alloc: Global, names: &[String], book: Book) -> Result<(), AuditFault>
-    ensures ok { OnOk result (IsSafelyTold book) }
+fn judge_book(alloc: Global, names: &[String], book: Book) -> Result<AuditedRun, AuditFault>
+    ensures ok { IfOk result (IsToldAs book) }
     ensures err { IfErr result (IsNoRun names.now book) }
 {
     let Some(run) = book.into_run(alloc)? else {
@@ -91,8 +114,8 @@ fn judge_book(alloc: Global, names: &[String], book: Book) -> Result<(), AuditFa
     };
     match audit(alloc, &run) {
         Ok(audited) => {
-            drop(audited);
-            Ok(())
+            let Run { net, .. } = run;
+            Ok(AuditedRun { net, audited })
         }
         Err(WeaveFault::Memory) => Err(AuditFault::Memory),
         Err(fault) => {

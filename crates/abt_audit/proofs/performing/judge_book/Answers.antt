@@ -1,10 +1,10 @@
 -- What was told is judged.
-use Rattle.abt_audit.proofs.Judged.{safely_told, stuck_so}
+use Rattle.abt_audit.proofs.Judged.{told_as, stuck_so}
 use Rattle.abt_audit.proofs.performing.judge_book.Goals as goal
 
 pub returns-in-Ok-clause-ok : goal.returns-in-Ok-clause-ok
 returns-in-Ok-clause-ok c =
-    safely_told c.args.book c.in-Some.run' c.in-Ok.audited (rw c.in-Some.is at c.in_ok-run.ensures) c.in-Ok.ensures.ok
+    told_as c.args.book c.in-Some.run' c.in-Ok.audited (rw c.in-Some.is at c.in_ok-run.ensures) c.in-Ok.ensures.ok
 
 pub returns : goal.returns
 returns c = record {

@@ -1,8 +1,7 @@
 -- The texts are read, and what they tell is judged.
 use Rattle.std.proofs.KnownBytes.{Keeps-refl}
-use Rattle.abt_audit.specs.Audits.{IsSafelyTold}
-use Rattle.abt_audit.proofs.Judged.{ends_reading, ends_judging, ends_writing, read_as}
-use Rattle.abt_audit.proofs.performing.show_audit.Goals as goal
+use Rattle.abt_audit.proofs.Judged.{ends_reading, ends_judging, ends_writing, shown_as}
+use Rattle.abt_audit.proofs.performing.audit_texts.Goals as goal
 
 pub returns-in-Err-clause-err : goal.returns-in-Err-clause-err
 returns-in-Err-clause-err g c = ends_reading _ _ c.in-Err.fault c.fault_of_text.result _ (Keeps-refl _) c.fault_of_text.ensures c.in-Err.ensures.err
@@ -11,8 +10,10 @@ pub returns-in-Err-judge_book-clause-err : goal.returns-in-Err-judge_book-clause
 returns-in-Err-judge_book-clause-err g c =
     ends_judging _ _ c.in-Ok.book c.in-Err-judge_book.fault _ (Keeps-refl _) c.in-Ok.ensures.ok c.in-Err-judge_book.ensures.err
 
-pub returns-in-Ok-put-clause-shown : goal.returns-in-Ok-put-clause-shown
-returns-in-Ok-put-clause-shown g c = read_as _ c.in-Ok.book IsSafelyTold c.in-Ok.ensures.ok c.in_default.ensures.ok
+pub returns-in-Ok-put-clause-ok : goal.returns-in-Ok-put-clause-ok
+returns-in-Ok-put-clause-ok g c =
+    shown_as _ c.in-Ok.book c.in-Ok-judge_book.run' _ _ c.in-Ok.ensures.ok c.in-Ok-judge_book.ensures.ok c.in-Ok-put.ensures.ok
 
 pub returns-in-Err-put-clause-err : goal.returns-in-Err-put-clause-err
-returns-in-Err-put-clause-err g c = ends_writing c.args.names.now _ c.in-Ok.book _ _ c.in-Ok.ensures.ok c.in_default.ensures.ok c.in-Err-put.ensures.err
+returns-in-Err-put-clause-err g c =
+    ends_writing c.args.names.now _ c.in-Ok.book c.in-Ok-judge_book.run' _ _ c.in-Ok.ensures.ok c.in-Ok-judge_book.ensures.ok c.in-Err-put.ensures.err
