@@ -67,6 +67,16 @@ class Auditor:
         done = subprocess.run([self.program, "audit", *names], cwd=self.folder, capture_output=True, timeout=60)
         return done.returncode, done.stdout.decode(), done.stderr.decode()
 
+    def save(self, out, *texts):
+        """The same, where the events go out to a file."""
+        names = []
+        for number, octets in enumerate(texts):
+            (self.folder / str(number)).write_bytes(octets)
+            names.append(str(number))
+        self.runs += 1
+        done = subprocess.run([self.program, "audit", *names, "--events", out], cwd=self.folder, capture_output=True, timeout=60)
+        return done.returncode, done.stdout.decode(), done.stderr.decode()
+
     def wants(self, what, answer, *texts):
         if (given := self.audit(*texts)) != answer:
             self.found.append(f"{what}: {given} in place of {answer}")
@@ -133,9 +143,36 @@ def answer_in(one):
     return read["reply"] if "reply" in read else read["outcome"]
 
 
+def by_actor(lines):
+    """The entries of each actor, in its order, but for who had a step done."""
+    found = {}
+    for one in lines[1:-1]:
+        entry = json.loads(one)
+        entry.pop("caller", None)
+        found.setdefault(actor(one), []).append(entry)
+    return found
+
+
+def try_events(auditor, name, lines):
+    """The woven events go out as a scenario: it is run, and its journals, by the slow model, are those that were audited."""
+    out = auditor.folder / "events.toml"
+    out.unlink(missing_ok=True)
+    if (given := auditor.save(out, text_of(lines))) != WHOLE:
+        auditor.found.append(f"the events of {name}: {given} in place of {WHOLE}")
+        return
+    text = out.read_bytes()
+    left = journals(text)
+    if json.loads(left[0]) != json.loads(lines[0]) or by_actor(left) != by_actor(lines):
+        auditor.found.append(f"the events of {name} have other journals")
+    done = subprocess.run([auditor.program, "run", out], capture_output=True, timeout=60)
+    if done.returncode or done.stderr or not done.stdout.endswith(b"safe\n") or done.stdout.endswith(b"unsafe\n"):
+        auditor.found.append(f"the events of {name}, run: {done}")
+
+
 def try_sample(auditor, name, lines):
     auditor.wants(name, WHOLE, text_of(lines))
     auditor.wants(f"{name}, mixed", WHOLE, *mixed(lines, name))
+    try_events(auditor, name, lines)
     for at in range(1, len(lines) - 1):
         if other := changed(lines[at]):
             text = text_of([*lines[:at], other, *lines[at + 1 :]])
@@ -203,6 +240,32 @@ def try_other_ways(auditor, lines):
         auditor.found.append(f"a file that isn't there: {done}")
 
 
+def try_no_events(auditor, lines, faults):
+    """Each way in which events don't go out."""
+    kept = auditor.folder / "kept.toml"
+    late = '{"source":0,"did":{"start":10000000000000000000},"outcome":{"refused":"TimeRange"}}'
+    told = lambda fault: (1, "woven\nsafe\n", fault)
+    for what, to, answer, text in [
+        ("a folder that isn't there", auditor.folder / "none" / "events", told("fault: events open\n"), text_of(lines)),
+        ("a full disk", Path("/dev/full"), told("fault: events write\n"), text_of(lines)),
+        ("a moment of 20 digits", kept, told("fault: events Unsaid\n"), text_of([lines[0], late, END])),
+        ("no text", kept, (1, "", "fault: 0:1: NoEnd\n"), b""),
+        *((name, kept, (1, "", told.replace(f"{name}:", "0:")), text) for name, text, told in faults),
+    ]:
+        kept.write_text("kept")
+        if (given := auditor.save(to, text)) != answer:
+            auditor.found.append(f"events of {what}: {given} in place of {answer}")
+        if answer[1] == "" and kept.read_text() != "kept":
+            auditor.found.append(f"events of {what}: the file isn't left as it was")
+    kept.unlink()
+    auditor.save(kept, faults[0][1])
+    if kept.exists():
+        auditor.found.append("events of a log in which something is wrong: the file is made")
+    done = subprocess.run([auditor.program, "audit", "--events", kept], input=text_of(lines), capture_output=True, timeout=60)
+    if (done.returncode, done.stdout, done.stderr) != (0, b"woven\nsafe\n", b"") or not kept.read_bytes().startswith(b"ports = ["):
+        auditor.found.append(f"events of the standard input: {done}")
+
+
 def try_threads(auditor):
     """The journals of each sample for threads go out and come back; and each way in which they don't go out."""
     runs = 0
@@ -255,6 +318,7 @@ def main(program):
             auditor.wants(f"{name} of docs/JOURNALS.md", (1, "", told.replace(f"{name}:", "0:")), text)
         try_texts(auditor, worked)
         try_other_ways(auditor, worked)
+        try_no_events(auditor, worked, faults)
         runs = try_threads(auditor)
     for difference in auditor.found:
         print(f"audits: {difference}")

@@ -40,6 +40,7 @@ complete -c abt -n '__fish_seen_subcommand_from explain' -F
 complete -c abt -n '__fish_seen_subcommand_from check' -l json -d 'Answer as JSON, one object a line'
 complete -c abt -n '__fish_seen_subcommand_from check' -s h -l help -d 'Print help'
 complete -c abt -n '__fish_seen_subcommand_from check' -F
+complete -c abt -n '__fish_seen_subcommand_from audit' -l events -x -d 'Write the net and the events to this file as a scenario, once all is shown'
 complete -c abt -n '__fish_seen_subcommand_from audit' -l quiet -d 'Draw no progress line; one is drawn on standard error where that is a terminal'
 complete -c abt -n '__fish_seen_subcommand_from audit' -s h -l help -d 'Print help'
 complete -c abt -n '__fish_seen_subcommand_from audit' -F

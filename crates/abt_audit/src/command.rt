@@ -1,11 +1,14 @@
 //! The words of `abt audit`.
-use crate::plan::AuditPlan;
+use crate::plan::{AuditPlan, SamplePlan};
 use abt_perform::WordsFault;
 use clap::{Arg, ArgAction, ArgMatches, Command};
 use std::alloc::{AllocError, Global};
 
 // The files of `abt audit`.
 const FILES: &str = "FILES";
+
+// The file for the scenario of its events.
+const EVENTS: &str = "events";
 
 // Whether nothing is shown of how far it is.
 const QUIET: &str = "quiet";
@@ -25,10 +28,15 @@ fn audit_command<'a>(alloc: Global) -> Result<Command<'a>, AllocError> {
         .long("quiet")
         .action(ArgAction::SetTrue)
         .help("Draw no progress line; one is drawn on standard error where that is a terminal");
+    let events = Arg::new(alloc, EVENTS)
+        .long("events")
+        .value_name("OUT")
+        .help("Write the net and the events to this file as a scenario, once all is shown");
     Command::new(alloc, "audit")
         .about("Say whether journals are those of one safe run")
         .after_help(AUDIT_EXAMPLE)
         .arg(files)?
+        .arg(events)?
         .arg(quiet)
 }
 
@@ -53,6 +61,25 @@ pub fn plan_of(
         }
     }
     Ok(Some(AuditPlan::Files(files)))
+}
+
+/// The same, if the words name a file for the events; else `None`.
+pub fn sample_plan_of(
+    alloc: Global,
+    name: &str,
+    found: &ArgMatches<'_>,
+) -> Result<Option<SamplePlan>, WordsFault> {
+    if name != "audit" {
+        return Ok(None);
+    }
+    let Some(events) = found.get_str(EVENTS) else {
+        return Ok(None);
+    };
+    let events = String::from_str(alloc, events)?;
+    match plan_of(alloc, name, found)? {
+        Some(texts) => Ok(Some(SamplePlan { texts, events })),
+        None => Ok(None),
+    }
 }
 
 const AUDIT_EXAMPLE: &str = "Example:

@@ -13,7 +13,7 @@ mod protocol;
 mod stuck;
 
 pub use auditing::{Audited, AuditedRun, audit};
-pub use command::{add_commands, plan_of};
+pub use command::{add_commands, plan_of, sample_plan_of};
 pub use fault::AuditFault;
 pub use gathering::read_all;
 pub use performing::{perform_audit, show_audit};

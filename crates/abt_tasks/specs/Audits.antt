@@ -7,7 +7,8 @@ use Rattle.abt_perform.specs.Names.{fault_line}
 use Rattle.abt_perform.specs.Plans.{Tells}
 use Rattle.abt_perform.specs.declared.fault.Fault.TheVariants.{Memory}
 use Rattle.abt_commands.specs.Carried.{IsUnopened}
-use Rattle.abt_audit.specs.Performing.{IsShownWhole, IsNotShown}
+use Rattle.abt_audit.specs.Performing.{IsShownAs, IsShownWhole, IsNotShown}
+use Rattle.abt_audit.specs.declared.auditing.AuditedRun.{AuditedRun}
 use Rattle.abt_audit.specs.declared.plan.AuditPlan.{AuditPlan}
 use Rattle.abt_audit.specs.declared.plan.AuditPlan.TheVariants.{Input, Files}
 
@@ -21,6 +22,16 @@ pub record IsNotShownOver (names : List (String Global)) (old new errors_old err
   pub lefts : List (Option Text)
   pub each : length lefts ≡ length names
   pub not_shown : IsNotShown names lefts old new errors_old errors_new
+
+pub record IsShownAsOver (names : List (String Global)) (old new : Option Text) (run : AuditedRun) : Type 0 where
+  pub lefts : List (Option Text)
+  pub each : length lefts ≡ length names
+  pub shown : IsShownAs lefts old new run
+
+-- the journals of the texts are shown to be this run, which is safe
+abbrev pub IsAuditedAs : AuditPlan → (left old new : Option Text) → AuditedRun → Type 0
+IsAuditedAs Input left old new run = IsShownAs (left ∷ []) old new run
+IsAuditedAs (Files names) left old new run = IsShownAsOver names.items old new run
 
 -- the journals of the texts are shown to be those of one safe run
 abbrev pub IsAuditedHere : AuditPlan → (left old new : Option Text) → Type 0

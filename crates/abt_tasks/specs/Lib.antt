@@ -1,4 +1,5 @@
 pub mod Audits
+pub mod Sampling
 pub mod Check
 pub mod Checked
 pub mod Json

@@ -17,8 +17,9 @@ use Rattle.abt_tasks.specs.Checked as checked
 use Rattle.abt_tasks.specs.Json.{TakesToSay, IsSaidHere, IsUnsaidHere}
 use Rattle.abt_tasks.specs.Keeping.{TakesToKeep, IsKeptHere, IsUnkeptHere}
 use Rattle.abt_tasks.specs.Opening.{IsUnopenedFile}
+use Rattle.abt_tasks.specs.Sampling.{IsSampledHere, IsUnsampledHere}
 use Rattle.abt_tasks.specs.declared.task.Task.{Task}
-use Rattle.abt_tasks.specs.declared.task.Task.TheVariants.{Plan, Checked, Keep, Explain, Check, Json, Audit, Parts, Codes}
+use Rattle.abt_tasks.specs.declared.task.Task.TheVariants.{Plan, Checked, Keep, Explain, Check, Json, Audit, Sample, Parts, Codes}
 
 abbrev pub IsAllowed : Task → Type 0
 IsAllowed (Plan plan) = IsWithinLimits plan
@@ -28,6 +29,7 @@ IsAllowed (Explain plan) = ⊤
 IsAllowed (Check plan) = ⊤
 IsAllowed (Json plan) = ⊤
 IsAllowed (Audit plan) = ⊤
+IsAllowed (Sample plan) = ⊤
 IsAllowed (Parts plan) = parts.IsAllowedPlan plan
 IsAllowed (Codes plan) = ⊤
 
@@ -67,6 +69,7 @@ TakesOf (Explain plan) old new = TakesToExplain plan old new
 TakesOf (Check plan) old new = TakesToCheck plan old new
 TakesOf (Json plan) old new = TakesToSay plan old new
 TakesOf (Audit plan) old new = ⊤
+TakesOf (Sample plan) old new = ⊤
 TakesOf (Parts plan) old new = ⊤
 TakesOf (Codes plan) old new = Keeps old new
 
@@ -79,6 +82,7 @@ IsCarriedOut (Explain plan) left old new = IsExplainedHere plan left old new
 IsCarriedOut (Check plan) left old new = IsCheckedHere plan left old new
 IsCarriedOut (Json plan) left old new = IsSaidHere plan left old new
 IsCarriedOut (Audit plan) left old new = IsAuditedHere plan left old new
+IsCarriedOut (Sample plan) left old new = IsSampledHere plan left old new
 IsCarriedOut (Parts plan) left old new = parts.IsAnswered plan left old new
 IsCarriedOut (Codes plan) left old new = codes_printed.IsPrinted plan old new
 
@@ -96,5 +100,6 @@ IsNotCarriedOut (Explain plan) left old new errors_old errors_new = IsUnexplaine
 IsNotCarriedOut (Check plan) left old new errors_old errors_new = IsFaultyHere plan left old new errors_old errors_new
 IsNotCarriedOut (Json plan) left old new errors_old errors_new = IsUnsaidHere plan left old new errors_old errors_new
 IsNotCarriedOut (Audit plan) left old new errors_old errors_new = IsUnauditedHere plan left old new errors_old errors_new
+IsNotCarriedOut (Sample plan) left old new errors_old errors_new = IsUnsampledHere plan left old new errors_old errors_new
 IsNotCarriedOut (Parts plan) left old new errors_old errors_new = parts.IsRefused plan left old new errors_old errors_new
 IsNotCarriedOut (Codes plan) left old new errors_old errors_new = codes_printed.IsRefused plan old new errors_old errors_new

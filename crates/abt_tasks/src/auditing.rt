@@ -1,9 +1,9 @@
 //! Audits, over the files that are named or over the input that is there.
-ghost use Rattle.std.specs.Prelude.{◌≡◌, ◌⊎◌, length, IfOk};
+ghost use Rattle.std.specs.Prelude.{◌≡◌, ◌⊎◌, length, IfOk, IfSome, IsSome, IsNone};
 ghost use Rattle.std.specs.Io.KnownBytes.{Keeps};
-ghost use Rattle.abt_tasks.specs.Audits.{IsAuditedHere, IsUnauditedHere};
+ghost use Rattle.abt_tasks.specs.Audits.{IsAuditedAs, IsAuditedHere, IsUnauditedHere};
 
-use abt_audit::{AuditPlan, perform_audit};
+use abt_audit::{AuditPlan, AuditedRun, show_audit};
 use abt_commands::line_of_unopened;
 use abt_perform::{MEMORY_LINE, tell_text};
 use abt_progress::{Progress, Watched};
@@ -27,38 +27,60 @@ pub(crate) fn audit<T: Files + AllocGlobal, R: Read, W: Write, E: Write, P: Writ
     ensures err { result ≡ 1 → IsUnauditedHere plan.now (R.remaining input.old) (W.contents out.old) (W.contents out.new)
         (E.contents errors.old) (E.contents errors.new) }
 {
+    match show_texts(rt, progress, plan, input, out, errors) {
+        Some(run) => {
+            drop(run);
+            0
+        }
+        None => 1,
+    }
+}
+
+// The same, and hands out the net and the events; None where a line on `errors` tells why there are none.
+pub(crate) fn show_texts<T: Files + AllocGlobal, R: Read, W: Write, E: Write, P: Write + Drop>(
+    rt: &T,
+    progress: &Progress<P>,
+    plan: &AuditPlan,
+    input: &mut R,
+    out: &mut W,
+    errors: &mut E,
+) -> Option<AuditedRun>
+    ensures ok { IfSome result (IsAuditedAs plan.now (R.remaining input.old) (W.contents out.old) (W.contents out.new)) }
+    ensures quiet { IsSome result → Keeps (E.contents errors.old) (E.contents errors.new) }
+    ensures err { IsNone result → IsUnauditedHere plan.now (R.remaining input.old) (W.contents out.old) (W.contents out.new)
+        (E.contents errors.old) (E.contents errors.new) }
+{
     let names = match plan {
-        AuditPlan::Input => return audit_input(rt.alloc(), input, out, errors),
+        AuditPlan::Input => return show_input(rt.alloc(), input, out, errors),
         AuditPlan::Files(names) => names.as_slice(),
     };
     match open_all(rt, progress, names) {
-        Ok(files) => perform_audit(rt.alloc(), names, files, out, errors),
+        Ok(files) => show_audit(rt.alloc(), names, files, out, errors),
         Err(error) => {
             tell_text(errors, line_of_unopened(&error));
-            1
+            None
         }
     }
 }
 
-// Audits the journals of an input that is there.
-fn audit_input<R: Read, W: Write, E: Write>(
+// The same of an input that is there.
+fn show_input<R: Read, W: Write, E: Write>(
     alloc: Global,
     input: &mut R,
     out: &mut W,
     errors: &mut E,
-) -> u8
-    ensures status { (result ≡ 0) ⊎ (result ≡ 1) }
-    ensures ok { result ≡ 0 → IsAuditedHere AuditPlan.Input (R.remaining input.old) (W.contents out.old) (W.contents out.new) }
-    ensures quiet { result ≡ 0 → Keeps (E.contents errors.old) (E.contents errors.new) }
-    ensures err { result ≡ 1 → IsUnauditedHere AuditPlan.Input (R.remaining input.old) (W.contents out.old) (W.contents out.new)
+) -> Option<AuditedRun>
+    ensures ok { IfSome result (IsAuditedAs AuditPlan.Input (R.remaining input.old) (W.contents out.old) (W.contents out.new)) }
+    ensures quiet { IsSome result → Keeps (E.contents errors.old) (E.contents errors.new) }
+    ensures err { IsNone result → IsUnauditedHere AuditPlan.Input (R.remaining input.old) (W.contents out.old) (W.contents out.new)
         (E.contents errors.old) (E.contents errors.new) }
 {
     let mut readers = Vec::new(alloc);
     if readers.push(input).is_err() {
         tell_text(errors, MEMORY_LINE);
-        return 1;
+        return None;
     }
-    perform_audit(alloc, &[], readers, out, errors)
+    show_audit(alloc, &[], readers, out, errors)
 }
 
 // The files of these names, in their order, counted as they are read.

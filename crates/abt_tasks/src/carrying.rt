@@ -8,6 +8,7 @@ use crate::checking::check;
 use crate::explaining::explain;
 use crate::json::say_as_json;
 use crate::keeping::keep;
+use crate::sampling::sample;
 use crate::task::Task;
 use abt_codes::perform_codes;
 use abt_commands::carry_out;
@@ -47,6 +48,7 @@ where
         Task::Check(plan) => check(rt, plan, input, out, errors),
         Task::Json(plan) => say_as_json(rt, progress, plan, input, out, errors),
         Task::Audit(plan) => audit(rt, progress, plan, input, out, errors),
+        Task::Sample(plan) => sample(rt, progress, plan, input, out, errors),
         Task::Parts(plan) => perform_parts(rt.alloc(), plan, input, out, errors),
         Task::Codes(plan) => perform_codes(rt.alloc(), plan, out, errors),
     }

@@ -11,6 +11,7 @@ mod explaining;
 mod json;
 mod keeping;
 mod opening;
+mod sampling;
 mod streams;
 mod task;
 mod words;

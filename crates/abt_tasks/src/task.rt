@@ -1,5 +1,5 @@
 //! What the words of a command line ask for.
-use abt_audit::AuditPlan;
+use abt_audit::{AuditPlan, SamplePlan};
 use abt_check::CheckPlan;
 use abt_codes::CodesPlan;
 use abt_explain::ExplainPlan;
@@ -25,6 +25,8 @@ pub enum Task {
     Json(JsonPlan),
     /// Say whether journals are those of one safe run.
     Audit(AuditPlan),
+    /// The same, and write their events as a scenario.
+    Sample(SamplePlan),
     /// Answer each line of the standard input: by a policer, a shaper or a port, or by what a cell says.
     Parts(PartsPlan),
     /// Say which codes are nearest to a rate.

@@ -69,6 +69,9 @@ fn task_of(alloc: Global, name: &str, found: &ArgMatches<'_>) -> Result<Task, Wo
     if let Some(plan) = abt_check::plan_of(alloc, name, found)? {
         return Ok(Task::Check(plan));
     }
+    if let Some(plan) = abt_audit::sample_plan_of(alloc, name, found)? {
+        return Ok(Task::Sample(plan));
+    }
     if let Some(plan) = abt_audit::plan_of(alloc, name, found)? {
         return Ok(Task::Audit(plan));
     }

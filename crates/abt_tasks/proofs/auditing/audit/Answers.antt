@@ -1,0 +1,6 @@
+-- What is shown of a run is shown.
+use Rattle.abt_tasks.proofs.Audited.{audited_here}
+use Rattle.abt_tasks.proofs.auditing.audit.Goals as goal
+
+pub returns-in-Some-clause-ok : goal.returns-in-Some-clause-ok
+returns-in-Some-clause-ok g c = λ _. audited_here c.args.plan.now _ _ _ c.in-Some.run' c.in-Some.ensures.ok
