@@ -28,6 +28,7 @@ WITHOUT_BODIES = {
     "abt",
     "abt_command_rows",
     "abt_facts",
+    "abt_journal_rows",
     "abt_links",
     "abt_part_tests",
     "abt_port_tests",
