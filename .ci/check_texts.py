@@ -183,12 +183,16 @@ def misplaced_sample(program, sample):
 
 
 def explained(program, sample):
-    """What `run --explain` and `threads --explain` print of a sample beside what they print without it, and the lines of `abt check`."""
+    """What `run --explain` and `threads --explain` print of a sample beside what they print without it, and the lines of `abt check`; before
+    these a run in threads tells its events, at which .ci/woven.py looks.
+    """
     text = sample.read_bytes()
     _, lines, _ = run(program, ["check"], text)
     for words in (["run"], ["threads", "--workers", "2"]):
         status, out, told = run(program, words, text)
-        if run(program, [*words, "--explain"], text) != (status, out, told + lines):
+        given = run(program, [*words, "--explain"], text)
+        tells = words[0] == "threads" and not status
+        if given[:2] != (status, out) or not given[2].endswith(lines) or not (tells or given[2] == told + lines):
             return f"{' '.join(words)} --explain differs"
     return None
 

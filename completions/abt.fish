@@ -29,7 +29,8 @@ complete -c abt -n '__fish_seen_subcommand_from run' -s h -l help -d 'Print help
 complete -c abt -n '__fish_seen_subcommand_from run' -F
 complete -c abt -n '__fish_seen_subcommand_from threads' -l workers -x -d 'How many link workers carry messages between ports: 1 to 64'
 complete -c abt -n '__fish_seen_subcommand_from threads' -l journals -x -d 'Write the journals of the run to this file, once it is shown to be woven and safe'
-complete -c abt -n '__fish_seen_subcommand_from threads' -l explain -d 'Tell on standard error, behind the run\'s fault, what abt check says of the scenario'
+complete -c abt -n '__fish_seen_subcommand_from threads' -l events -x -d 'Write the events that were woven to this file, as a scenario for abt run'
+complete -c abt -n '__fish_seen_subcommand_from threads' -l explain -d 'Tell on standard error the events that were woven, with their reasons, and what abt check says of the scenario'
 complete -c abt -n '__fish_seen_subcommand_from threads' -l quiet -d 'Draw no progress line; one is drawn on standard error where that is a terminal'
 complete -c abt -n '__fish_seen_subcommand_from threads' -s h -l help -d 'Print help'
 complete -c abt -n '__fish_seen_subcommand_from threads' -F

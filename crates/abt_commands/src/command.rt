@@ -21,7 +21,7 @@ pub const JSON: &str = "json";
 /// Whether `abt cell` or `abt port` reads its cells from the standard input.
 pub const STDIN: &str = "stdin";
 
-/// Whether `abt run` or `abt threads` checks its scenario besides.
+/// Whether `abt run` or `abt threads` checks its scenario besides, and `abt threads` tells its woven events.
 pub const EXPLAIN: &str = "explain";
 
 /// How many link workers `abt threads` has.
@@ -32,6 +32,9 @@ pub const QUIET: &str = "quiet";
 
 /// The file for the journals of `abt threads`.
 pub const JOURNALS: &str = "journals";
+
+/// The file for the woven events of `abt threads`, as a scenario.
+pub const EVENTS: &str = "events";
 
 /// The version that `abt --version` tells; CHANGELOG.md tells what each is.
 pub const VERSION: &str = "0.1.0";
@@ -121,13 +124,19 @@ fn threads_command<'a>(alloc: Global) -> Result<Command<'a>, AllocError> {
         .value_name("OUT")
         .help("Write the journals of the run to this file, once it is shown to be woven and safe")
         .conflicts_with(EXPLAIN)?;
+    let events = Arg::new(alloc, EVENTS)
+        .long("events")
+        .value_name("OUT")
+        .help("Write the events that were woven to this file, as a scenario for abt run")
+        .conflicts_with(JOURNALS)?;
     Command::new(alloc, "threads")
         .about("Run a scenario's scripts in threads, and say what is shown of the run")
         .after_help(THREADS_EXAMPLE)
         .arg(file_argument(alloc))?
         .arg(workers)?
         .arg(journals)?
-        .arg(explain_flag(alloc))?
+        .arg(events)?
+        .arg(explain_woven_flag(alloc))?
         .arg(quiet_flag(alloc))
 }
 
@@ -136,6 +145,12 @@ fn explain_flag<'a>(alloc: Global) -> Arg<'a> {
         .long("explain")
         .action(ArgAction::SetTrue)
         .help("Tell on standard error, behind the run's fault, what abt check says of the scenario")
+}
+
+fn explain_woven_flag<'a>(alloc: Global) -> Arg<'a> {
+    explain_flag(alloc).help(
+        "Tell on standard error the events that were woven, with their reasons, and what abt check says of the scenario",
+    )
 }
 
 fn quiet_flag<'a>(alloc: Global) -> Arg<'a> {

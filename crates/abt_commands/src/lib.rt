@@ -7,6 +7,8 @@ mod telling;
 mod words;
 
 pub use carrying::{carry_out, carry_out_over, line_of_unopened};
-pub use command::{CODE, EXPLAIN, FILE, HEX, JOURNALS, JSON, QUIET, STDIN, add_commands, program};
+pub use command::{
+    CODE, EVENTS, EXPLAIN, FILE, HEX, JOURNALS, JSON, QUIET, STDIN, add_commands, program,
+};
 pub use telling::answer_words;
 pub use words::{capacity_of, no_plan, plan_of, plan_words, refusal, workers_of};

@@ -4,7 +4,7 @@ ghost use Rattle.abt_rate.specs.Limits.{capacity_max, AreWorkers};
 ghost use Rattle.abt_perform.specs.Plans.{IsWithinLimits};
 
 use crate::command::{
-    CAPACITY, CODE, FILE, HEX, JOURNALS, JSON, STDIN, WORKERS, add_commands, program,
+    CAPACITY, CODE, EVENTS, FILE, HEX, JOURNALS, JSON, STDIN, WORKERS, add_commands, program,
 };
 use abt_perform::{Plan, WordsFault};
 use abt_rate::{CAPACITY_MAX, WORKERS_MAX};
@@ -39,7 +39,7 @@ pub fn plan_words<'a>(alloc: Global, words: &'a [&'a str]) -> Result<Plan, Words
 }
 
 /// The plan of a command of this crate, by what `clap` found behind its name; None if the name is no such command's, or it is to answer as
-/// JSON, or line by line, or to write journals.
+/// JSON, or line by line, or to write journals or events.
 pub fn plan_of(
     alloc: Global,
     name: &str,
@@ -47,7 +47,7 @@ pub fn plan_of(
 ) -> Result<Option<Plan>, WordsFault>
     ensures limits { IfOk result (λ plan. IfSome plan IsWithinLimits) }
 {
-    if found.get_flag(JSON) || found.get_flag(STDIN) || found.get_str(JOURNALS).is_some() {
+    if found.get_flag(JSON) || found.get_flag(STDIN) || writes(found) {
         return Ok(None);
     }
     let plan = match name {
@@ -59,6 +59,11 @@ pub fn plan_of(
         _ => return Ok(None),
     };
     Ok(Some(plan))
+}
+
+// Whether `abt threads` is to write a file.
+fn writes(found: &ArgMatches<'_>) -> bool {
+    found.get_str(JOURNALS).is_some() || found.get_str(EVENTS).is_some()
 }
 
 fn port_plan(alloc: Global, found: &ArgMatches<'_>) -> Result<Plan, WordsFault>

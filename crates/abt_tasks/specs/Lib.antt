@@ -6,4 +6,5 @@ pub mod Json
 pub mod Keeping
 pub mod Showing
 pub mod Tasks
+pub mod Telling
 pub mod Opening

@@ -18,13 +18,15 @@ use Rattle.abt_tasks.specs.Json.{TakesToSay, IsSaidHere, IsUnsaidHere}
 use Rattle.abt_tasks.specs.Keeping.{TakesToKeep, IsKeptHere, IsUnkeptHere}
 use Rattle.abt_tasks.specs.Opening.{IsUnopenedFile}
 use Rattle.abt_tasks.specs.Sampling.{IsSampledHere, IsUnsampledHere}
+use Rattle.abt_tasks.specs.Telling.{TakesToTell, IsToldHere, IsUntoldHere}
 use Rattle.abt_tasks.specs.declared.task.Task.{Task}
-use Rattle.abt_tasks.specs.declared.task.Task.TheVariants.{Plan, Checked, Keep, Explain, Check, Json, Audit, Sample, Parts, Codes}
+use Rattle.abt_tasks.specs.declared.task.Task.TheVariants.{Plan, Checked, Keep, Tell, Explain, Check, Json, Audit, Sample, Parts, Codes}
 
 abbrev pub IsAllowed : Task → Type 0
 IsAllowed (Plan plan) = IsWithinLimits plan
 IsAllowed (Checked plan) = IsWithinLimits plan
 IsAllowed (Keep plan) = AreWorkers plan.workers
+IsAllowed (Tell plan) = AreWorkers plan.workers
 IsAllowed (Explain plan) = ⊤
 IsAllowed (Check plan) = ⊤
 IsAllowed (Json plan) = ⊤
@@ -65,6 +67,7 @@ abbrev pub TakesOf : Task → (old new : Option Text) → Type 0
 TakesOf (Plan plan) old new = ReadsHere plan old new
 TakesOf (Checked plan) old new = checked.TakesToRun plan old new
 TakesOf (Keep plan) old new = TakesToKeep plan old new
+TakesOf (Tell plan) old new = TakesToTell plan old new
 TakesOf (Explain plan) old new = TakesToExplain plan old new
 TakesOf (Check plan) old new = TakesToCheck plan old new
 TakesOf (Json plan) old new = TakesToSay plan old new
@@ -73,22 +76,25 @@ TakesOf (Sample plan) old new = ⊤
 TakesOf (Parts plan) old new = ⊤
 TakesOf (Codes plan) old new = Keeps old new
 
--- what the task prints went out, all of it
-abbrev pub IsCarriedOut : Task → (left old new : Option Text) → Type 0
-IsCarriedOut (Plan plan) left old new = IsDoneHere plan left old new
-IsCarriedOut (Checked plan) left old new = checked.IsDoneHere plan left old new
-IsCarriedOut (Keep plan) left old new = IsKeptHere plan left old new
-IsCarriedOut (Explain plan) left old new = IsExplainedHere plan left old new
-IsCarriedOut (Check plan) left old new = IsCheckedHere plan left old new
-IsCarriedOut (Json plan) left old new = IsSaidHere plan left old new
-IsCarriedOut (Audit plan) left old new = IsAuditedHere plan left old new
-IsCarriedOut (Sample plan) left old new = IsSampledHere plan left old new
-IsCarriedOut (Parts plan) left old new = parts.IsAnswered plan left old new
-IsCarriedOut (Codes plan) left old new = codes_printed.IsPrinted plan old new
+-- what the task prints went out, all of it; where it tells events of a run, on standard error, so did these
+abbrev pub IsCarriedOut : Task → (left old new errors_old errors_new : Option Text) → Type 0
+IsCarriedOut (Plan plan) left old new errors_old errors_new = IsDoneHere plan left old new
+IsCarriedOut (Checked plan) left old new errors_old errors_new = checked.IsDoneHere plan left old new
+IsCarriedOut (Keep plan) left old new errors_old errors_new = IsKeptHere plan left old new
+IsCarriedOut (Tell plan) left old new errors_old errors_new = IsToldHere plan left old new errors_old errors_new
+IsCarriedOut (Explain plan) left old new errors_old errors_new = IsExplainedHere plan left old new
+IsCarriedOut (Check plan) left old new errors_old errors_new = IsCheckedHere plan left old new
+IsCarriedOut (Json plan) left old new errors_old errors_new = IsSaidHere plan left old new
+IsCarriedOut (Audit plan) left old new errors_old errors_new = IsAuditedHere plan left old new
+IsCarriedOut (Sample plan) left old new errors_old errors_new = IsSampledHere plan left old new
+IsCarriedOut (Parts plan) left old new errors_old errors_new = parts.IsAnswered plan left old new
+IsCarriedOut (Codes plan) left old new errors_old errors_new = codes_printed.IsPrinted plan old new
 
--- what is told of a task that is carried out: a check beside a run, if it is asked for, and else nothing
+-- what is told of a task that is carried out: a check beside a run, if it is asked for; what is told of events is said above; and else
+-- nothing
 abbrev pub TellsOf : Task → (left old new : Option Text) → Type 0
 TellsOf (Checked plan) left old new = checked.TellsHere plan left old new
+TellsOf (Tell plan) left old new = ⊤
 TellsOf task left old new = Keeps old new
 
 -- the task has a fault, which is told
@@ -96,6 +102,7 @@ abbrev pub IsNotCarriedOut : Task → (left old new errors_old errors_new : Opti
 IsNotCarriedOut (Plan plan) left old new errors_old errors_new = IsRefusedHere plan left old new errors_old errors_new
 IsNotCarriedOut (Checked plan) left old new errors_old errors_new = checked.IsRefusedHere plan left old new errors_old errors_new
 IsNotCarriedOut (Keep plan) left old new errors_old errors_new = IsUnkeptHere plan left old new errors_old errors_new
+IsNotCarriedOut (Tell plan) left old new errors_old errors_new = IsUntoldHere plan left old new errors_old errors_new
 IsNotCarriedOut (Explain plan) left old new errors_old errors_new = IsUnexplainedHere plan left old new errors_old errors_new
 IsNotCarriedOut (Check plan) left old new errors_old errors_new = IsFaultyHere plan left old new errors_old errors_new
 IsNotCarriedOut (Json plan) left old new errors_old errors_new = IsUnsaidHere plan left old new errors_old errors_new

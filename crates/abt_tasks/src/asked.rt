@@ -29,7 +29,7 @@ fn reads_long(task: &Task) -> bool
     match task {
         Task::Plan(plan) => matches!(plan, Plan::Run(_) | Plan::Threads { .. }),
         Task::Json(plan) => matches!(plan, JsonPlan::Run(_) | JsonPlan::Explain(_)),
-        Task::Checked(_) | Task::Keep(_) | Task::Explain(_) => true,
+        Task::Checked(_) | Task::Keep(_) | Task::Tell(_) | Task::Explain(_) => true,
         Task::Audit(_) | Task::Sample(_) => true,
         Task::Check(_) | Task::Parts(_) | Task::Codes(_) => false,
     }

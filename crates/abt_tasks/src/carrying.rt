@@ -10,6 +10,7 @@ use crate::json::say_as_json;
 use crate::keeping::keep;
 use crate::sampling::sample;
 use crate::task::Task;
+use crate::telling::tell;
 use abt_codes::perform_codes;
 use abt_commands::carry_out;
 use abt_parts::perform_parts;
@@ -35,7 +36,8 @@ where
     requires { IsAllowed task.now }
     ensures status { (result ≡ 0) ⊎ (result ≡ 1) }
     ensures reads { TakesOf task.now (R.remaining input.old) (R.remaining input.new) }
-    ensures ok { result ≡ 0 → IsCarriedOut task.now (R.remaining input.old) (W.contents out.old) (W.contents out.new) }
+    ensures ok { result ≡ 0 → IsCarriedOut task.now (R.remaining input.old) (W.contents out.old) (W.contents out.new)
+        (E.contents errors.old) (E.contents errors.new) }
     ensures told { result ≡ 0 → TellsOf task.now (R.remaining input.old) (E.contents errors.old) (E.contents errors.new) }
     ensures err { result ≡ 1 → IsNotCarriedOut task.now (R.remaining input.old) (W.contents out.old) (W.contents out.new)
         (E.contents errors.old) (E.contents errors.new) }
@@ -44,6 +46,7 @@ where
         Task::Plan(plan) => carry_out(rt, progress, plan, input, out, errors),
         Task::Checked(plan) => carry_out_checked(rt, progress, plan, input, out, errors),
         Task::Keep(plan) => keep(rt, progress, plan, input, out, errors),
+        Task::Tell(plan) => tell(rt, progress, plan, input, out, errors),
         Task::Explain(plan) => explain(rt, progress, plan, input, out, errors),
         Task::Check(plan) => check(rt, plan, input, out, errors),
         Task::Json(plan) => say_as_json(rt, progress, plan, input, out, errors),

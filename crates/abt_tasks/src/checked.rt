@@ -82,7 +82,7 @@ fn over_reader<T: Threads + Wait + Sync, R: Read, W: Write, E: Write>(
 }
 
 // Why a text wasn't read, as the program tells it.
-fn unread(fault: TextFault) -> Fault
+pub(crate) fn unread(fault: TextFault) -> Fault
     ensures { result ≡ spec.unread fault }
 {
     match fault {
@@ -115,7 +115,7 @@ fn over_text<T: Threads + Wait + Sync, W: Write, E: Write>(
 }
 
 // Tells a check of a text, if it is UTF-8, or want of memory for it.
-fn tell_check<E: Write>(alloc: Global, text: &[u8], errors: &mut E)
+pub(crate) fn tell_check<E: Write>(alloc: Global, text: &[u8], errors: &mut E)
     ensures { TellsCheck text.now (E.contents errors.old) (E.contents errors.new) }
 {
     let Ok(text) = std::str::from_utf8(text) else {

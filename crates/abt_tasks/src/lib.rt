@@ -14,6 +14,7 @@ mod opening;
 mod sampling;
 mod streams;
 mod task;
+mod telling;
 mod words;
 
 pub use asked::Asked;

@@ -6,7 +6,7 @@ use abt_explain::ExplainPlan;
 use abt_json::JsonPlan;
 use abt_parts::PartsPlan;
 use abt_perform::Plan;
-use abt_perform_threads::KeepPlan;
+use abt_perform_threads::{KeepPlan, TellPlan};
 
 /// What to do, by the crate whose command asks for it.
 #[derive(Drop)]
@@ -17,6 +17,8 @@ pub enum Task {
     Checked(Plan),
     /// Run a scenario in threads, and write the journals of its run.
     Keep(KeepPlan),
+    /// Run a scenario in threads, and tell or write the events that were woven.
+    Tell(TellPlan),
     /// Run a scenario, and tell each of its events with its reason.
     Explain(ExplainPlan),
     /// Tell what is wrong or doubtful in a scenario.

@@ -7,6 +7,7 @@ use crate::json::json_plan_of;
 use crate::keeping::keep_plan_of;
 use crate::streams::stream_of;
 use crate::task::Task;
+use crate::telling::tell_plan_of;
 use abt_commands::{EXPLAIN, QUIET, add_commands, no_plan, plan_of, program, refusal};
 use abt_perform::{Plan, WordsFault};
 use clap::{ArgMatches, Command};
@@ -56,6 +57,9 @@ fn task_of(alloc: Global, name: &str, found: &ArgMatches<'_>) -> Result<Task, Wo
     }
     if let Some(plan) = keep_plan_of(alloc, name, found)? {
         return Ok(Task::Keep(plan));
+    }
+    if let Some(plan) = tell_plan_of(alloc, name, found)? {
+        return Ok(Task::Tell(plan));
     }
     if let Some(plan) = plan_of(alloc, name, found)? {
         if found.get_flag(EXPLAIN) {
