@@ -2,7 +2,7 @@
 _abt() {
     local word=${COMP_WORDS[COMP_CWORD]}
     if [ "$COMP_CWORD" -eq 1 ]; then
-        COMPREPLY=($(compgen -W "rate cell port run threads explain check audit police shape code write help -h --help -V --version" -- "$word"))
+        COMPREPLY=($(compgen -W "rate cell port run threads explain check audit police shape code write draw help -h --help -V --version" -- "$word"))
         return
     fi
     case ${COMP_WORDS[1]} in
@@ -18,7 +18,8 @@ _abt() {
         shape) COMPREPLY=($(compgen -W "--rate -h --help" -- "$word")) ;;
         code) COMPREPLY=($(compgen -W "-h --help" -- "$word")) ;;
         write) COMPREPLY=($(compgen -W "-h --help" -- "$word")) ;;
-        help) COMPREPLY=($(compgen -W "rate cell port run threads explain check audit police shape code write help" -- "$word")) ;;
+        draw) COMPREPLY=($(compgen -f -W "-o --output --only --from --to -h --help" -- "$word")) ;;
+        help) COMPREPLY=($(compgen -W "rate cell port run threads explain check audit police shape code write draw help" -- "$word")) ;;
         *) COMPREPLY=() ;;
     esac
 }

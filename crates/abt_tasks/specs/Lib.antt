@@ -2,6 +2,7 @@ pub mod Audits
 pub mod Sampling
 pub mod Check
 pub mod Checked
+pub mod Drawing
 pub mod Json
 pub mod Keeping
 pub mod Showing

@@ -14,13 +14,14 @@ use Rattle.abt_parts.specs.Answered as parts
 use Rattle.abt_tasks.specs.Audits.{IsAuditedHere, IsUnauditedHere}
 use Rattle.abt_tasks.specs.Check.{TakesToCheck, IsCheckedHere, IsFaultyHere}
 use Rattle.abt_tasks.specs.Checked as checked
+use Rattle.abt_tasks.specs.Drawing.{TakesToDraw}
 use Rattle.abt_tasks.specs.Json.{TakesToSay, IsSaidHere, IsUnsaidHere}
 use Rattle.abt_tasks.specs.Keeping.{TakesToKeep, IsKeptHere, IsUnkeptHere}
 use Rattle.abt_tasks.specs.Opening.{IsUnopenedFile}
 use Rattle.abt_tasks.specs.Sampling.{IsSampledHere, IsUnsampledHere}
 use Rattle.abt_tasks.specs.Telling.{TakesToTell, IsToldHere, IsUntoldHere}
 use Rattle.abt_tasks.specs.declared.task.Task.{Task}
-use Rattle.abt_tasks.specs.declared.task.Task.TheVariants.{Plan, Checked, Keep, Tell, Explain, Check, Json, Audit, Sample, Parts, Codes}
+use Rattle.abt_tasks.specs.declared.task.Task.TheVariants.{Plan, Checked, Keep, Tell, Explain, Check, Json, Audit, Sample, Parts, Codes, Draw}
 
 abbrev pub IsAllowed : Task → Type 0
 IsAllowed (Plan plan) = IsWithinLimits plan
@@ -34,6 +35,7 @@ IsAllowed (Audit plan) = ⊤
 IsAllowed (Sample plan) = ⊤
 IsAllowed (Parts plan) = parts.IsAllowedPlan plan
 IsAllowed (Codes plan) = ⊤
+IsAllowed (Draw plan) = ⊤
 
 -- the file whose scenario is to be explained
 abbrev pub file_of : ExplainPlan → Option Text
@@ -75,8 +77,10 @@ TakesOf (Audit plan) old new = ⊤
 TakesOf (Sample plan) old new = ⊤
 TakesOf (Parts plan) old new = ⊤
 TakesOf (Codes plan) old new = Keeps old new
+TakesOf (Draw plan) old new = TakesToDraw plan old new
 
--- what the task prints went out, all of it; where it tells events of a run, on standard error, so did these
+-- what the task prints went out, all of it; where it tells events of a run, on standard error, so did these. A picture
+-- is printed nowhere: it goes to its own file
 abbrev pub IsCarriedOut : Task → (left old new errors_old errors_new : Option Text) → Type 0
 IsCarriedOut (Plan plan) left old new errors_old errors_new = IsDoneHere plan left old new
 IsCarriedOut (Checked plan) left old new errors_old errors_new = checked.IsDoneHere plan left old new
@@ -89,6 +93,7 @@ IsCarriedOut (Audit plan) left old new errors_old errors_new = IsAuditedHere pla
 IsCarriedOut (Sample plan) left old new errors_old errors_new = IsSampledHere plan left old new
 IsCarriedOut (Parts plan) left old new errors_old errors_new = parts.IsAnswered plan left old new
 IsCarriedOut (Codes plan) left old new errors_old errors_new = codes_printed.IsPrinted plan old new
+IsCarriedOut (Draw plan) left old new errors_old errors_new = Keeps old new
 
 -- what is told of a task that is carried out: a check beside a run, if it is asked for; what is told of events is said above; and else
 -- nothing
@@ -97,7 +102,7 @@ TellsOf (Checked plan) left old new = checked.TellsHere plan left old new
 TellsOf (Tell plan) left old new = ⊤
 TellsOf task left old new = Keeps old new
 
--- the task has a fault, which is told
+-- the task has a fault, which is told; what is told of a picture, no clause says
 abbrev pub IsNotCarriedOut : Task → (left old new errors_old errors_new : Option Text) → Type 0
 IsNotCarriedOut (Plan plan) left old new errors_old errors_new = IsRefusedHere plan left old new errors_old errors_new
 IsNotCarriedOut (Checked plan) left old new errors_old errors_new = checked.IsRefusedHere plan left old new errors_old errors_new
@@ -110,3 +115,4 @@ IsNotCarriedOut (Audit plan) left old new errors_old errors_new = IsUnauditedHer
 IsNotCarriedOut (Sample plan) left old new errors_old errors_new = IsUnsampledHere plan left old new errors_old errors_new
 IsNotCarriedOut (Parts plan) left old new errors_old errors_new = parts.IsRefused plan left old new errors_old errors_new
 IsNotCarriedOut (Codes plan) left old new errors_old errors_new = codes_printed.IsRefused plan old new errors_old errors_new
+IsNotCarriedOut (Draw plan) left old new errors_old errors_new = Keeps old new

@@ -5,6 +5,7 @@ ghost use Rattle.abt_tasks.specs.Tasks.{IsAllowed, IsCarriedOut, IsNotCarriedOut
 use crate::auditing::audit;
 use crate::checked::carry_out_checked;
 use crate::checking::check;
+use crate::drawing::draw;
 use crate::explaining::explain;
 use crate::json::say_as_json;
 use crate::keeping::keep;
@@ -54,5 +55,6 @@ where
         Task::Sample(plan) => sample(rt, progress, plan, input, out, errors),
         Task::Parts(plan) => perform_parts(rt.alloc(), plan, input, out, errors),
         Task::Codes(plan) => perform_codes(rt.alloc(), plan, out, errors),
+        Task::Draw(plan) => draw(rt, plan, input, errors),
     }
 }

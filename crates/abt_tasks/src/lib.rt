@@ -6,6 +6,7 @@ mod auditing;
 mod carrying;
 mod checked;
 mod checking;
+mod drawing;
 mod environment;
 mod explaining;
 mod json;

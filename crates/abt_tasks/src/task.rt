@@ -2,6 +2,7 @@
 use abt_audit::{AuditPlan, SamplePlan};
 use abt_check::CheckPlan;
 use abt_codes::CodesPlan;
+use abt_draw::DrawPlan;
 use abt_explain::ExplainPlan;
 use abt_json::JsonPlan;
 use abt_parts::PartsPlan;
@@ -33,4 +34,6 @@ pub enum Task {
     Parts(PartsPlan),
     /// Say which codes are nearest to a rate.
     Codes(CodesPlan),
+    /// Draw a scenario.
+    Draw(DrawPlan),
 }

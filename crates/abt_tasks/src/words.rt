@@ -43,7 +43,8 @@ fn whole_program<'a>(alloc: Global) -> Result<Command<'a>, AllocError> {
     let program = abt_check::add_commands(alloc, program)?;
     let program = abt_audit::add_commands(alloc, program)?;
     let program = abt_parts::add_commands(alloc, program)?;
-    abt_codes::add_commands(alloc, program)
+    let program = abt_codes::add_commands(alloc, program)?;
+    abt_draw::add_commands(alloc, program)
 }
 
 fn task_of(alloc: Global, name: &str, found: &ArgMatches<'_>) -> Result<Task, WordsFault>
@@ -84,6 +85,9 @@ fn task_of(alloc: Global, name: &str, found: &ArgMatches<'_>) -> Result<Task, Wo
     }
     if let Some(plan) = abt_codes::plan_of(alloc, name, found)? {
         return Ok(Task::Codes(plan));
+    }
+    if let Some(plan) = abt_draw::plan_of(alloc, name, found)? {
+        return Ok(Task::Draw(plan));
     }
     no_task(alloc)
 }

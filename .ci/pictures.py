@@ -1,0 +1,353 @@
+"""Draws each sample of scenarios/ by `abt draw`, reads the picture by Python's own XML parser, and compares what stands in it with a run of the
+model of scenarios/model: the ends of each arrow, what never came, the blocks of each stack, the capacities and the rates.
+
+usage: pictures.py PROGRAM
+"""
+import subprocess
+import sys
+import tempfile
+import xml.etree.ElementTree as ElementTree
+from html.parser import HTMLParser
+from pathlib import Path
+
+ROOT = Path(__file__).resolve().parent.parent
+sys.path.insert(0, str(ROOT / "scenarios" / "model"))
+
+from model import World  # noqa: E402
+from reading import Fault, read  # noqa: E402
+
+SVG = "{http://www.w3.org/2000/svg}"
+# The geometry of docs/PICTURES.md, in tenths of a unit.
+TOP, ROW, BAND, BAND_STEP = 400, 260, 600, 860
+AXIS_LEFT, AXIS_RIGHT = 1000, 200
+
+
+def tenths(text):
+    whole, rest = text.split(".")
+    return int(whole) * 10 + int(rest)
+
+
+# What the events of a run send and bring, by docs/PICTURES.md: a message is its connection, kind, stop and number. Stop 0 is the source, and the
+# one behind the last hop is the end of the path.
+
+
+def sent_by(event, outcome, hops):
+    word = outcome.split(" ")[0]
+    match event:
+        case ("ask", conn, *_) if word == "asked":
+            return conn, "request", 1, int(outcome.split(" ")[1])
+        case ("again", conn) if word == "again":
+            return conn, "request", 1, int(outcome.split(" ")[1])
+        case ("request", conn, hop, seq) if word == "passed":
+            return conn, "request", hop + 1, seq
+        case ("request", conn, hop, seq) if word == "refuses":
+            return conn, "no", hop - 1, seq
+        case ("turn", conn, seq) if word == "turned":
+            return conn, "yes", hops, seq
+        case ("answer", conn, hop, seq, granted) if word == "passed":
+            return conn, "yes" if granted else "no", hop - 1, seq
+    return None
+
+
+def brought_by(event, outcome, hops):
+    if outcome.startswith("not-enabled"):
+        return None
+    match event:
+        case ("request", conn, hop, seq):
+            return conn, "request", hop, seq
+        case ("turn", conn, seq):
+            return conn, "request", hops + 1, seq
+        case ("answer", conn, hop, seq, granted):
+            return conn, "yes" if granted else "no", hop, seq
+        case ("told", conn, seq, granted):
+            return conn, "yes" if granted else "no", 0, seq
+    return None
+
+
+class Run:
+    """A run of the model: what each event answered, sent and brought, and what stands between the events."""
+
+    def __init__(self, ports, conns, events):
+        self.ports, self.conns, self.events = ports, conns, events
+        world = World(ports, conns)
+        self.sent, self.brought, self.frames = [], [], [self.frame(world)]
+        for event in events:
+            outcome = world.step(event)
+            known = event[0] != "capacity" and event[1] < len(conns)
+            hops = len(conns[event[1]]["path"]) if known else 0
+            self.sent.append(sent_by(event, outcome, hops))
+            self.brought.append(brought_by(event, outcome, hops))
+            self.frames.append(self.frame(world))
+
+    def frame(self, world):
+        stacks = {}
+        for port in range(len(self.ports)):
+            stacks[port] = [
+                sum(course.held(hop) for hop, visited in enumerate(course.path, 1) if visited == port) for course in world.courses
+            ]
+        capacities = [world.capacity(port) for port in range(len(self.ports))]
+        rates = [(course.rate(), min(course.held(hop) for hop in range(1, len(course.path) + 1))) for course in world.courses]
+        return stacks, capacities, rates
+
+    def actor(self, conn, stop):
+        path = self.conns[conn]["path"]
+        if stop == 0:
+            return "source", conn
+        return ("end", conn) if stop > len(path) else ("port", path[stop - 1])
+
+    def columns(self, only):
+        columns = []
+        for conn, one in enumerate(self.conns):
+            if only and conn not in only:
+                continue
+            columns.append(("source", conn))
+            for port in one["path"]:
+                if ("port", port) not in columns:
+                    columns.append(("port", port))
+            columns.append(("end", conn))
+        return columns
+
+    def sender(self, message):
+        conn, kind, stop, _ = message
+        return self.actor(conn, stop - 1 if kind == "request" else stop + 1)
+
+    def newest_sending(self, message, before):
+        return max((place for place in range(before) if self.sent[place] == message), default=None)
+
+    def coming(self, place):
+        """The event that brings what an event sent, if one does before it is sent again."""
+        for later in range(place + 1, len(self.events)):
+            if self.brought[later] == self.sent[place]:
+                return later
+            if self.sent[later] == self.sent[place]:
+                return None
+        return None
+
+
+class Picture:
+    """A picture, as an XML parser has it."""
+
+    def __init__(self, text, run, first, last, only):
+        self.root = ElementTree.fromstring(text)
+        self.run, self.first, self.last, self.only = run, first, last, only
+        self.width = tenths(self.root.get("width"))
+        self.bottom = self.y(last - first + 1)
+
+    def y(self, level):
+        return TOP + ROW * level
+
+    def level(self, event):
+        return 0 if event < self.first else min(event - self.first + 1, self.last - self.first + 1)
+
+    def shapes(self, under, kind, name):
+        return [one for one in under.iter(SVG + kind) if name in one.get("class", "").split(" ")]
+
+    def lifelines(self):
+        """The place of each column, by the name above it."""
+        lines = [tenths(one.get("x1")) for one in self.shapes(self.root, "line", "life")]
+        names = [one for one in self.shapes(self.root, "text", "name")]
+        found = {}
+        for line, kind, number in zip(lines, names[::2], names[1::2]):
+            assert tenths(kind.get("x")) == tenths(number.get("x")) == line, "a name isn't above its lifeline"
+            found[kind.text, int(number.text)] = line
+        assert list(found) == self.run.columns(self.only), ("columns", list(found))
+        return found
+
+    def check(self):
+        places = self.lifelines()
+        groups = {one.get("id"): one for one in self.root.iter(SVG + "g")}
+        assert list(groups) == [f"e{event + 1}" for event in range(self.first, self.last)], "events"
+        for event in range(self.first, self.last):
+            self.check_arrows(groups[f"e{event + 1}"], event, places)
+        bands = [one for one in places if one[0] == "port"] + [one for one in places if one[0] == "source"]
+        for place, (kind, number) in enumerate(bands):
+            base = self.bottom + BAND_STEP * (place + 1)
+            self.check_stack(number, base) if kind == "port" else self.check_rates(number, base)
+
+    def arrow(self, message, sent, came, places):
+        sender, receiver = self.run.sender(message), self.run.actor(message[0], message[2])
+        if sender not in places or receiver not in places:
+            return []
+        return [(message[1], places[sender], self.y(0 if sent is None else self.level(sent)), places[receiver], self.y(self.level(came)))]
+
+    def check_arrows(self, group, event, places):
+        run, wanted, stumps = self.run, [], []
+        if run.brought[event]:
+            wanted += self.arrow(run.brought[event], run.newest_sending(run.brought[event], event), event, places)
+        if run.sent[event]:
+            came = run.coming(event)
+            if came is None:
+                stumps = self.arrow(run.sent[event], event, event, places)
+            elif came >= self.last:
+                wanted += self.arrow(run.sent[event], event, came, places)
+        drawn = [self.ends(one) for one in self.shapes(group, "line", "arrow")]
+        assert drawn == wanted, ("arrows", event + 1, drawn, wanted)
+        halves = [(kind, x, y, x // 2 + to // 2, y) for kind, x, y, to, _ in stumps]
+        drawn = [self.ends(one) for one in self.shapes(group, "line", "stump")]
+        assert drawn == halves, ("stumps", event + 1, drawn, halves)
+        assert len(self.shapes(group, "line", "lost")) == 2 * len(halves), ("crosses", event + 1)
+
+    def ends(self, line):
+        return (line.get("class").split(" ")[1], *(tenths(line.get(name)) for name in ("x1", "y1", "x2", "y2")))
+
+    def edge(self, frame):
+        return AXIS_LEFT + (self.width - AXIS_LEFT - AXIS_RIGHT) * frame // (self.last - self.first + 1)
+
+    def frames(self):
+        """Each frame, with the place in the middle of its part of the axis."""
+        for frame in range(self.last - self.first + 1):
+            yield self.run.frames[self.first + frame], (self.edge(frame) + self.edge(frame + 1)) / 2
+
+    def check_stack(self, port, base):
+        most = max(frame[1][port] for frame, _ in self.frames())
+        height = lambda value: value * BAND // most if most else 0  # noqa: E731
+        blocks = [one for one in self.shapes(self.root, "rect", "hold") if base - BAND <= tenths(one.get("y")) < base]
+        lines = self.flat("capacity", base)
+        for frame, at in self.frames():
+            below, wanted = 0, []
+            for conn, held in enumerate(frame[0][port]):
+                if held:
+                    wanted.append((f"h{conn % 6}", base - height(below + held), base - height(below)))
+                below += held
+            drawn = []
+            for one in blocks:
+                x, y, width, tall = (tenths(one.get(name)) for name in ("x", "y", "width", "height"))
+                if x < at < x + width:
+                    drawn.append((one.get("class").split(" ")[1], y, y + tall))
+            assert drawn == wanted, ("stack", port, at, drawn, wanted)
+            assert [y for x, y, to in lines if x < at < to] == [base - height(frame[1][port])], ("capacity", port, at)
+            assert all(y >= base - height(frame[1][port]) for _, y, _ in drawn), ("a stack above its line", port)
+
+    def check_rates(self, conn, base):
+        most = max(max(frame[2][conn]) for frame, _ in self.frames())
+        height = lambda value: value * BAND // most if most else 0  # noqa: E731
+        rates, leasts = self.flat("rate", base), self.flat("least", base)
+        for frame, at in self.frames():
+            rate, least = frame[2][conn]
+            assert [y for x, y, to in rates if x < at < to] == [base - height(rate)], ("rate", conn, at)
+            assert [y for x, y, to in leasts if x < at < to] == [base - height(least)], ("least", conn, at)
+
+    def flat(self, name, base):
+        """The level parts of a line in a band."""
+        found = []
+        for one in self.shapes(self.root, "line", name):
+            x, y, to, low = (tenths(one.get(part)) for part in ("x1", "y1", "x2", "y2"))
+            if y == low and base - BAND <= y <= base:
+                found.append((x, y, to))
+        return found
+
+
+class Page(HTMLParser):
+    """What a page takes from outside, and its words."""
+
+    def __init__(self):
+        super().__init__()
+        self.outside, self.inside, self.words, self.open = [], [], "", []
+
+    def handle_starttag(self, tag, attributes):
+        self.open.append(tag)
+        for name, value in attributes:
+            if name in ("src", "href", "xlink:href", "srcset", "action", "data", "poster"):
+                self.outside.append((tag, name, value))
+
+    def handle_endtag(self, tag):
+        while self.open and self.open.pop() != tag:
+            pass
+
+    def handle_data(self, data):
+        if "pre" in self.open:
+            self.words += data
+        if "style" in self.open and "url(" in data.replace("url(#", ""):
+            self.outside.append(("style", "url", data))
+        if "script" in self.open and any(word in data for word in ("fetch", "XMLHttp", "import", "http:", "https:", "WebSocket")):
+            self.outside.append(("script", "", data))
+
+
+def draw(program, file, out, *words):
+    return subprocess.run([program, "draw", file, "-o", out, *words], capture_output=True, text=True)
+
+
+def check_sample(program, sample, room):
+    """Draws a sample as a whole, in part and as a page; how many events it has."""
+    try:
+        ports, conns, events, _ = read(sample.read_bytes())
+    except Fault as fault:
+        out = room / "none.svg"
+        ended = draw(program, sample, out)
+        assert (ended.returncode, ended.stdout, ended.stderr) == (1, "", f"fault: {fault}\n"), ended
+        assert not out.exists(), "a fault left a file"
+        return 0
+    run = Run(ports, conns, events)
+    explained = subprocess.run([program, "explain", sample], capture_output=True, text=True, check=True).stdout
+    parts = [((), 0, len(events), ())]
+    if len(events) > 4:
+        parts.append((("--from", "3", "--to", str(len(events) - 1)), 2, len(events) - 1, ()))
+    if len(conns) > 1:
+        parts.append((("--only", str(len(conns) - 1)), 0, len(events), (len(conns) - 1,)))
+    for words, first, last, only in parts:
+        out = room / "picture.svg"
+        ended = draw(program, sample, out, *words)
+        assert (ended.returncode, ended.stdout, ended.stderr) == (0, "", ""), ended
+        picture = Picture(out.read_text(), run, first, last, only)
+        picture.check()
+        assert picture.root.find(SVG + "desc").text == explained, "the words of a picture"
+    out = room / "picture.html"
+    ended = draw(program, sample, out)
+    assert (ended.returncode, ended.stdout, ended.stderr) == (0, "", ""), ended
+    page = Page()
+    page.feed(out.read_text())
+    assert page.outside == [], page.outside
+    assert page.words == explained, "the words of a page"
+    return len(events)
+
+
+def check_shown(program, room):
+    """The picture that README.md shows is the one that is drawn."""
+    out = room / "shown.svg"
+    draw(program, ROOT / "scenarios" / "two_ports.toml", out)
+    assert out.read_text() == (ROOT / "docs" / "two_ports.svg").read_text(), "docs/two_ports.svg isn't what is drawn"
+
+
+def check_refusals(program, room):
+    """Words and scenarios of which nothing is drawn, and then no file is left."""
+    sample = ROOT / "scenarios" / "two_ports.toml"
+    many = room / "many.toml"
+    many.write_text("ports = [1]\nevents = [" + '"capacity 0 1", ' * 2001 + "]\n")
+    rows = [
+        (sample, "none.txt", (), 2, "error: OUT ends in .svg or in .html\n"),
+        (sample, "none.svg", ("--only", "0,x"), 2, "error: --only names connections by their places, as 0,2\n"),
+        (sample, "none.svg", ("--from", "0"), 2, "error: --from and --to name events by numbers, the first by 1\n"),
+        (sample, "none.svg", ("--only", "2"), 1, "fault: Only 2: the net has no such connection\n"),
+        (sample, "none.svg", ("--to", "18"), 1, "fault: Range: --from and --to are to name some of the 17 events\n"),
+        (sample, "none.svg", ("--from", "5", "--to", "3"), 1, "fault: Range: --from and --to are to name some of the 17 events\n"),
+        (many, "none.svg", (), 1, "fault: Events 2001: at most 2000 are drawn at once, so choose some by --from and --to\n"),
+        (sample, "no/folder.svg", (), 1, "fault: open\n"),
+        (room / "nothing.toml", "none.svg", (), 1, f"fault: open\n{room / 'nothing.toml'}: there is no such file\n"),
+    ]
+    for file, out, words, status, told in rows:
+        ended = draw(program, file, room / out, *words)
+        assert ended.returncode == status and ended.stdout == "", ended
+        assert ended.stderr == told if status == 1 else ended.stderr.startswith(told), (ended.stderr, told)
+        assert [one.name for one in room.iterdir() if one.name.startswith("none")] == [], "a refusal left a file"
+    ended = draw(program, many, room / "some.svg", "--from", "2")
+    assert ended.returncode == 0, ended
+    return len(rows)
+
+
+def main():
+    program = Path(sys.argv[1]).resolve()
+    samples = sorted((ROOT / "scenarios").glob("*.toml"))
+    with tempfile.TemporaryDirectory() as room:
+        events = 0
+        for sample in samples:
+            try:
+                events += check_sample(program, sample, Path(room))
+            except AssertionError as error:
+                sys.exit(f"pictures: {sample.name}: {error}")
+        check_shown(program, Path(room))
+        refusals = check_refusals(program, Path(room))
+    print(f"pictures: {len(samples)} samples with {events} events are drawn as the model has them, and {refusals} refusals leave no file")
+
+
+if __name__ == "__main__":
+    main()

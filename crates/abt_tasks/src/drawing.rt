@@ -1,0 +1,97 @@
+//! Pictures, of the scenario of the file that is named or of the input that is there.
+ghost use Rattle.std.specs.Prelude.{◌≡◌, ◌⊎◌};
+ghost use Rattle.std.specs.Io.KnownBytes.{Keeps};
+ghost use Rattle.std.specs.Option.{option_map};
+ghost use Rattle.abt_tasks.specs.Drawing.{TakesToDraw};
+ghost use Rattle.abt_tasks.specs.Drawing as spec;
+
+use crate::opening::{open_named, tell_unopened};
+use abt_commands::line_of_unopened;
+use abt_draw::{DrawFault, DrawPlan, drawing_of, tell_draw_fault};
+use abt_perform::{MEMORY_LINE, WRITE_LINE, tell_text};
+use abt_text::put;
+use std::alloc::AllocGlobal;
+use std::fs::File;
+use std::io::{Read, Write};
+use std::rt::Files;
+
+// Draws the scenario of the file that a plan names, or else of an input that is there, and gives the exit status. The picture goes to its
+// own file, whole or not at all.
+pub(crate) fn draw<T: Files + AllocGlobal, R: Read, E: Write>(
+    rt: &T,
+    plan: &DrawPlan,
+    input: &mut R,
+    errors: &mut E,
+) -> u8
+    ensures status { (result ≡ 0) ⊎ (result ≡ 1) }
+    ensures reads { TakesToDraw plan.now (R.remaining input.old) (R.remaining input.new) }
+    ensures quiet { result ≡ 0 → Keeps (E.contents errors.old) (E.contents errors.new) }
+{
+    let Some(name) = file_of(plan) else {
+        let text = drawing_of(rt.alloc(), plan, input);
+        return keep_picture(rt, plan, text, errors);
+    };
+    match open_named(rt, name) {
+        Ok(mut file) => {
+            let text = drawing_of(rt.alloc(), plan, &mut file);
+            keep_picture(rt, plan, text, errors)
+        }
+        Err(unopened) => {
+            tell_unopened(name, unopened, errors);
+            1
+        }
+    }
+}
+
+// The file that a plan names.
+fn file_of(plan: &DrawPlan) -> Option<&str>
+    ensures { option_map (λ name. name.now) result ≡ spec.file_of plan.now }
+{
+    match &plan.file {
+        Some(name) => Some(name.as_str()),
+        None => None,
+    }
+}
+
+// Writes a picture to its file, or tells why there is none.
+fn keep_picture<T: Files + AllocGlobal, E: Write>(
+    rt: &T,
+    plan: &DrawPlan,
+    text: Result<String, DrawFault>,
+    errors: &mut E,
+) -> u8
+    ensures status { (result ≡ 0) ⊎ (result ≡ 1) }
+    ensures quiet { result ≡ 0 → Keeps (E.contents errors.old) (E.contents errors.new) }
+{
+    let text = match text {
+        Ok(text) => text,
+        Err(fault) => {
+            tell_draw_fault(rt.alloc(), fault, errors);
+            return 1;
+        }
+    };
+    match write_whole(rt, plan.out.as_str(), text.as_str()) {
+        Ok(()) => 0,
+        Err(line) => {
+            tell_text(errors, line);
+            1
+        }
+    }
+}
+
+// Writes a text to a file beside its own, which then takes its own name: so none is left half written. What is told, where that fails.
+fn write_whole<T: Files + AllocGlobal>(rt: &T, name: &str, text: &str) -> Result<(), &'static str> {
+    let Ok(beside) = format!(in rt.alloc(); "{name}.part") else {
+        return Err(MEMORY_LINE);
+    };
+    let beside = beside.as_str();
+    let written = match File::create(rt, beside) {
+        Ok(mut file) => put(&mut file, text.as_bytes()),
+        Err(error) => return Err(line_of_unopened(&error)),
+    };
+    if written.is_ok() && rt.rename(beside, name).is_ok() {
+        return Ok(());
+    }
+    let _ = rt.remove_file(beside);
+    Err(WRITE_LINE)
+}
