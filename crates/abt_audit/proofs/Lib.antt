@@ -1,3 +1,4 @@
+pub mod Contradiction
 pub mod Heard
 pub mod Judged
 pub mod Lists

@@ -2,4 +2,5 @@ pub mod Audits
 pub mod Names
 pub mod Stuck
 pub mod Protocol
+pub mod Contradicted
 pub mod Performing

@@ -1,0 +1,5 @@
+use Rattle.abt_audit.proofs.Contradiction.{ports_are_contradicted}
+use Rattle.abt_audit.proofs.laws.mismatches_are_contradicted.Goals as goal
+
+pub returns : goal.returns
+returns c = ports_are_contradicted
