@@ -12,7 +12,6 @@ use abt_text::{u16_of, u32_of, u64_of, words_of};
 const WORDS_MAX: usize = 4;
 
 /// The event that a text says, or `None` where it says none (docs/FORMATS.md, "Scenario").
-#[inline(always)]
 pub fn event_of(text: &str) -> Option<Event>
     ensures { result ≡ event_of text.now }
 {

@@ -14,7 +14,6 @@ use abt_text::HexCode;
 use std::alloc::AllocError;
 
 /// Adds what an event answered, as reports say it (docs/FORMATS.md, "Report").
-#[inline(always)]
 pub fn push_outcome(text: &mut String, outcome: &Outcome) -> Result<(), AllocError>
     ensures { OnOk result (string_bytes text.new ≡ string_bytes text.old ++ outcome_text outcome.now) }
 {

@@ -93,7 +93,6 @@ impl<'net> World<'net> {
     ///
     /// # Errors
     /// Where memory is refused nothing has happened.
-    #[inline(always)]
     pub fn step(&mut self, event: &Event) -> Result<Outcome, AllocError>
         ensures outcome { (net : Topology) (events : List Event) → StandsFor net events self.old → MatchResult result
             (λ outcome. (outcome ≡ outcome_of net (facts_after net events) event.now) × StandsFor net (events ++ event.now ∷ []) self.new)
