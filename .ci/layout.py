@@ -29,19 +29,12 @@ WITHOUT_BODIES = {
     "abt_command_rows",
     "abt_facts",
     "abt_journal_rows",
-    "abt_links",
     "abt_part_tests",
-    "abt_port_tests",
     "abt_rows",
     "abt_scenario_rows",
-    "abt_script",
-    "abt_source_journal",
     "abt_thread_tests",
-    "abt_trace",
     "abt_walk",
-    "abt_weave_rows",
-    "abt_weave_walk",
-    "abt_woven",
+    "abt_weave_tests",
 }
 
 

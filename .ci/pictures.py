@@ -1,8 +1,11 @@
 """Draws each sample of scenarios/ by `abt draw`, reads the picture by Python's own XML parser, and compares what stands in it with a run of the
 model of scenarios/model: the ends of each arrow, what never came, the blocks of each stack, the capacities and the rates.
 
+Each sample for threads is drawn by `abt draw --workers` too, and the picture compared with a run of the events that `--events` writes.
+
 usage: pictures.py PROGRAM
 """
+import re
 import subprocess
 import sys
 import tempfile
@@ -301,6 +304,41 @@ def check_sample(program, sample, room):
     return len(events)
 
 
+def check_woven(program, sample, room):
+    """Draws a run of a sample's scripts in threads; how many events were woven. Where there is no run, the faults are those of `abt threads`."""
+    events, out = room / "woven.toml", room / "none.svg"
+    threads = subprocess.run([program, "threads", sample, "--workers", "4"], capture_output=True, text=True)
+    for workers, page in (("1", False), ("4", True), ("64", False)):
+        out = room / ("none.html" if page else "none.svg")
+        ended = draw(program, sample, out, "--workers", workers, "--events", events)
+        if threads.returncode:
+            assert (ended.returncode, ended.stdout, ended.stderr) == (1, "", threads.stderr), ended
+            assert not out.exists() and not events.exists(), "a fault left a file"
+            continue
+        assert (ended.returncode, ended.stdout, ended.stderr) == (0, "", ""), ended
+        ports, conns, woven, _ = read(events.read_bytes())
+        explained = subprocess.run([program, "explain", events], capture_output=True, text=True, check=True).stdout
+        explained = re.sub(r"^(\d+) line \d+ ", r"\1 ", explained, flags=re.M)
+        if page:
+            seen = Page()
+            seen.feed(out.read_text())
+            assert (seen.outside, seen.words) == ([], explained), "the page of a woven run"
+        else:
+            picture = Picture(out.read_text(), Run(ports, conns, woven), 0, len(woven), ())
+            picture.check()
+            assert picture.root.find(SVG + "desc").text == explained, "the words of a woven run"
+        out.unlink()
+        events.unlink()
+    if threads.returncode:
+        return 0
+    ended = draw(program, sample, out, "--workers", "4")
+    assert (ended.returncode, ended.stdout, ended.stderr) == (0, "", ""), ended
+    ended = draw(program, sample, out, "--workers", "4", "--events", room / "no" / "woven.toml")
+    assert (ended.returncode, ended.stdout, ended.stderr) == (1, "", "fault: events open\n"), ended
+    out.unlink()
+    return len(woven)
+
+
 def check_shown(program, room):
     """The picture that README.md shows is the one that is drawn."""
     out = room / "shown.svg"
@@ -317,6 +355,12 @@ def check_refusals(program, room):
         (sample, "none.txt", (), 2, "error: OUT ends in .svg or in .html\n"),
         (sample, "none.svg", ("--only", "0,x"), 2, "error: --only names connections by their places, as 0,2\n"),
         (sample, "none.svg", ("--from", "0"), 2, "error: --from and --to name events by numbers, the first by 1\n"),
+        (sample, "none.svg", ("--events", "none.toml"), 2, "error: the following required arguments were not provided:\n  --workers <N>\n"),
+        (sample, "none.svg", ("--workers", "0"), 2, "error: invalid value '0' for '--workers <N>': 0 is not in 1..=64\n"),
+        (sample, "none.svg", ("--workers", "65"), 2, "error: invalid value '65' for '--workers <N>': 65 is not in 1..=64\n"),
+        (sample, "none.txt", ("--workers", "4"), 2, "error: OUT ends in .svg or in .html\n"),
+        (room / "nothing.toml", "none.svg", ("--workers", "4"), 1, f"fault: open\n{room / 'nothing.toml'}: there is no such file\n"),
+        (sample, "no/folder.svg", ("--workers", "4"), 1, "fault: open\n"),
         (sample, "none.svg", ("--only", "2"), 1, "fault: Only 2: the net has no such connection\n"),
         (sample, "none.svg", ("--to", "18"), 1, "fault: Range: --from and --to are to name some of the 17 events\n"),
         (sample, "none.svg", ("--from", "5", "--to", "3"), 1, "fault: Range: --from and --to are to name some of the 17 events\n"),
@@ -344,9 +388,17 @@ def main():
                 events += check_sample(program, sample, Path(room))
             except AssertionError as error:
                 sys.exit(f"pictures: {sample.name}: {error}")
+        threads = [sample for sample in samples if sample.name.startswith("threads_")]
+        woven = 0
+        for sample in threads:
+            try:
+                woven += check_woven(program, sample, Path(room))
+            except AssertionError as error:
+                sys.exit(f"pictures: {sample.name}, woven: {error}")
         check_shown(program, Path(room))
         refusals = check_refusals(program, Path(room))
     print(f"pictures: {len(samples)} samples with {events} events are drawn as the model has them, and {refusals} refusals leave no file")
+    print(f"pictures: {len(threads)} samples run in threads are drawn so too, each by 1, 4 and 64 link workers; {woven} events woven by 64")
 
 
 if __name__ == "__main__":

@@ -92,7 +92,13 @@ class Terminal:
         self.out = tempfile.TemporaryFile()
         self.program = subprocess.Popen(
             words, stdin=stdin, stdout=self.side if both else self.out, stderr=self.side, env={**os.environ, "TERM": term},
-            start_new_session=True, preexec_fn=lambda: fcntl.ioctl(2, termios.TIOCSCTTY, 0))
+            start_new_session=True, preexec_fn=self.begin)
+
+    @staticmethod
+    def begin():
+        """Takes the terminal, and Ctrl-C too where this script was started without it."""
+        fcntl.ioctl(2, termios.TIOCSCTTY, 0)
+        signal.signal(signal.SIGINT, signal.SIG_DFL)
 
     def read(self, until=None):
         """Reads what is shown, until something is or the program has ended."""

@@ -1,7 +1,7 @@
 """Runs the program with each of its allocations refused in turn, and wants want of memory told as just that.
 
 A run with an allocation refused has to end as one without (the C library can do without some of its own), or with status 1,
-`fault: memory` on standard error and nothing on standard output. Of `abt threads` the lines before may stay, and a thread that isn't
+`fault: memory` on standard error and nothing on standard output. A picture is then the same as without, or there is none. Of `abt threads` the lines before may stay, and a thread that isn't
 started for want of memory is `fault: Thread`; its allocations come in no fixed order, so of these only some are tried.
 
 usage: refusals.py [PROGRAM]    of this program, else the one that `./abt --prove` makes
@@ -55,9 +55,15 @@ COMMANDS = [
     (["explain", "none.toml"], b""),
     (["explain", "one_source.toml"], b""),
     (["explain", "every_cause.toml"], b""),
+    (["draw", "two_ports.toml", "-o", "PICTURE.svg"], b""),
+    (["draw", "every_cause.toml", "--from", "3", "-o", "PICTURE.html"], b""),
+    (["draw", "two_ports.toml", "--only", "2", "-o", "PICTURE.svg"], b""),
+    (["draw", "two_ports.toml", "-o", "PICTURE.txt"], b""),
+    (["draw", "none.toml", "-o", "PICTURE.svg"], b""),
     *((["run", sample.name], b"") for sample in sorted(FOLDER.glob("*.toml")) if not sample.name.startswith("threads_")),
 ]
 THREADS = (["threads", "threads_one_source.toml", "--workers", "1"], b"")
+DRAWN_THREADS = (["draw", "threads_one_source.toml", "--workers", "1", "-o", "PICTURE.svg"], b"")
 THREADS_TRIED = 400
 MOST_TRIED = 5_000
 AT_ONCE = 2
@@ -67,8 +73,14 @@ BATCH = 32
 def run(program, preload, command, **more):
     words, text = command
     environment = {"LD_PRELOAD": str(preload), **more}
-    done = subprocess.run([program, *words], cwd=FOLDER, input=text, capture_output=True, timeout=60, env=environment)
-    return done.stdout.decode(), done.stderr.decode(), done.returncode
+    with tempfile.TemporaryDirectory(prefix="refusals.") as room:
+        words = [word.replace("PICTURE", f"{room}/picture") if isinstance(word, str) else word for word in words]
+        done = subprocess.run([program, *words], cwd=FOLDER, input=text, capture_output=True, timeout=60, env=environment)
+        drawn = {file.suffix: file.read_text() for file in Path(room).iterdir()}
+    if command is DRAWN_THREADS:
+        # A run in threads goes otherwise each time: that its picture is whole must do.
+        drawn = {kind: text.endswith("</svg>\n") for kind, text in drawn.items()}
+    return done.stdout.decode(), done.stderr.decode(), done.returncode, drawn
 
 
 def refused(program, preload, folder, command, number):
@@ -102,11 +114,11 @@ def beginnings(text):
 def faults(program, preload, folder, command):
     """The refusals of a command that end otherwise, how many there are, and how many are told."""
     without = run(program, preload, command)
-    with_threads = command is THREADS
-    texts = LINES if with_threads else beginnings(without[0]) if "--stdin" in command[0] else ("",)
-    allowed = {(text, MEMORY, 1) for text in texts}
+    with_threads = command in (THREADS, DRAWN_THREADS)
+    texts = LINES if command is THREADS else beginnings(without[0]) if "--stdin" in command[0] else ("",)
+    allowed = [(text, MEMORY, 1, {}) for text in texts]
     if with_threads:
-        allowed.add(("", "fault: Thread\n", 1))
+        allowed.append(("", "fault: Thread\n", 1, {}))
     ends = ends_of(program, preload, folder, command, THREADS_TRIED if with_threads else MOST_TRIED)
     others = [(number, end) for number, end in enumerate(ends, 1) if end != without and end not in allowed]
     return others, len(ends), sum(end in allowed for end in ends)
@@ -119,7 +131,7 @@ def main(program):
         if preload is None:
             print("refusals: not run, as there is no C compiler")
             return
-        for command in [*COMMANDS, THREADS]:
+        for command in [*COMMANDS, THREADS, DRAWN_THREADS]:
             others, count, memory = faults(program, preload, folder, command)
             tried += count
             told += memory

@@ -18,7 +18,7 @@ _abt() {
         shape) COMPREPLY=($(compgen -W "--rate -h --help" -- "$word")) ;;
         code) COMPREPLY=($(compgen -W "-h --help" -- "$word")) ;;
         write) COMPREPLY=($(compgen -W "-h --help" -- "$word")) ;;
-        draw) COMPREPLY=($(compgen -f -W "-o --output --only --from --to -h --help" -- "$word")) ;;
+        draw) COMPREPLY=($(compgen -f -W "-o --output --only --from --to --workers --events -h --help" -- "$word")) ;;
         help) COMPREPLY=($(compgen -W "rate cell port run threads explain check audit police shape code write draw help" -- "$word")) ;;
         *) COMPREPLY=() ;;
     esac

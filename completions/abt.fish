@@ -57,6 +57,8 @@ complete -c abt -n '__fish_seen_subcommand_from draw' -s o -l output -x -d 'Writ
 complete -c abt -n '__fish_seen_subcommand_from draw' -l only -x -d 'Show these connections alone, as 0,2'
 complete -c abt -n '__fish_seen_subcommand_from draw' -l from -x -d 'Show the events from this one on, counted from 1'
 complete -c abt -n '__fish_seen_subcommand_from draw' -l to -x -d 'Show the events up to this one'
+complete -c abt -n '__fish_seen_subcommand_from draw' -l workers -x -d 'Run the scenario\'s scripts in threads, with this many link workers, 1 to 64, and draw the events that were woven'
+complete -c abt -n '__fish_seen_subcommand_from draw' -l events -x -d 'With --workers, write the events that were woven to this file too, as a scenario for abt run'
 complete -c abt -n '__fish_seen_subcommand_from draw' -s h -l help -d 'Print help'
 complete -c abt -n '__fish_seen_subcommand_from draw' -F
 complete -c abt -n '__fish_seen_subcommand_from help' -a 'rate cell port run threads explain check audit police shape code write draw help'

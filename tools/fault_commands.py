@@ -12,6 +12,10 @@ CONNECTIONS = 1024
 HOPS = 16
 
 
+# Stands in the words of a command for a folder of its own, in which it may write.
+WRITTEN = "WRITTEN"
+
+
 @dataclass(frozen=True)
 class Command:
     """The words of a command, and what it is given on the standard input."""
@@ -26,7 +30,11 @@ class Command:
         return f"{shown or 'no words'}{self.name and ' <' + self.name}"
 
     def has_threads(self):
-        return self.words[:1] == ("threads",) and "--help" not in self.words
+        return "--workers" in self.words and "--help" not in self.words
+
+    def words_in(self, folder):
+        """The words, where files that are written stand in this folder."""
+        return [word.replace(WRITTEN, str(folder)) if isinstance(word, str) else word for word in self.words]
 
     def answers_lines(self):
         """Whether each line of the standard input is answered before the next one is read."""
@@ -61,7 +69,18 @@ BY_LINES = [
     (("cell", "--stdin"), CELLS),
     (("port", "512000", "--stdin"), CELLS),
 ]
-NAMES = ("rate", "cell", "port", "run", "explain", "police", "shape", "threads")
+PICTURE, PAGE = f"{WRITTEN}/picture.svg", f"{WRITTEN}/picture.html"
+DRAWN = [
+    ("draw", "two_ports.toml", "-o", PICTURE),
+    ("draw", "two_ports.toml", "-o", PAGE, "--only", "1", "--from", "3"),
+    ("draw", "every_cause.toml", "-o", PICTURE),
+    ("draw", "fault_toml.toml", "-o", PICTURE),
+    ("draw", "two_ports.toml", "-o", PICTURE, "--only", "2"),
+    ("draw", "two_ports.toml", "-o", f"{WRITTEN}/none/picture.svg"),
+    ("draw", "threads_one_source.toml", "--workers", "1", "-o", PICTURE),
+    ("draw", "threads_fault_jitter.toml", "--workers", "1", "-o", PICTURE),
+]
+NAMES = ("rate", "cell", "port", "run", "explain", "police", "shape", "threads", "draw")
 HELP = [("--help",), ("help",), ("--version",), *(words for name in NAMES for words in ((name, "--help"), ("help", name)))]
 REFUSED = [
     (),
@@ -77,6 +96,9 @@ REFUSED = [
     ("threads", "threads_one_source.toml"),
     ("threads", "threads_one_source.toml", "--workers", "0"),
     ("threads", "threads_one_source.toml", "--workers", "65"),
+    ("draw", "two_ports.toml"),
+    ("draw", "two_ports.toml", "-o", "picture.txt"),
+    ("draw", "two_ports.toml", "-o", PICTURE, "--events", f"{WRITTEN}/events.toml"),
 ]
 UNREAD = [
     ("run", "none.toml"),
@@ -85,6 +107,8 @@ UNREAD = [
     ("explain", "."),
     ("threads", "none.toml", "--workers", "1"),
     ("threads", ".", "--workers", "1"),
+    ("draw", "none.toml", "-o", PICTURE),
+    ("draw", ".", "--workers", "1", "-o", PICTURE),
 ]
 
 
@@ -101,7 +125,7 @@ def of_samples():
 
 def all_commands():
     by_lines = [Command(words, text, "lines") for words, text in BY_LINES]
-    return [*(Command(words) for words in [*PLAIN, *AS_JSON, *HELP, *REFUSED, *UNREAD]), *by_lines, *of_samples()]
+    return [*(Command(words) for words in [*PLAIN, *AS_JSON, *DRAWN, *HELP, *REFUSED, *UNREAD]), *by_lines, *of_samples()]
 
 
 def connection(conn):

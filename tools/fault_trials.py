@@ -1,6 +1,7 @@
 """Runs of a command in which something fails, and whether they end as docs/FORMATS.md, "The program", has it."""
 import resource
 import subprocess
+import tempfile
 from collections import Counter
 from concurrent.futures import ThreadPoolExecutor
 from dataclasses import dataclass, field
@@ -25,6 +26,8 @@ class End(NamedTuple):
     status: int
 
 
+# The status that stands here for a file that isn't whole.
+PART = -98
 HANG = End("", f"no end after {SECONDS} seconds", -99)
 
 
@@ -48,15 +51,24 @@ def is_a_part(text, whole):
     return whole.startswith(text) and text != whole
 
 
+def lacks_some(text, whole):
+    """Whether a text is another one but for some octets that are missing at one place: what is told in pieces goes on behind one of them."""
+    return len(text) < len(whole) and any(whole.startswith(text[:at]) and whole.endswith(text[at:]) for at in range(len(text) + 1))
+
+
 def is_unwritten(command, plain, end, descriptor):
-    """A fault that can't be told changes no status."""
+    """A fault that can't be told changes no status. That a file can't be written is told behind all else."""
+    if descriptor > 2:
+        return end == (plain.output, plain.told + WRITE, 1)
     if descriptor == 2:
-        return end.output == plain.output and is_a_part(end.told, plain.told) and end.status == plain.status
+        return end.output == plain.output and lacks_some(end.told, plain.told) and end.status == plain.status
     return is_a_part(end.output, plain.output) and end[1:] == (WRITE, 1)
 
 
 def is_untold(command, plain, end, descriptor):
     """Nothing more can be written, so that the failed write can't be told either."""
+    if descriptor > 2:
+        return end == (plain.output, plain.told, 1)
     return is_unwritten(command, plain, end._replace(told=WRITE) if descriptor == 1 and not end.told else end, descriptor)
 
 
@@ -94,16 +106,25 @@ KINDS = {
 }
 
 
+def is_whole(file):
+    """Whether a file is a whole picture, or a whole page, or none of these."""
+    ends = {".svg": "</svg>\n", ".html": "</html>\n", ".part": None}.get(file.suffix, "")
+    return ends is not None and file.read_text().endswith(ends)
+
+
 def run(program, command, environment=None, kibibytes=None):
     """How a command ends, with this environment and, if it is given, on a stack of so many kibibytes."""
     limit = kibibytes and (lambda: resource.setrlimit(resource.RLIMIT_STACK, (kibibytes * 1024, resource.RLIM_INFINITY)))
-    try:
-        done = subprocess.run(
-            [program, *command.words], cwd=SAMPLES, input=command.text, capture_output=True, timeout=SECONDS,
-            env=environment or {}, preexec_fn=limit,
-        )
-    except subprocess.TimeoutExpired:
-        return HANG
+    with tempfile.TemporaryDirectory(prefix="faults.") as folder:
+        try:
+            done = subprocess.run(
+                [program, *command.words_in(folder)], cwd=SAMPLES, input=command.text, capture_output=True, timeout=SECONDS,
+                env=environment or {}, preexec_fn=limit,
+            )
+        except subprocess.TimeoutExpired:
+            return HANG
+        if parts := [file.name for file in Path(folder).iterdir() if not is_whole(file)]:
+            return End("", f"what is left isn't whole: {parts}", PART)
     return End(done.stdout.decode(errors="backslashreplace"), done.stderr.decode(errors="backslashreplace"), done.returncode)
 
 

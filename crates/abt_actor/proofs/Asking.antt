@@ -23,18 +23,18 @@ use Rattle.abt_model.specs.declared.command.SourceCommand.TheVariants.{Ask}
 use Rattle.abt_model.specs.declared.outcome.Outcome.TheVariants.{Asked, AskRefused}
 use Rattle.abt_model.specs.Answers.{kept_answer, ask_answer}
 use Rattle.abt_model.specs.Outcomes.{write_adds}
-use Rattle.abt_actor.specs.declared.running.Running.{Running}
+use Rattle.abt_actor.specs.declared.any_source.AnySource.{AnySource}
 use Rattle.abt_actor.specs.Commands.{command_answer, command_adds}
 use Rattle.abt_actor.specs.Actor.{ActorView, actor_of, IsSound}
 use Rattle.abt_actor.specs.Sources.{source_in, asked_by, goes_from, result_of_asking}
 use Rattle.abt_actor.proofs.Emitting.{up_answers}
 
 -- what the store keeps after an ask whose request went out
-abbrev kept_by : Running → StoreView → (rate : ℕ) → KeptRecord
+abbrev kept_by : AnySource → StoreView → (rate : ℕ) → KeptRecord
 kept_by running store rate = if has_to_write (source_in running) rate then record_to_write (source_in running) rate else store.kept
 
 -- what holds when a request goes out
-pub record Goes (running : Running) (store : StoreView) (rate : ℕ) (source : SourceView) (request : Terms) (after : StoreView) : Type 0 where
+pub record Goes (running : AnySource) (store : StoreView) (rate : ℕ) (source : SourceView) (request : Terms) (after : StoreView) : Type 0 where
   pub number_left : (source_in running).last ≢ 4294967295
   pub works : has_to_write (source_in running) rate ≡ true → store.plan ≡ Works
   pub asked : request ≡ next_request (source_in running) rate
@@ -42,24 +42,24 @@ pub record Goes (running : Running) (store : StoreView) (rate : ℕ) (source : S
   pub kept : after.kept ≡ kept_by running store rate
 
 abbrev Answer : Type 0
-Answer = Result (SourceView × Terms) (Running × AskFault) × StoreView
+Answer = Result (SourceView × Terms) (AnySource × AskFault) × StoreView
 
-abbrev asked_in : Result (SourceView × Terms) (Running × AskFault) → SourceView × Terms → SourceView × Terms
+abbrev asked_in : Result (SourceView × Terms) (AnySource × AskFault) → SourceView × Terms → SourceView × Terms
 asked_in (Ok asked) other = asked
 asked_in (Err refused) other = other
 
-abbrev refused_in : Result (SourceView × Terms) (Running × AskFault) → Running × AskFault → Running × AskFault
+abbrev refused_in : Result (SourceView × Terms) (AnySource × AskFault) → AnySource × AskFault → AnySource × AskFault
 refused_in (Ok asked) other = other
 refused_in (Err refused) other = refused
 
 -- the answer by whether numbers are used up, whether the ask writes, and the plan
-abbrev answer_by : (used writes : Bool) (plan : StorePlan) (running : Running) (store : StoreView) (rate : ℕ) → Answer
+abbrev answer_by : (used writes : Bool) (plan : StorePlan) (running : AnySource) (store : StoreView) (rate : ℕ) → Answer
 answer_by used writes plan running store rate =
     if used then (Err (running, SeqExhausted), store)
     else (if writes then asked_by running rate (keep_under plan store (record_to_write (source_in running) rate)) else (goes_from running rate, store))
 
 goes_parts :
-    (running : Running) (store : StoreView) (rate : ℕ) (source : SourceView) (request : Terms) (kept : KeptRecord) (after plain : StoreView) →
+    (running : AnySource) (store : StoreView) (rate : ℕ) (source : SourceView) (request : Terms) (kept : KeptRecord) (after plain : StoreView) →
     (source_in running).last ≢ 4294967295 → (has_to_write (source_in running) rate ≡ true → store.plan ≡ Works) → plain.kept ≡ kept_by running store rate →
     ◌≡◌ {A = Answer} (Ok (source, request), after) (goes_from running rate, plain) → Goes running store rate source request after
 goes_parts running store rate source request kept after plain left works is h = record {
@@ -73,7 +73,7 @@ goes_parts running store rate source request kept after plain left works is h = 
 }
 
 goes_by :
-    (used writes : Bool) (plan : StorePlan) (running : Running) (store : StoreView) (rate : ℕ) (source : SourceView) (request : Terms) (after : StoreView) →
+    (used writes : Bool) (plan : StorePlan) (running : AnySource) (store : StoreView) (rate : ℕ) (source : SourceView) (request : Terms) (after : StoreView) →
     ((source_in running).last == 4294967295) ≡ used → has_to_write (source_in running) rate ≡ writes → store.plan ≡ plan →
     ◌≡◌ {A = Answer} (Ok (source, request), after) (answer_by used writes plan running store rate) → Goes running store rate source request after
 goes_by true writes plan running store rate source request after last does is h = absurd (let e = ap (λ (p : Answer). p.0) h in cc)
@@ -85,24 +85,24 @@ goes_by false false plan running store rate source request after last does is h 
     goes_parts running store rate source request store.kept after store (grind (arith, nat_tests)) (λ e. absurd (cc)) (sym (cond-false _ _ _ does)) h
 
 pub goes :
-    (running : Running) (store : StoreView) (rate : ℕ) (source : SourceView) (request : Terms) (after : StoreView) →
+    (running : AnySource) (store : StoreView) (rate : ℕ) (source : SourceView) (request : Terms) (after : StoreView) →
     (Ok (source, request), after) ≡ result_of_asking running store rate → Goes running store rate source request after
 goes running store rate source request after h =
     goes_by ((source_in running).last == 4294967295) (has_to_write (source_in running) rate) store.plan running store rate source request after refl refl refl h
 
 -- what holds when none goes out: numbers are used up, or the write failed, and was kept or not
-pub data Stays : (running : Running) (store : StoreView) (rate : ℕ) (after : StoreView) (fault : AskFault) → Type 0 where
-  Exhausted : {running : Running} {store after : StoreView} {rate : ℕ} {fault : AskFault} →
+pub data Stays : (running : AnySource) (store : StoreView) (rate : ℕ) (after : StoreView) (fault : AskFault) → Type 0 where
+  Exhausted : {running : AnySource} {store after : StoreView} {rate : ℕ} {fault : AskFault} →
       (source_in running).last ≡ 4294967295 → fault ≡ SeqExhausted → after.kept ≡ store.kept → Stays running store rate after fault
-  Unkept : {running : Running} {store after : StoreView} {rate : ℕ} {fault : AskFault} →
+  Unkept : {running : AnySource} {store after : StoreView} {rate : ℕ} {fault : AskFault} →
       (source_in running).last ≢ 4294967295 → has_to_write (source_in running) rate ≡ true → fault ≡ Keep → store.plan ≡ FailsBefore → after.kept ≡ store.kept →
       Stays running store rate after fault
-  Kept : {running : Running} {store after : StoreView} {rate : ℕ} {fault : AskFault} →
+  Kept : {running : AnySource} {store after : StoreView} {rate : ℕ} {fault : AskFault} →
       (source_in running).last ≢ 4294967295 → has_to_write (source_in running) rate ≡ true → fault ≡ Keep → store.plan ≡ FailsAfter →
       after.kept ≡ record_to_write (source_in running) rate → Stays running store rate after fault
 
 stays_by :
-    (used writes : Bool) (plan : StorePlan) (running same : Running) (store : StoreView) (rate : ℕ) (fault : AskFault) (after : StoreView) →
+    (used writes : Bool) (plan : StorePlan) (running same : AnySource) (store : StoreView) (rate : ℕ) (fault : AskFault) (after : StoreView) →
     ((source_in running).last == 4294967295) ≡ used → has_to_write (source_in running) rate ≡ writes → store.plan ≡ plan →
     ◌≡◌ {A = Answer} (Err (same, fault), after) (answer_by used writes plan running store rate) →
     (same ≡ running) × Stays running store rate after fault
@@ -116,13 +116,13 @@ stays_by false true FailsAfter running same store rate fault after last does is 
 stays_by false false plan running same store rate fault after last does is h = absurd (let e = ap (λ (p : Answer). p.0) h in cc)
 
 pub stays :
-    (running same : Running) (store : StoreView) (rate : ℕ) (fault : AskFault) (after : StoreView) →
+    (running same : AnySource) (store : StoreView) (rate : ℕ) (fault : AskFault) (after : StoreView) →
     (Err (same, fault), after) ≡ result_of_asking running store rate → (same ≡ running) × Stays running store rate after fault
 stays running same store rate fault after h =
     stays_by ((source_in running).last == 4294967295) (has_to_write (source_in running) rate) store.plan running same store rate fault after refl refl refl h
 
 -- a refusal for the store's sake comes of a write
-pub written_some : (running : Running) (store after : StoreView) (rate : ℕ) (fault : AskFault) (written : Option KeptRecord) → Stays running store rate after fault →
+pub written_some : (running : AnySource) (store after : StoreView) (rate : ℕ) (fault : AskFault) (written : Option KeptRecord) → Stays running store rate after fault →
     written ≡ (if has_to_write (source_in running) rate then Some (record_to_write (source_in running) rate) else None) → fault ≡ Keep → IsSome written
 written_some running store after rate fault written (Exhausted none f number) is keep = absurd (cc)
 written_some running store after rate fault written (Unkept some does f p number) is keep = rw (is ∙ cond-true _ _ _ does) refl
@@ -172,7 +172,7 @@ same_written vc facts s rate view = ap (λ (v : SourceView). record_to_write v r
 
 -- what an actor answers that sends a request
 pub request_answered :
-    (vc : Channel) (facts : List Fact) (actor : ActorView) (running : Running) (store after : StoreView) (rate : ℕ) (source : SourceView) (request : Terms) →
+    (vc : Channel) (facts : List Fact) (actor : ActorView) (running : AnySource) (store after : StoreView) (rate : ℕ) (source : SourceView) (request : Terms) →
     actor ≡ actor_of vc facts → actor.state ≢ Down → source_in running ≡ actor.source → Goes running store rate source request after →
     Asked request ≡ command_answer vc facts (Ask rate store.plan)
 request_answered vc facts actor running store after rate source request is up has goes =
@@ -205,7 +205,7 @@ stored_is vc facts s rate view =
 
 -- what the source of an actor becomes that sends a request
 pub request_after :
-    (vc : Channel) (facts : List Fact) (actor : ActorView) (running : Running) (store after : StoreView) (rate : ℕ) (source : SourceView) (request : Terms) →
+    (vc : Channel) (facts : List Fact) (actor : ActorView) (running : AnySource) (store after : StoreView) (rate : ℕ) (source : SourceView) (request : Terms) →
     actor ≡ actor_of vc facts → source_in running ≡ actor.source → store.kept ≡ actor.kept → Goes running store rate source request after →
     StandsFor (FactAsked request.seq request.floor request.ask (emitted_of facts) ∷ (stored_by (source_in running) rate ++ facts)) (Asking request.seq) source →
     record { source = source; state = Asking source.last; kept = after.kept; cells = actor.cells; clock = actor.clock }
@@ -232,7 +232,7 @@ request_after vc facts actor running store after rate source request is has held
 
 -- what an actor answers whose ask is refused
 pub refusal_answered :
-    (vc : Channel) (facts : List Fact) (actor : ActorView) (running : Running) (store after : StoreView) (rate : ℕ) (fault : AskFault) →
+    (vc : Channel) (facts : List Fact) (actor : ActorView) (running : AnySource) (store after : StoreView) (rate : ℕ) (fault : AskFault) →
     actor ≡ actor_of vc facts → actor.state ≢ Down → source_in running ≡ actor.source → Stays running store rate after fault →
     AskRefused fault ≡ command_answer vc facts (Ask rate store.plan)
 refusal_answered vc facts actor running store after rate fault is up has (Exhausted none f number) =
@@ -274,7 +274,7 @@ nothing_added facts rate FailsAfter = refl
 
 -- what an actor becomes whose ask is refused
 pub refusal_after :
-    (vc : Channel) (facts : List Fact) (actor : ActorView) (running : Running) (store after : StoreView) (rate : ℕ) (fault : AskFault) →
+    (vc : Channel) (facts : List Fact) (actor : ActorView) (running : AnySource) (store after : StoreView) (rate : ℕ) (fault : AskFault) →
     actor ≡ actor_of vc facts → source_in running ≡ actor.source → store.kept ≡ actor.kept → Stays running store rate after fault →
     record actor { kept = after.kept } ≡ actor_of vc (command_adds facts (Ask rate store.plan) (AskRefused fault) ++ facts)
 refusal_after vc facts actor running store after rate fault is has held (Exhausted none f number) =

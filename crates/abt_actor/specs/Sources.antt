@@ -11,34 +11,34 @@ use Rattle.abt_source.specs.Calls.{asking_source, next_request, has_to_write, re
 use Rattle.abt_source.specs.declared.fault.AskFault.{AskFault}
 use Rattle.abt_source.specs.declared.fault.AskFault.TheVariants.{SeqExhausted, Keep}
 use Rattle.abt_actor.specs.Actor.{ActorView}
-use Rattle.abt_actor.specs.declared.running.Running.{Running}
-use Rattle.abt_actor.specs.declared.running.Running.TheVariants.{Down as IsDown, Idle as IsIdle, Asking as IsAsking}
+use Rattle.abt_actor.specs.declared.any_source.AnySource.{AnySource}
+use Rattle.abt_actor.specs.declared.any_source.AnySource.TheVariants.{Down as IsDown, Idle as IsIdle, Asking as IsAsking}
 
 -- a source in any state
-abbrev pub source_in : Running → SourceView
+abbrev pub source_in : AnySource → SourceView
 source_in (IsDown source) = source
 source_in (IsIdle source) = source
 source_in (IsAsking source) = source
 
-abbrev pub state_in : Running → SourceState
+abbrev pub state_in : AnySource → SourceState
 state_in (IsDown source) = Down
 state_in (IsIdle source) = Idle
 state_in (IsAsking source) = Asking source.last
 
 -- an actor whose source is in any state, with the record in its store, the count of its cells and its clock
-abbrev pub actor_in : Running → KeptRecord → (cells clock : ℕ) → ActorView
+abbrev pub actor_in : AnySource → KeptRecord → (cells clock : ℕ) → ActorView
 actor_in running kept cells clock = record { source = source_in running; state = state_in running; kept = kept; cells = cells; clock = clock }
 
 -- the request of an ask that goes out
-abbrev pub goes_from : Running → ℕ → Result (SourceView × Terms) (Running × AskFault)
+abbrev pub goes_from : AnySource → ℕ → Result (SourceView × Terms) (AnySource × AskFault)
 goes_from running rate = Ok (asking_source (source_in running) (next_request (source_in running) rate), next_request (source_in running) rate)
 
 -- what an ask of a source that is up answers, and its store after it
-abbrev pub asked_by : Running → ℕ → Result (Unit {0}) StoreFault × StoreView → Result (SourceView × Terms) (Running × AskFault) × StoreView
+abbrev pub asked_by : AnySource → ℕ → Result (Unit {0}) StoreFault × StoreView → Result (SourceView × Terms) (AnySource × AskFault) × StoreView
 asked_by running rate (Ok _, store) = (goes_from running rate, store)
 asked_by running rate (Err _, store) = (Err (running, Keep), store)
 
-abbrev pub result_of_asking : Running → StoreView → ℕ → Result (SourceView × Terms) (Running × AskFault) × StoreView
+abbrev pub result_of_asking : AnySource → StoreView → ℕ → Result (SourceView × Terms) (AnySource × AskFault) × StoreView
 result_of_asking running store rate =
     if (source_in running).last == number_max then (Err (running, SeqExhausted), store)
     else (if has_to_write (source_in running) rate then asked_by running rate (keep_under store.plan store (record_to_write (source_in running) rate))

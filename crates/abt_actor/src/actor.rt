@@ -6,8 +6,8 @@ ghost use Rattle.abt_actor.specs.Carrying.{Carries};
 ghost use Rattle.abt_actor.specs.Facts.{facts_in};
 
 use crate::added::Added;
+use crate::any_source::AnySource;
 use crate::carried::Carried;
-use crate::running::Running;
 use abt_cell::{Answer, Vc};
 use abt_facts::Fact;
 use abt_keep::{MemoryStore, StorePlan};
@@ -21,7 +21,7 @@ use std::mem;
 #[derive(Debug, Drop)]
 pub struct SourceActor {
     vc: Vc,
-    running: Running,
+    running: AnySource,
     store: MemoryStore,
     // How many cells were emitted.
     cells: u64,
@@ -49,7 +49,7 @@ impl SourceActor {
     {
         SourceActor {
             vc,
-            running: Running::Down(Source::new(vc)),
+            running: AnySource::Down(Source::new(vc)),
             store: MemoryStore::new(0),
             cells: 0,
             clock: 0,
@@ -96,7 +96,7 @@ impl SourceActor {
     pub fn is_asking(&self) -> bool
         ensures { result ≡ is_asking_in self.now.state }
     {
-        matches!(self.running, Running::Asking(_))
+        matches!(self.running, AnySource::Asking(_))
     }
 
     /// The number of the request whose answer the source waits for, if it waits for one.
@@ -135,7 +135,7 @@ impl SourceActor {
         }
         let running = self.running;
         let mut store = self.store;
-        let Running::Down(source) = running else {
+        let AnySource::Down(source) = running else {
             unreachable!()
         };
         match source.start(&mut store, now) {
@@ -145,7 +145,7 @@ impl SourceActor {
                     kept: source.kept(),
                 }),
                 actor: SourceActor {
-                    running: Running::Idle(source),
+                    running: AnySource::Idle(source),
                     store,
                     clock: now,
                     ..self
@@ -154,7 +154,7 @@ impl SourceActor {
             },
             Err(StartRefused { source, fault }) => Carried {
                 actor: SourceActor {
-                    running: Running::Down(source),
+                    running: AnySource::Down(source),
                     store,
                     ..self
                 },
@@ -165,7 +165,8 @@ impl SourceActor {
     }
 
     fn ask(mut self, rate: Rate, plan: StorePlan) -> Carried
-        ensures { Carries self (SourceCommand.Ask rate plan) result.outcome (facts_in result.added) result.actor }
+        ensures { Carries self (SourceCommand.Ask rate plan) result.outcome (facts_in result.added)
+            result.actor }
     {
         if self.running.is_down() {
             return self.unmoved(Outcome::NotEnabled(Cause::Down));
@@ -178,7 +179,7 @@ impl SourceActor {
             Ok((source, request)) => Carried {
                 added: Added::of_request(&request, self.cells, written),
                 actor: SourceActor {
-                    running: Running::Asking(source),
+                    running: AnySource::Asking(source),
                     ..self
                 },
                 outcome: Outcome::Asked(request),
@@ -195,9 +196,9 @@ impl SourceActor {
         ensures { Carries self SourceCommand.Again result.outcome (facts_in result.added) result.actor }
     {
         let outcome = match &self.running {
-            Running::Down(_) => Outcome::NotEnabled(Cause::Down),
-            Running::Idle(_) => Outcome::NotEnabled(Cause::NotAsking),
-            Running::Asking(source) => Outcome::Repeated(source.again()),
+            AnySource::Down(_) => Outcome::NotEnabled(Cause::Down),
+            AnySource::Idle(_) => Outcome::NotEnabled(Cause::NotAsking),
+            AnySource::Asking(source) => Outcome::Repeated(source.again()),
         };
         self.unmoved(outcome)
     }
@@ -211,7 +212,7 @@ impl SourceActor {
         let source = self.running.crash();
         Carried {
             actor: SourceActor {
-                running: Running::Down(source),
+                running: AnySource::Down(source),
                 ..self
             },
             outcome: Outcome::Crashed,
@@ -249,19 +250,20 @@ impl SourceActor {
     }
 
     fn told(self, answer: &Answer) -> Carried
-        ensures { Carries self (SourceCommand.Told answer.now) result.outcome (facts_in result.added) result.actor }
+        ensures { Carries self (SourceCommand.Told answer.now) result.outcome (facts_in result.added)
+            result.actor }
     {
         let seq = answer.seq();
         let running = self.running;
         let (running, heard, added) = match running {
-            Running::Asking(source) => match source.answer(answer) {
+            AnySource::Asking(source) => match source.answer(answer) {
                 Answered::Raised(source) => (
-                    Running::Idle(source),
+                    AnySource::Idle(source),
                     Heard::Raised,
                     Added::One(Fact::Heard { seq, granted: true }),
                 ),
                 Answered::Refused(source) => (
-                    Running::Idle(source),
+                    AnySource::Idle(source),
                     Heard::Refused,
                     Added::One(Fact::Heard {
                         seq,
@@ -269,7 +271,7 @@ impl SourceActor {
                     }),
                 ),
                 Answered::Ignored(source) => {
-                    (Running::Asking(source), Heard::Ignored, Added::Nothing)
+                    (AnySource::Asking(source), Heard::Ignored, Added::Nothing)
                 }
             },
             running => (running, Heard::Ignored, Added::Nothing),

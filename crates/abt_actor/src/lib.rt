@@ -3,8 +3,8 @@
 
 mod actor;
 mod added;
+mod any_source;
 mod carried;
-mod running;
 
 pub use abt_model::{Cause, Heard, Outcome, SourceCommand};
 pub use actor::SourceActor;

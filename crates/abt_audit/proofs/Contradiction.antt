@@ -12,9 +12,9 @@ use Rattle.abt_node.specs.Table.{Table}
 use Rattle.abt_journal.specs.declared.entry.Entry.{Entry}
 use Rattle.abt_journal.specs.declared.input.PortReply.{PortReply}
 use Rattle.abt_journal.specs.Replay.{reply_by, replay}
-use Rattle.abt_woven.specs.Projections.{Step, step_of, Visit, past_of, steps_on}
-use Rattle.abt_woven.specs.Stuck.{Journaled, steps_in, port_journal, next_step, step_next, Fits, AreTurns, StandsStill, PortMismatches}
-use Rattle.abt_woven.proofs.Turns.{steps_turns}
+use Rattle.abt_weave.specs.Projections.{Step, step_of, Visit, past_of, steps_on}
+use Rattle.abt_weave.specs.Stuck.{RunJournals, steps_in, port_journal, next_step, step_next, Fits, AreTurns, StandsStill, PortMismatches}
+use Rattle.abt_weave.proofs.Turns.{steps_turns}
 use Rattle.abt_weave.proofs.Leavings.{all_reversed}
 use Rattle.abt_weave.proofs.PortEvents.{some_same}
 use Rattle.abt_weave.proofs.Replays.{replayed, replay-steps, tables_replayed, past_lawful, event_made}
@@ -34,7 +34,7 @@ steps_taken steps rest entries is =
     sym (take-map step_of (length steps) entries) ∙ ap (take (length steps)) is ∙ take-append_seam steps rest
 
 -- what comes of the event that the entry would be is what the port replies there
-told_is : (net : Topology) (journals : Journaled) → IsWithinRules net → (earlier : List Event) → All AsksRate earlier → StandsStill net journals earlier → (p : ℕ)
+told_is : (net : Topology) (journals : RunJournals) → IsWithinRules net → (earlier : List Event) → All AsksRate earlier → StandsStill net journals earlier → (p : ℕ)
     → (m : PortMismatches net journals earlier p) → (entries : List Entry) (entry : Entry) → slice_get journals.ports p ≡ Some entries
     → slice_get entries (length (steps_on net p earlier)) ≡ Some entry
     → (step_of entry ≡ m.step) × (m.visits.reply ≡ reply_by (replay (port_table net [] p) (take (length (steps_on net p earlier)) entries)) entry.input)
@@ -61,7 +61,7 @@ told_is net journals rules earlier rates still p m entries entry known at =
     (step, reply ∙ ap (λ (t : Table). reply_by t m.visits.input) table ∙ ap (reply_by (replay (port_table net [] p) (take n entries))) input)
 
 -- an event that would be the entry, reply and all, fits
-would_fit : (net : Topology) (journals : Journaled) (earlier : List Event) (p : ℕ) → (m : PortMismatches net journals earlier p) → m.step.reply ≡ m.visits.reply
+would_fit : (net : Topology) (journals : RunJournals) (earlier : List Event) (p : ℕ) → (m : PortMismatches net journals earlier p) → m.step.reply ≡ m.visits.reply
     → Fits net journals (m.turns ++ earlier) m.event
 would_fit net journals earlier p m reply =
     let all = m.turns ++ earlier in
@@ -76,7 +76,7 @@ would_fit net journals earlier p m reply =
       entry = m.beside;
     }
 
-pub ports_are_contradicted : (net : Topology) (journals : Journaled) → IsWithinRules net → PortsAreContradicted net journals
+pub ports_are_contradicted : (net : Topology) (journals : RunJournals) → IsWithinRules net → PortsAreContradicted net journals
 ports_are_contradicted net journals rules p place entries entry fault known at answers =
     let earlier = reverse fault.0 in
     let still = fault.2 in

@@ -1,51 +1,72 @@
 -- What an audit shows of what was told, or doesn't.
-use Rattle.std.proofs.Common.{◌≡◌, ◌⊎◌, inl, inr, List, map, Option, refl, subst}
+use Rattle.std.proofs.Common.{◌≡◌, ◌⊎◌, ◌∙◌, inl, inr, List, length, map, Option, Some, refl, sym, ap, subst}
 use Rattle.std.specs.Prelude.{String}
 use Rattle.std.specs.declared.alloc.Global.{Global}
 use Rattle.std.specs.Io.KnownBytes.{Appends, Keeps}
 use Rattle.abt_text.specs.Text.{Text}
 use Rattle.abt_text.specs.Streams.{AppendsPrefix}
+use Rattle.abt_net.specs.Topology.{Topology}
 use Rattle.abt_journal.specs.declared.entry.Entry.{Entry}
-use Rattle.abt_source_journal.specs.declared.journal.SourceJournal.{SourceJournal}
+use Rattle.abt_model.specs.declared.journal.SourceJournal.{SourceJournal}
 use Rattle.abt_weave.specs.Faults.{IsWeaveFault, SaysNoneIsWoven}
 use Rattle.abt_weave.specs.declared.fault.WeaveFault.{WeaveFault}
-use Rattle.abt_woven.specs.Stuck.{Journaled}
+use Rattle.abt_weave.specs.Stuck.{RunJournals}
 use Rattle.abt_journal_text.specs.Books.{Told, IsToldRun, blank, journal_of}
 use Rattle.abt_journal_text.specs.Entering.{IsOwn}
 use Rattle.abt_journal_text.specs.declared.fault.TextFault.{TextFault}
+use Rattle.abt_journal_text.specs.declared.open_write.OpenWrite.{OpenWrite}
 use Rattle.abt_journal_text.specs.declared.run.Run.{Run}
-use Rattle.abt_audit.specs.Audits.{AreRead, IsUnreadAmong, IsAudited, IsToldAs, IsSafelyTold, IsReadAs, journals_of}
+use Rattle.abt_audit.specs.Audits.{AreRead, IsUnreadAmong, IsAudited, IsToldAs, IsSafelyTold, IsReadAs, journals_with}
 use Rattle.abt_audit.specs.Performing.{IsStuckRun, IsNoRun, EndsBy, IsShownAs, IsShownWhole, shown_text}
 use Rattle.abt_audit.specs.Protocol.{fault_lines}
+use Rattle.abt_audit.specs.Settling.{AreSettled, IsSettledRun}
+use Rattle.abt_audit.proofs.SettledRuns.{as_many}
 use Rattle.abt_audit.specs.declared.auditing.Audited.{Audited}
 use Rattle.abt_audit.specs.declared.auditing.AuditedRun.{AuditedRun}
 use Rattle.abt_audit.specs.declared.fault.AuditFault.{AuditFault}
 use Rattle.abt_audit.specs.declared.fault.AuditFault.TheVariants as fault
 
--- what is said of the journals of a run is said of those that were told
-as_told : (P : Journaled → Type 0) (told : Told) (run : Run) → IsToldRun told run → P (record { ports = run.journals; sources = run.sources.items }) → P (journals_of told)
-as_told P told run r p =
-    subst (λ (ports : List (List Entry)). P (record { ports = ports; sources = map journal_of told.sources })) r.ports
-    (subst (λ (sources : List SourceJournal). P (record { ports = run.journals; sources = sources })) r.sources p)
+-- what is said of the journals of a run is said of those that were told, what they leave open settled
+as_told : (P : RunJournals → Type 0) (told : Told) (read run : Run) → IsToldRun told read → IsSettledRun read run
+    → P (record { ports = run.journals; sources = run.sources.items }) → P (journals_with told run.sources.items)
+as_told P told read run r s p =
+    subst (λ (ports : List (List Entry)). P (record { ports = ports; sources = run.sources.items })) (ap (λ (one : Run). one.journals) s.same ∙ r.ports) p
 
-pub told_as : (told : Told) (run : Run) (audited : Audited) → IsToldRun told run
+settled_as : (told : Told) (read run : Run) → IsToldRun told read → IsSettledRun read run
+    → AreSettled run.net told.open_writes (map journal_of told.sources) run.sources.items
+settled_as told read run r s =
+    subst (λ (net : Topology). AreSettled net told.open_writes (map journal_of told.sources) run.sources.items) (sym (ap (λ (one : Run). one.net) s.same))
+    (subst (λ (writes : List OpenWrite). AreSettled read.net writes (map journal_of told.sources) run.sources.items) r.open_writes
+    (subst (λ (sources : List SourceJournal). AreSettled read.net read.open_writes.items sources run.sources.items) r.sources s.settled))
+
+pub told_as : (told : Told) (read run : Run) (audited : Audited) → IsToldRun told read → IsSettledRun read run
     → IsAudited run.net (record { ports = run.journals; sources = run.sources.items }) audited → IsToldAs told (record { net = run.net; audited = audited })
-told_as told run audited r p = record {
-  net_told = r.net;
-  is_audited = as_told (λ (journals : Journaled). IsAudited run.net journals audited) told run r p;
+told_as told read run audited r s p = record {
+  net_told = r.net ∙ ap (λ (net : Topology). Some net) (sym (ap (λ (one : Run). one.net) s.same));
+  sources = run.sources.items;
+  settled = settled_as told read run r s;
+  is_audited = as_told (λ (journals : RunJournals). IsAudited run.net journals audited) told read run r s p;
 }
 
-pub stuck_so : (names : List (String Global)) (told : Told) (run : Run) (why : WeaveFault) (lines : Text) → IsToldRun told run
+pub stuck_so : (names : List (String Global)) (told : Told) (read run : Run) (why : WeaveFault) (lines : Text) → IsToldRun told read → IsSettledRun read run
     → IsWeaveFault run.net (record { ports = run.journals; sources = run.sources.items }) why
     → SaysNoneIsWoven run.net (record { ports = run.journals; sources = run.sources.items }) why → lines ≡ fault_lines names run why
     → IsStuckRun names told why lines
-stuck_so names told run why lines r p q is = record {
-  run = run;
+stuck_so names told read run why lines r s p q is = record {
+  read = read;
   is_run = r;
-  is_fault = as_told (λ (journals : Journaled). IsWeaveFault run.net journals why) told run r p;
-  none = as_told (λ (journals : Journaled). SaysNoneIsWoven run.net journals why) told run r q;
+  run = run;
+  settled = s;
+  is_fault = as_told (λ (journals : RunJournals). IsWeaveFault run.net journals why) told read run r s p;
+  none = as_told (λ (journals : RunJournals). SaysNoneIsWoven run.net journals why) told read run r s q;
   are = is;
 }
+
+-- there are as many journals of sources as the net has connections
+pub sources_stay : (told : Told) (read run : Run) → IsToldRun told read → IsSettledRun read run → length run.sources.items ≡ length run.net.conns
+sources_stay told read run r s =
+    as_many read.net read.open_writes.items read.sources.items run.sources.items s.settled ∙ r.source_count
+    ∙ sym (ap (λ (one : Run). length one.net.conns) s.same)
 
 pub read_as : (lefts : List (Option Text)) (told : Told) (so : Told → Type 0) → AreRead 1 blank lefts told → so told → IsReadAs lefts so
 read_as lefts told so read p = record { told = told; read = read; is = p }

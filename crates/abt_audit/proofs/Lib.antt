@@ -2,4 +2,9 @@ pub mod Contradiction
 pub mod Heard
 pub mod Judged
 pub mod Lists
+pub mod OwnAnswers
+pub mod Settled
+pub mod SettledRuns
+pub mod SourcesContradicted
 pub mod Texts
+pub mod Tried

@@ -3,12 +3,14 @@ use Rattle.std.specs.Prelude.{◌≡◌, ◌⊎◌, ℕ, ◌+◌, true, List, []
 use Rattle.abt_text.specs.Text.{Text}
 use Rattle.abt_net.specs.Topology.{Topology}
 use Rattle.abt_model.specs.declared.event.Event.{Event}
-use Rattle.abt_trace.specs.Traces.{IsTrace}
-use Rattle.abt_woven.specs.Stuck.{Journaled}
-use Rattle.abt_woven.specs.Woven.{IsWoven}
+use Rattle.abt_model.specs.Traces.{IsTrace}
+use Rattle.abt_model.specs.declared.journal.SourceJournal.{SourceJournal}
+use Rattle.abt_weave.specs.Stuck.{RunJournals}
+use Rattle.abt_weave.specs.Woven.{IsWoven}
 use Rattle.abt_journal_text.specs.Books.{Told, blank, journal_of}
 use Rattle.abt_journal_text.specs.Texts.{IsRead, IsUnread}
 use Rattle.abt_journal_text.specs.declared.fault.TextFault.{TextFault}
+use Rattle.abt_audit.specs.Settling.{AreSettled}
 use Rattle.abt_audit.specs.declared.auditing.Audited.{Audited}
 use Rattle.abt_audit.specs.declared.auditing.AuditedRun.{AuditedRun}
 
@@ -23,9 +25,12 @@ IsUnreadAmong number told [] fault = ⊥
 IsUnreadAmong number told (left ∷ more) fault =
     IsUnread number told fault left ⊎ ((next : Told) × IsRead number told next left × IsUnreadAmong (number + 1) next more fault)
 
--- the journals that were told
-abbrev pub journals_of : Told → Journaled
+-- the journals that were told, and over the same ports those of these sources
+abbrev pub journals_of : Told → RunJournals
 journals_of told = record { ports = told.ports; sources = map journal_of told.sources }
+
+abbrev pub journals_with : Told → List SourceJournal → RunJournals
+journals_with told sources = record { ports = told.ports; sources = sources }
 
 -- These are the events, with their trace, which is safe.
 pub record IsVerdict (net : Topology) (events : List Event) (audited : Audited) : Type 0 where
@@ -34,15 +39,17 @@ pub record IsVerdict (net : Topology) (events : List Event) (audited : Audited) 
   pub is_safe : audited.trace.safe ≡ true
 
 -- The events are just these journals, and the trace is that of these events, and safe.
-pub record IsAudited (net : Topology) (journals : Journaled) (audited : Audited) : Type 0 where
+pub record IsAudited (net : Topology) (journals : RunJournals) (audited : Audited) : Type 0 where
   pub are_woven : IsWoven net journals.ports journals.sources audited.events
   pub is_trace : IsTrace net audited.events audited.trace
   pub is_safe : audited.trace.safe ≡ true
 
--- What was told is this net, and journals over it that are audited so.
+-- What was told is this net, and journals over it that are audited so once what they leave open is settled.
 pub record IsToldAs (told : Told) (run : AuditedRun) : Type 0 where
   pub net_told : told.net ≡ Some run.net
-  pub is_audited : IsAudited run.net (journals_of told) run.audited
+  pub sources : List SourceJournal
+  pub settled : AreSettled run.net told.open_writes (journals_of told).sources sources
+  pub is_audited : IsAudited run.net (journals_with told sources) run.audited
 
 -- What was told is a net and journals that are audited.
 pub record IsSafelyTold (told : Told) : Type 0 where

@@ -1,3 +1,5 @@
+pub mod Settling
+pub mod Ways
 pub mod Audits
 pub mod Names
 pub mod Stuck

@@ -2,9 +2,9 @@
 use Rattle.std.specs.Prelude.{◌-◌, List, codes, slice_get, string_bytes, Option, Some, None, String}
 use Rattle.std.specs.declared.alloc.Global.{Global}
 use Rattle.abt_text.specs.Text.{Text, ◌⋅◌, decimal, newline}
-use Rattle.abt_members.specs.Members.{member_name}
-use Rattle.abt_members.specs.declared.fault.LineFault.{LineFault}
-use Rattle.abt_members.specs.declared.fault.LineFault.TheVariants as line
+use Rattle.abt_entry.specs.Members.{member_name}
+use Rattle.abt_entry.specs.declared.fault.LineFault.{LineFault}
+use Rattle.abt_entry.specs.declared.fault.LineFault.TheVariants as line
 use Rattle.abt_journal_text.specs.declared.fault.Cause.{Cause}
 use Rattle.abt_journal_text.specs.declared.fault.Cause.TheVariants as cause
 use Rattle.abt_journal_text.specs.declared.fault.TextFault.{TextFault}

@@ -1,5 +1,5 @@
 -- What `abt audit` leaves, by its exit status.
-use Rattle.std.specs.Prelude.{◌≡◌, ◌⊎◌, List, None, Option, String, codes}
+use Rattle.std.specs.Prelude.{◌≡◌, ◌⊎◌, ⊤, List, None, Option, String, codes}
 use Rattle.std.specs.declared.alloc.Global.{Global}
 use Rattle.abt_weave.specs.Faults.{IsWeaveFault, SaysNoneIsWoven}
 use Rattle.std.specs.Io.KnownBytes.{Appends, Keeps}
@@ -9,15 +9,18 @@ use Rattle.abt_weave.specs.declared.fault.WeaveFault.{WeaveFault}
 use Rattle.abt_weave.specs.declared.fault.WeaveFault.TheVariants as weave
 use Rattle.abt_journal_text.specs.Books.{Told, IsToldRun, blank}
 use Rattle.abt_journal_text.specs.Entering.{IsOwn}
+use Rattle.abt_journal_text.specs.declared.fault.Cause.{Cause}
+use Rattle.abt_journal_text.specs.declared.fault.Cause.TheVariants as cause
 use Rattle.abt_journal_text.specs.declared.fault.TextFault.{TextFault}
 use Rattle.abt_journal_text.specs.declared.run.Run.{Run}
 use Rattle.abt_perform.specs.Names.{fault_line}
 use Rattle.abt_perform.specs.Plans.{Tells}
 use Rattle.abt_perform.specs.declared.fault.Fault as program
 use Rattle.abt_perform.specs.declared.fault.Fault.TheVariants as program_fault
-use Rattle.abt_audit.specs.Audits.{IsReadAs, IsToldAs, IsUnreadAmong, IsShown, journals_of}
+use Rattle.abt_audit.specs.Audits.{IsReadAs, IsToldAs, IsUnreadAmong, IsShown, journals_with}
 use Rattle.abt_audit.specs.Names.{text_fault_line}
 use Rattle.abt_audit.specs.Protocol.{fault_lines}
+use Rattle.abt_audit.specs.Settling.{IsSettledRun}
 use Rattle.abt_audit.specs.declared.auditing.AuditedRun.{AuditedRun}
 use Rattle.abt_audit.specs.declared.fault.AuditFault.{AuditFault}
 use Rattle.abt_audit.specs.declared.fault.AuditFault.TheVariants as fault
@@ -26,12 +29,14 @@ use Rattle.abt_audit.specs.declared.fault.AuditFault.TheVariants as fault
 abbrev pub shown_text : Text
 shown_text = codes "woven" ⋅ newline ⋅ codes "safe" ⋅ newline
 
--- The journals that were told aren't woven, and these are the lines of the fault.
+-- The journals that were told aren't woven once what they leave open is settled, and these are the lines of the fault.
 pub record IsStuckRun (names : List (String Global)) (told : Told) (why : WeaveFault) (lines : Text) : Type 0 where
+  pub read : Run
+  pub is_run : IsToldRun told read
   pub run : Run
-  pub is_run : IsToldRun told run
-  pub is_fault : IsWeaveFault run.net (journals_of told) why
-  pub none : SaysNoneIsWoven run.net (journals_of told) why
+  pub settled : IsSettledRun read run
+  pub is_fault : IsWeaveFault run.net (journals_with told run.sources.items) why
+  pub none : SaysNoneIsWoven run.net (journals_with told run.sources.items) why
   pub are : lines ≡ fault_lines names run why
 
 -- why what was told isn't audited
@@ -54,6 +59,14 @@ EndsBy names lefts why old new =
     ⊎ ((why ≡ fault.Memory) × Keeps old new)
     ⊎ ((why ≡ fault.Write) × IsShown lefts × AppendsPrefix old new shown_text)
 
+-- what a fault of a text is to an audit, by its cause
+abbrev pub fault_by : TextFault → Cause → AuditFault
+fault_by why cause.Memory = fault.Memory
+fault_by why other = fault.Text why
+
+abbrev pub fault_of_text : TextFault → AuditFault
+fault_of_text why = fault_by why why.cause
+
 -- what a fault of weaving is to the program
 abbrev pub weave_fault : WeaveFault → program.Fault
 weave_fault (weave.Mismatch actor place) = program_fault.Mismatch
@@ -68,11 +81,21 @@ fault_text names (fault.Stuck why lines) = fault_line (weave_fault why) ⋅ line
 fault_text names fault.Write = fault_line program_fault.Write
 fault_text names fault.Memory = fault_line program_fault.Memory
 
+-- what is told of a fault has the names of texts in it, so that it needs memory
+abbrev pub NeedsMemory : AuditFault → Type 0
+NeedsMemory (fault.Text why) = ⊤
+NeedsMemory (fault.Stuck why lines) = ⊤
+NeedsMemory other = ⊥
+
+-- what was told of a fault, or want of memory for it
+abbrev pub TellsFault : List (String Global) → AuditFault → (old new : Option Text) → Type 0
+TellsFault names why old new = Tells (fault_text names why) old new ⊎ (NeedsMemory why × Tells (fault_line program_fault.Memory) old new)
+
 -- An audit that doesn't show all: why, what went out, and what was told, if there was memory for it.
 pub record IsNotShown (names : List (String Global)) (lefts : List (Option Text)) (old new errors_old errors_new : Option Text) : Type 0 where
   pub fault : AuditFault
   pub ends : EndsBy names lefts fault old new
-  pub told : Tells (fault_text names fault) errors_old errors_new ⊎ Tells (fault_line program_fault.Memory) errors_old errors_new
+  pub told : TellsFault names fault errors_old errors_new
 
 -- An audit that shows all of this net and these events.
 pub record IsShownAs (lefts : List (Option Text)) (old new : Option Text) (run : AuditedRun) : Type 0 where

@@ -4,12 +4,12 @@ use Rattle.std.specs.declared.alloc.Global.{Global}
 use Rattle.json.specs.Print.{print}
 use Rattle.json.specs.Tree.{json_tokens}
 use Rattle.abt_text.specs.Text.{Text, ◌⋅◌, newline}
-use Rattle.abt_source_journal.specs.declared.entry.SourceEntry.{SourceEntry}
-use Rattle.abt_source_journal.specs.declared.journal.SourceJournal.{SourceJournal}
-use Rattle.abt_entry_text.specs.Written.{step_json, entry_json}
-use Rattle.abt_woven.specs.declared.actor.Actor.{Actor}
-use Rattle.abt_woven.specs.declared.actor.Actor.TheVariants.{Source, Port}
-use Rattle.abt_woven.specs.declared.actor.Stuck.{Stuck}
+use Rattle.abt_model.specs.declared.entry.SourceEntry.{SourceEntry}
+use Rattle.abt_model.specs.declared.journal.SourceJournal.{SourceJournal}
+use Rattle.abt_entry.specs.EntryWritten.{step_json, entry_json}
+use Rattle.abt_weave.specs.declared.actor.Actor.{Actor}
+use Rattle.abt_weave.specs.declared.actor.Actor.TheVariants.{Source, Port}
+use Rattle.abt_weave.specs.declared.actor.Stuck.{Stuck}
 use Rattle.abt_journal_text.specs.Books.{lists_of}
 use Rattle.abt_journal_text.specs.declared.run.Run.{Run}
 use Rattle.abt_journal_text.specs.declared.spot.Spot.{Spot}

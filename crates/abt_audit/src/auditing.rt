@@ -4,10 +4,8 @@ ghost use Rattle.abt_weave.specs.Faults.{IsWeaveFault, SaysNoneIsWoven};
 ghost use Rattle.abt_audit.specs.Audits.{IsAudited, IsVerdict};
 
 use abt_journal_text::Run;
-use abt_list::Sequence;
-use abt_model::Event;
+use abt_model::{Event, Sequence, Trace};
 use abt_net::Net;
-use abt_trace::Trace;
 use abt_weave::{WeaveFault, weave};
 use abt_world::run;
 use std::alloc::{AllocError, Global};
@@ -37,9 +35,12 @@ pub struct AuditedRun {
 pub fn audit(alloc: Global, told: &Run) -> Result<Audited, WeaveFault>
     requires ports { length told.now.journals ≡ length told.now.net.capacities }
     requires sources { length told.now.sources.items ≡ length told.now.net.conns }
-    ensures ok { IfOk result (IsAudited told.now.net (record { ports = told.now.journals; sources = told.now.sources.items })) }
-    ensures err { IfErr result (IsWeaveFault told.now.net (record { ports = told.now.journals; sources = told.now.sources.items })) }
-    ensures none { IfErr result (SaysNoneIsWoven told.now.net (record { ports = told.now.journals; sources = told.now.sources.items })) }
+    ensures ok { IfOk result (IsAudited told.now.net
+        (record { ports = told.now.journals; sources = told.now.sources.items })) }
+    ensures err { IfErr result (IsWeaveFault told.now.net
+        (record { ports = told.now.journals; sources = told.now.sources.items })) }
+    ensures none { IfErr result (SaysNoneIsWoven told.now.net
+        (record { ports = told.now.journals; sources = told.now.sources.items })) }
 {
     let events = weave(alloc, &told.net, &told.journals, told.sources.as_slice())?;
     Ok(audit_events(alloc, &told.net, events)?)

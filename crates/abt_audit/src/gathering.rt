@@ -14,7 +14,8 @@ use std::io::Read;
 /// The first line that can't come where it stands, or what kept it from being read.
 pub fn read_all<R: Read + Drop>(alloc: Global, readers: Vec<R>) -> Result<Book, TextFault>
     ensures ok { IfOk result (AreRead 1 blank (map R.remaining readers.items)) }
-    ensures err { IfErr result (λ fault. IsOwn fault.cause ⊎ IsUnreadAmong 1 blank (map R.remaining readers.items) fault) }
+    ensures err { IfErr result
+        (λ fault. IsOwn fault.cause ⊎ IsUnreadAmong 1 blank (map R.remaining readers.items) fault) }
 {
     let mut book = Book::new(alloc);
     let mut number = 1;

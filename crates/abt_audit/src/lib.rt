@@ -11,12 +11,13 @@ mod obeying;
 mod performing;
 mod plan;
 mod protocol;
+mod settling;
 mod stuck;
 
 pub use auditing::{Audited, AuditedRun, audit};
 pub use command::{add_commands, plan_of, sample_plan_of};
 pub use fault::AuditFault;
 pub use gathering::read_all;
-pub use laws::mismatches_are_contradicted;
+pub use laws::{each_way_is_tried, mismatches_are_contradicted};
 pub use performing::{perform_audit, show_audit};
 pub use plan::{AuditPlan, SamplePlan};

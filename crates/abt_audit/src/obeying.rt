@@ -9,13 +9,13 @@ ghost use Rattle.abt_audit.specs.Protocol.{own_answer, own_facts, facts_past, an
 
 use abt_actor::SourceActor;
 use abt_cell::{Answer, Vc};
-use abt_model::{Heard, Outcome, SourceCommand, SourceEvent, Target};
-use abt_source_journal::SourceEntry;
+use abt_model::{Heard, Outcome, SourceCommand, SourceEntry, SourceEvent, Target};
 
 // Tells a source the answer to the request of a number. It hears that to the request that it waits for, which it repeats.
 fn hear(actor: &mut SourceActor, seq: u32, granted: bool) -> Outcome
     ensures { (vc : Channel) (facts : List Fact) → actor.old ≡ actor_of vc facts →
-        (result ≡ own_answer vc facts (Told seq granted)) × (actor.new ≡ actor_of vc (own_facts vc facts (Told seq granted))) }
+        (result ≡ own_answer vc facts (Told seq granted)) ×
+        (actor.new ≡ actor_of vc (own_facts vc facts (Told seq granted))) }
 {
     if actor.awaited() != Some(seq) {
         return Outcome::Told(Heard::Ignored);
@@ -44,7 +44,7 @@ fn obey(actor: &mut SourceActor, event: &SourceEvent) -> Outcome
 }
 
 // Has a source do what an entry says, if it says that it was to do something.
-fn go_on(actor: &mut SourceActor, entry: &SourceEntry) -> Option<Outcome>
+pub(crate) fn go_on(actor: &mut SourceActor, entry: &SourceEntry) -> Option<Outcome>
     ensures { (vc : Channel) (facts : List Fact) → actor.old ≡ actor_of vc facts →
         (result ≡ answer_in vc facts entry.now) × (actor.new ≡ actor_of vc (facts_past vc facts entry.now)) }
 {

@@ -1,5 +1,5 @@
 //! Texts of readers, audited.
-ghost use Rattle.std.specs.Prelude.{◌≡◌, ◌⊎◌, map, IfOk, IfErr, IfSome, IsSome, IsNone, string_bytes};
+ghost use Rattle.std.specs.Prelude.{◌≡◌, ◌⊎◌, map, IfOk, IfErr, IfSome, IsSome, IsNone, MatchResult, string_bytes};
 ghost use Rattle.std.specs.Io.KnownBytes.{Keeps};
 ghost use Rattle.abt_perform.specs.Names.{fault_line};
 ghost use Rattle.abt_perform.specs.Plans.{Tells};
@@ -8,15 +8,17 @@ ghost use Rattle.abt_text.specs.Text.{◌⋅◌};
 ghost use Rattle.abt_audit.specs.Audits.{IsToldAs};
 ghost use Rattle.abt_audit.specs.Names.{text_fault_line};
 ghost use Rattle.abt_audit.specs.declared.fault.AuditFault.TheVariants as audit_fault;
-ghost use Rattle.abt_audit.specs.Performing.{EndsBy, IsNotShown, IsNoRun, IsShownAs, IsShownWhole, fault_text, weave_fault};
+ghost use Rattle.abt_audit.specs.Performing.{EndsBy, IsNotShown, IsNoRun, IsShownAs, IsShownWhole, TellsFault, weave_fault};
+ghost use Rattle.abt_audit.specs.Performing as spec;
 
 use crate::auditing::{AuditedRun, audit};
 use crate::fault::AuditFault;
 use crate::gathering::read_all;
 use crate::naming::cause_text;
+use crate::settling::settled_run;
 use crate::stuck::{head_of, stuck_text};
 use abt_journal_text::{Book, Cause, Run, TextFault};
-use abt_perform::{Fault, MEMORY_LINE};
+use abt_perform::{Fault, MEMORY_LINE, WRITE_LINE, tell_text};
 use abt_text::put;
 use abt_weave::WeaveFault;
 use std::alloc::{AllocError, Global};
@@ -32,7 +34,8 @@ pub fn perform_audit<R: Read + Drop, W: Write, E: Write>(
     errors: &mut E,
 ) -> u8
     ensures status { (result ≡ 0) ⊎ (result ≡ 1) }
-    ensures ok { result ≡ 0 → IsShownWhole (map R.remaining readers.items) (W.contents writer.old) (W.contents writer.new) }
+    ensures ok { result ≡ 0 →
+        IsShownWhole (map R.remaining readers.items) (W.contents writer.old) (W.contents writer.new) }
     ensures quiet { result ≡ 0 → Keeps (E.contents errors.old) (E.contents errors.new) }
     ensures err { result ≡ 1 → IsNotShown names.now (map R.remaining readers.items)
         (W.contents writer.old) (W.contents writer.new) (E.contents errors.old) (E.contents errors.new) }
@@ -55,7 +58,8 @@ pub fn show_audit<R: Read + Drop, W: Write, E: Write>(
     writer: &mut W,
     errors: &mut E,
 ) -> Option<AuditedRun>
-    ensures ok { IfSome result (IsShownAs (map R.remaining readers.items) (W.contents writer.old) (W.contents writer.new)) }
+    ensures ok { IfSome result (IsShownAs (map R.remaining readers.items) (W.contents writer.old)
+        (W.contents writer.new)) }
     ensures quiet { IsSome result → Keeps (E.contents errors.old) (E.contents errors.new) }
     ensures err { IsNone result → IsNotShown names.now (map R.remaining readers.items)
         (W.contents writer.old) (W.contents writer.new) (E.contents errors.old) (E.contents errors.new) }
@@ -76,7 +80,8 @@ fn audit_texts<R: Read + Drop, W: Write>(
     readers: Vec<R>,
     writer: &mut W,
 ) -> Result<AuditedRun, AuditFault>
-    ensures ok { IfOk result (IsShownAs (map R.remaining readers.items) (W.contents writer.old) (W.contents writer.new)) }
+    ensures ok { IfOk result (IsShownAs (map R.remaining readers.items) (W.contents writer.old)
+        (W.contents writer.new)) }
     ensures err { IfErr result (λ fault. EndsBy names.now (map R.remaining readers.items) fault
         (W.contents writer.old) (W.contents writer.new)) }
 {
@@ -96,7 +101,8 @@ fn audit_texts<R: Read + Drop, W: Write>(
 
 // What a fault of a text is to an audit.
 fn fault_of_text(fault: TextFault) -> AuditFault
-    ensures { (result ≡ audit_fault.Memory) ⊎ (result ≡ audit_fault.Text fault) }
+    ensures value { result ≡ spec.fault_of_text fault }
+    ensures either { (result ≡ audit_fault.Memory) ⊎ (result ≡ audit_fault.Text fault) }
 {
     match fault.cause {
         Cause::Memory => AuditFault::Memory,
@@ -109,9 +115,10 @@ fn judge_book(alloc: Global, names: &[String], book: Book) -> Result<AuditedRun,
     ensures ok { IfOk result (IsToldAs book) }
     ensures err { IfErr result (IsNoRun names.now book) }
 {
-    let Some(run) = book.into_run(alloc)? else {
+    let Some(told) = book.into_run(alloc)? else {
         return Err(AuditFault::Nothing);
     };
+    let run = settled_run(alloc, told)?;
     match audit(alloc, &run) {
         Ok(audited) => {
             let Run { net, .. } = run;
@@ -127,14 +134,30 @@ fn judge_book(alloc: Global, names: &[String], book: Book) -> Result<AuditedRun,
     }
 }
 
-// Tells a fault as far as the writer takes it.
+// Tells a fault as far as the writer takes it. A fault that names no text is told without memory.
 fn tell<E: Write>(alloc: Global, names: &[String], fault: &AuditFault, errors: &mut E)
-    ensures { Tells (fault_text names.now fault.now) (E.contents errors.old) (E.contents errors.new)
-        ⊎ Tells (fault_line program.Memory) (E.contents errors.old) (E.contents errors.new) }
+    ensures { TellsFault names.now fault.now (E.contents errors.old) (E.contents errors.new) }
 {
-    match text_of(alloc, names, fault) {
+    match fault {
+        AuditFault::Text(why) => tell_made(text_fault(alloc, names, why), errors),
+        AuditFault::Nothing => tell_text(errors, "fault: Nothing\n"),
+        AuditFault::Stuck { fault, lines } => {
+            tell_made(stuck_fault(alloc, fault, lines.as_slice()), errors)
+        }
+        AuditFault::Write => tell_text(errors, WRITE_LINE),
+        AuditFault::Memory => tell_text(errors, MEMORY_LINE),
+    }
+}
+
+// Tells a text that was made, or want of memory for it.
+fn tell_made<E: Write>(made: Result<Vec<u8>, AllocError>, errors: &mut E)
+    ensures { MatchResult made
+        (λ text. Tells text.items (E.contents errors.old) (E.contents errors.new))
+        (λ _. Tells (fault_line program.Memory) (E.contents errors.old) (E.contents errors.new)) }
+{
+    match made {
         Ok(text) => tell_octets(errors, text.as_slice()),
-        Err(_) => tell_octets(errors, MEMORY_LINE.as_bytes()),
+        Err(_) => tell_text(errors, MEMORY_LINE),
     }
 }
 
@@ -143,19 +166,6 @@ fn tell_octets<E: Write>(errors: &mut E, octets: &[u8])
     ensures { Tells octets.now (E.contents errors.old) (E.contents errors.new) }
 {
     let _ = put(errors, octets);
-}
-
-// What is told of a fault.
-fn text_of(alloc: Global, names: &[String], fault: &AuditFault) -> Result<Vec<u8>, AllocError>
-    ensures { IfOk result (λ text. text.items ≡ fault_text names.now fault.now) }
-{
-    match fault {
-        AuditFault::Text(why) => text_fault(alloc, names, why),
-        AuditFault::Nothing => octets_of(alloc, "fault: Nothing\n", b""),
-        AuditFault::Stuck { fault, lines } => stuck_fault(alloc, fault, lines.as_slice()),
-        AuditFault::Write => program_fault(alloc, Fault::Write, b""),
-        AuditFault::Memory => program_fault(alloc, Fault::Memory, b""),
-    }
 }
 
 fn text_fault(alloc: Global, names: &[String], why: &TextFault) -> Result<Vec<u8>, AllocError>

@@ -1,6 +1,6 @@
 //! What the protocol answers where an entry stands.
 ghost use Rattle.std.specs.Prelude.{◌≡◌, ◌<◌, [], codes, length, option_map, IfOk, OnOk};
-ghost use Rattle.abt_entry_text.specs.Written.{reply_json, outcome_json};
+ghost use Rattle.abt_entry.specs.EntryWritten.{reply_json, outcome_json};
 ghost use Rattle.abt_journal.specs.Replay.{reply_by, table_after, replay};
 ghost use Rattle.abt_model.specs.PortTable.{port_table};
 ghost use Rattle.abt_text.specs.Text.{◌⋅◌, newline};
@@ -8,7 +8,7 @@ ghost use Rattle.abt_audit.specs.Protocol.{protocol_line, protocol_at};
 ghost use Rattle.abt_audit.specs.Protocol as spec;
 
 use crate::obeying::source_answer;
-use abt_entry_text::{outcome_text, reply_text};
+use abt_entry::{outcome_text, reply_text};
 use abt_journal::{Entry, PortInput, PortReply};
 use abt_journal_text::Run;
 use abt_model::Outcome;
@@ -86,7 +86,8 @@ fn add_outcome(
     text: &mut Vec<u8>,
     outcome: Option<Outcome>,
 ) -> Result<(), AllocError>
-    ensures { OnOk result (text.new.items ≡ text.old.items ⋅ protocol_line (option_map outcome_json outcome)) }
+    ensures { OnOk result (text.new.items ≡
+        text.old.items ⋅ protocol_line (option_map outcome_json outcome)) }
 {
     let Some(outcome) = outcome else {
         return Ok(());
@@ -119,7 +120,8 @@ fn add_of_source(
     source: u16,
     place: u64,
 ) -> Result<(), AllocError>
-    ensures { OnOk result (text.new.items ≡ text.old.items ⋅ protocol_at run.now (Actor.Source source) place) }
+    ensures { OnOk result (text.new.items ≡
+        text.old.items ⋅ protocol_at run.now (Actor.Source source) place) }
 {
     let Some(conn) = run.net.conns().get(usize::from(source)) else {
         return Ok(());

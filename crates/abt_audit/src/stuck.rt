@@ -2,22 +2,24 @@
 ghost use Rattle.std.specs.Prelude.{◌≡◌, ◌-◌, map, option_map, slice_get, length, IfOk, OnOk, string_bytes, Vec};
 ghost use Rattle.std.specs.declared.alloc.Global.{Global as GlobalSpec};
 ghost use Rattle.abt_text.specs.Text.{◌⋅◌, newline};
-ghost use Rattle.abt_woven.specs.declared.actor.Actor.TheVariants.{Port, Source};
+ghost use Rattle.abt_weave.specs.declared.actor.Actor.TheVariants.{Port, Source};
 ghost use Rattle.abt_audit.specs.Names.{name_in, spot_head};
 ghost use Rattle.abt_audit.specs.Protocol.{fault_lines};
 ghost use Rattle.abt_audit.specs.Stuck.{item_at, entry_at, line_at, stuck_lines};
 
 use crate::protocol::add_protocol;
-use abt_entry_text::{entry_line, step_line};
+use abt_entry::{entry_line, step_line};
 use abt_journal_text::{Run, Spot};
-use abt_source_journal::{SourceEntry, SourceJournal};
+use abt_model::{SourceEntry, SourceJournal};
 use abt_weave::{Actor, Stuck, WeaveFault};
 use std::alloc::{AllocError, Global};
 
 #[tactic(auto, using(crate::proofs::Lists::got_map))]
 // The item of a place in the list of a number.
 fn item_at<T>(lists: &[Vec<T>], number: u16, place: u64) -> Option<&T>
-    ensures { option_map (λ item. item.now) result ≡ item_at (map (λ (items : Vec T GlobalSpec). items.items) lists.now) number place }
+    ensures { option_map
+        (λ item. item.now) result ≡
+        item_at (map (λ (items : Vec T GlobalSpec). items.items) lists.now) number place }
 {
     match lists.get(usize::from(number)) {
         Some(items) => items.get(place as usize),
@@ -99,7 +101,8 @@ fn add_entry(
     source: u16,
     place: u64,
 ) -> Result<(), AllocError>
-    ensures { OnOk result (text.new.items ≡ text.old.items ⋅ line_at names.now run.now (Source source) place) }
+    ensures { OnOk result (text.new.items ≡
+        text.old.items ⋅ line_at names.now run.now (Source source) place) }
 {
     let Some(spot) = item_at(run.source_spots.as_slice(), source, place) else {
         return Ok(());
@@ -118,7 +121,8 @@ fn add_stuck(
     run: &Run,
     stuck: Stuck,
 ) -> Result<(), AllocError>
-    ensures { OnOk result (text.new.items ≡ text.old.items ⋅ line_at names.now run.now stuck.actor stuck.place) }
+    ensures { OnOk result (text.new.items ≡
+        text.old.items ⋅ line_at names.now run.now stuck.actor stuck.place) }
 {
     match stuck.actor {
         Actor::Port(port) => add_step(alloc, text, names, run, port, stuck.place),

@@ -12,10 +12,10 @@ ghost use Rattle.abt_c.specs.Records.{record_of, reply_in, HasAnswerKind, HasVpi
 ghost use Rattle.abt_c.specs.Sources.{IsSource, IsReady, IsWriting, IsAsked, source_in, newest_in, answer_number, heard_in, down_phase, asking_phase};
 
 use crate::outcome::{
-    ASKED, DONE, DOWN, IGNORED, NO_STATE, NOT_ASKING, NOT_KEPT, NOT_WRITING, RAISED, RATE_ORDER,
-    REFUSED, SEQ_EXHAUSTED, SEQ_ZERO, VPI_RANGE, WRITE_FIRST, WRITING, WRONG_KIND, WRONG_LENGTH,
+    self, ASKED, DONE, DOWN, IGNORED, NO_STATE, NOT_ASKING, NOT_KEPT, NOT_WRITING, RAISED, REFUSED,
+    SEQ_EXHAUSTED, WRITE_FIRST, WRITING, WRONG_KIND, WRONG_LENGTH,
 };
-use crate::record::{AbtRm, Lacks};
+use crate::record::AbtRm;
 use crate::source_state::{AbtSource, AnySource};
 use abt_cell::{Answer, Request, Rm};
 use abt_keep::MemoryStore;
@@ -224,10 +224,7 @@ pub extern "C" fn abt_raw_source_answer(state: &mut AbtSource, rm: &AbtRm) -> u3
     };
     let answer = match rm.answer() {
         Ok(answer) => answer,
-        Err(Lacks::Kind) => return WRONG_KIND,
-        Err(Lacks::Vpi) => return VPI_RANGE,
-        Err(Lacks::Seq) => return SEQ_ZERO,
-        Err(Lacks::Order) => return RATE_ORDER,
+        Err(lack) => return outcome::of_lack(lack),
     };
     match any {
         AnySource::Down(_) => IGNORED,

@@ -7,8 +7,8 @@ ghost use Rattle.abt_c.specs.Outcome.{done, rm_number, wrong_length, wrong_kind,
 ghost use Rattle.abt_c.specs.Records.{rm_in, record_of, HasKind, HasVpi, HasSeq, IsMessage};
 ghost use Rattle.abt_cell.specs.declared.fault.RmFault.TheVariants.{SeqZero, RateOrder};
 
-use crate::outcome::{self, DONE, RATE_ORDER, SEQ_ZERO, VPI_RANGE, WRONG_KIND, WRONG_LENGTH};
-use crate::record::{AbtRm, Lacks};
+use crate::outcome::{self, DONE, WRONG_LENGTH};
+use crate::record::AbtRm;
 use abt_cell::{Cell, crc10, read_rm, write_rm};
 
 /// The CRC-10 of a payload of 48 octets: of its first 374 bits.
@@ -71,9 +71,6 @@ pub extern "C" fn abt_raw_rm_write(rm: &AbtRm, octets: &mut [u8]) -> u32
             octets.copy_from_slice(&write_rm(&said).to_octets());
             DONE
         }
-        Err(Lacks::Kind) => WRONG_KIND,
-        Err(Lacks::Vpi) => VPI_RANGE,
-        Err(Lacks::Seq) => SEQ_ZERO,
-        Err(Lacks::Order) => RATE_ORDER,
+        Err(lack) => outcome::of_lack(lack),
     }
 }

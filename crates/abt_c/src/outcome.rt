@@ -1,8 +1,10 @@
 //! The numbers that C gets for what a call answers (docs/C.md, "Outcomes").
 ghost use Rattle.std.specs.Prelude.{◌≡◌, ◌<◌, ◌≤◌, ◌↔◌};
-ghost use Rattle.abt_c.specs.Outcome.{verdict_number, rm_number, drop_number, clock_back, time_range, first_fault};
+ghost use Rattle.abt_cell.specs.declared.fault.RmFault.TheVariants.{SeqZero, RateOrder};
+ghost use Rattle.abt_c.specs.Outcome.{verdict_number, rm_number, drop_number, clock_back, time_range, wrong_kind, vpi_range, first_fault};
 ghost use Rattle.abt_gcra.specs.declared.fault.GcraFault.{GcraFault};
 
+use crate::record::Lacks;
 use abt_cell::RmFault;
 use abt_gcra::{GcraFault, Verdict};
 use abt_node::DropCause;
@@ -115,5 +117,21 @@ pub fn of_drop(cause: DropCause) -> u32
         DropCause::Stale => 19,
         DropCause::Conflict => 20,
         DropCause::FloorAbove => 21,
+    }
+}
+
+/// The number of what a record lacks of a message.
+pub fn of_lack(lack: Lacks) -> u32
+    ensures kind { (result ≡ wrong_kind) ↔ (lack ≡ Lacks.Kind) }
+    ensures vpi { (result ≡ vpi_range) ↔ (lack ≡ Lacks.Vpi) }
+    ensures seq { (result ≡ rm_number SeqZero) ↔ (lack ≡ Lacks.Seq) }
+    ensures order { (result ≡ rm_number RateOrder) ↔ (lack ≡ Lacks.Order) }
+    ensures within { (rm_number SeqZero ≤ result) × (result ≤ vpi_range) }
+{
+    match lack {
+        Lacks::Kind => WRONG_KIND,
+        Lacks::Vpi => VPI_RANGE,
+        Lacks::Seq => SEQ_ZERO,
+        Lacks::Order => RATE_ORDER,
     }
 }

@@ -10,12 +10,9 @@ ghost use Rattle.abt_c.specs.Outcome.{done, first_fault, pass, refuse, drop_numb
 ghost use Rattle.abt_c.specs.Records.{record_of, terms_in, reply_in, request_kind, HasAnswerKind, HasVpi, HasSeq, IsMessage, IsAnswer, IsRequest};
 ghost use Rattle.abt_c.specs.Ports.{IsPort, IsConnection, IsCounted, port_kind, channel_in, reservation_in, held_in, port_after, decision_at, onward_number, back_number};
 
-use crate::outcome::{
-    self, BELOW_SUM, CAPACITY_RANGE, DONE, NO_STATE, PASS, RATE_ORDER, REFUSE, SEQ_ZERO, VPI_RANGE,
-    WRONG_KIND,
-};
+use crate::outcome::{self, BELOW_SUM, CAPACITY_RANGE, DONE, NO_STATE, PASS, REFUSE, VPI_RANGE};
 use crate::port_state::{AbtConnection, AbtPort, PORT_KIND};
-use crate::record::{AbtRm, Lacks};
+use crate::record::AbtRm;
 use abt_cell::{Rm, Vc};
 use abt_node::{Back, DropCause, Onward};
 use abt_rate::CAPACITY_MAX;
@@ -94,10 +91,7 @@ pub extern "C" fn abt_raw_port_request(
     }
     let request = match rm.asked() {
         Ok(request) => request,
-        Err(Lacks::Kind) => return WRONG_KIND,
-        Err(Lacks::Vpi) => return VPI_RANGE,
-        Err(Lacks::Seq) => return SEQ_ZERO,
-        Err(Lacks::Order) => return RATE_ORDER,
+        Err(lack) => return outcome::of_lack(lack),
     };
     if !connection.is_of(request.vc()) {
         return outcome::of_drop(DropCause::UnknownVc);
@@ -146,10 +140,7 @@ pub extern "C" fn abt_raw_port_answer(
     }
     let answer = match rm.answer() {
         Ok(answer) => answer,
-        Err(Lacks::Kind) => return WRONG_KIND,
-        Err(Lacks::Vpi) => return VPI_RANGE,
-        Err(Lacks::Seq) => return SEQ_ZERO,
-        Err(Lacks::Order) => return RATE_ORDER,
+        Err(lack) => return outcome::of_lack(lack),
     };
     if !connection.is_of(answer.vc()) {
         return outcome::of_drop(DropCause::UnknownVc);

@@ -86,7 +86,8 @@ pub extern "C" fn abt_raw_source_emit(state: &mut AbtSource, now: u64, next: &mu
     ensures value { IsReady state.old →
         (result ≡ emission_number (result_of_emission (source_in state.old) now)) }
     ensures gives { IsReady state.old → MatchResult (result_of_emission (source_in state.old) now)
-        (λ moment. (next.new ≡ moment) × IsSource state.new × (state.new.phase ≡ state.old.phase) × (state.new.is_writing ≡ 0)
+        (λ moment. (next.new ≡ moment) × IsSource state.new × (state.new.phase ≡ state.old.phase) ×
+        (state.new.is_writing ≡ 0)
         × (source_in state.new ≡ emitted_source (source_in state.old) now moment))
         (λ fault. (next.new ≡ later_of fault next.old) × (state.new ≡ state.old)) }
     ensures same { (¬ IsReady state.old) → (state.new ≡ state.old) × (next.new ≡ next.old) }

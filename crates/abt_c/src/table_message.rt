@@ -9,10 +9,8 @@ ghost use Rattle.abt_c.specs.Records.{record_of, terms_in, reply_in, request_kin
 ghost use Rattle.abt_c.specs.Ports.{reservation_in, decision_at, onward_number, back_number};
 ghost use Rattle.abt_c.specs.Tables.{HasHead, IsTable, IsRowOf, IsUnknown, LeavesOthers, row_of};
 
-use crate::outcome::{
-    self, DAMAGED, NO_STATE, PASS, RATE_ORDER, REFUSE, SEQ_ZERO, VPI_RANGE, WRONG_KIND,
-};
-use crate::record::{AbtRm, Lacks};
+use crate::outcome::{self, DAMAGED, NO_STATE, PASS, REFUSE};
+use crate::record::AbtRm;
 use crate::table_state::AbtTable;
 use abt_cell::Rm;
 use abt_node::{Back, Onward};
@@ -46,10 +44,7 @@ pub extern "C" fn abt_raw_table_request(table: &mut AbtTable, rm: &AbtRm, answer
     }
     let request = match rm.asked() {
         Ok(request) => request,
-        Err(Lacks::Kind) => return WRONG_KIND,
-        Err(Lacks::Vpi) => return VPI_RANGE,
-        Err(Lacks::Seq) => return SEQ_ZERO,
-        Err(Lacks::Order) => return RATE_ORDER,
+        Err(lack) => return outcome::of_lack(lack),
     };
     let Some(onward) = table.request(&request) else {
         return DAMAGED;
@@ -91,10 +86,7 @@ pub extern "C" fn abt_raw_table_answer(table: &mut AbtTable, rm: &AbtRm) -> u32
     }
     let answer = match rm.answer() {
         Ok(answer) => answer,
-        Err(Lacks::Kind) => return WRONG_KIND,
-        Err(Lacks::Vpi) => return VPI_RANGE,
-        Err(Lacks::Seq) => return SEQ_ZERO,
-        Err(Lacks::Order) => return RATE_ORDER,
+        Err(lack) => return outcome::of_lack(lack),
     };
     let Some(back) = table.answer(&answer) else {
         return DAMAGED;

@@ -62,7 +62,8 @@ pub(crate) fn is_multiple(payload: &[u8]) -> bool
 fn block_at(octets: &[u8], place: usize) -> u128
     requires { place + 12 ≤ length octets.now }
     ensures low { result < 2 ^ 96 }
-    ensures value { polynomial_of (take (place + 12) octets.now) ≡ polynomial_of (take place octets.now) * 2 ^ 96 + result }
+    ensures value { polynomial_of (take (place + 12) octets.now) ≡
+        polynomial_of (take place octets.now) * 2 ^ 96 + result }
 {
     let high = u32::from_be_bytes([
         octets[place],

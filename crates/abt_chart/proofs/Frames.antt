@@ -1,7 +1,7 @@
 -- One event more: what it told, and what stands in a picture behind it.
 use Rattle.std.proofs.Common.{◌≡◌, suc, refl, ap, List, [], ◌∷◌, ◌++◌, length}
-use Rattle.abt_arrows.specs.declared.told.Told.{Told}
-use Rattle.abt_arrows.specs.Tellings.{told_of, told_from}
+use Rattle.abt_chart.specs.declared.told.Told.{Told}
+use Rattle.abt_chart.specs.Tellings.{told_of, told_from}
 use Rattle.abt_net.specs.Topology.{Topology}
 use Rattle.abt_model.specs.declared.event.Event.{Event}
 use Rattle.abt_model.specs.Outcomes.{outcome_of, after_event}

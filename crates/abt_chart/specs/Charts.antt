@@ -1,9 +1,9 @@
 -- What a picture of a run shows (docs/PICTURES.md).
 use Rattle.std.specs.Prelude.{◌≡◌, ℕ, ◌+◌, List, ◌++◌, length, All, None, Some, IfSome, IfNone, slice_get}
 use Rattle.abt_net.specs.Topology.{Topology}
-use Rattle.abt_arrows.specs.Arrows.{sent_at, brought_at, IsArrival, IsDeparture}
-use Rattle.abt_arrows.specs.Tellings.{told_after}
-use Rattle.abt_arrows.specs.declared.told.Told.{Told}
+use Rattle.abt_chart.specs.Arrows.{sent_at, brought_at, IsArrival, IsDeparture}
+use Rattle.abt_chart.specs.Tellings.{told_after}
+use Rattle.abt_chart.specs.declared.told.Told.{Told}
 use Rattle.abt_model.specs.Run.{facts_after}
 use Rattle.abt_model.specs.declared.event.Event.{Event}
 use Rattle.abt_chart.specs.declared.chart.Chart.{Chart}

@@ -1,5 +1,5 @@
 -- What ports hold and sources shape at, between the events of a run (docs/PICTURES.md, "Bands").
-use Rattle.std.specs.Prelude.{◌≡◌, ℕ, zero, suc, ◌≤◌, List, [], ◌∷◌, length, Option, Some, map, min, sum, slice_get, unwrap_or}
+use Rattle.std.specs.Prelude.{◌≡◌, ℕ, zero, suc, ◌≤◌, List, [], ◌∷◌, length, Some, map, min, sum, slice_get}
 use Rattle.std.specs.List.{enumerate_from}
 use Rattle.abt_facts.specs.declared.fact.Fact.{Fact}
 use Rattle.abt_facts.specs.Hop.{held_of}
@@ -8,7 +8,7 @@ use Rattle.abt_model.specs.Past.{Past, facts_of}
 use Rattle.abt_model.specs.Reserved.{held_on}
 use Rattle.abt_model.specs.declared.event.Event.{Event}
 use Rattle.abt_net.specs.Topology.{Topology}
-use Rattle.abt_trace.specs.Traces.{rates_after, capacities_after}
+use Rattle.abt_model.specs.Traces.{rates_after, capacities_after}
 use Rattle.abt_chart.specs.declared.frame.Frame.{Frame}
 
 -- what each connection holds on a port, the first connection's first: the stack of the port
@@ -18,10 +18,6 @@ stack_after net past p = map (λ numbered. held_on (facts_of numbered.0 past) nu
 -- the stack of each port
 abbrev pub stacks_after : Topology → Past → List (List ℕ)
 stacks_after net past = map (λ numbered. stack_after net past numbered.0) (enumerate_from 0 net.capacities)
-
--- a number that is read, 0 where there is none
-abbrev pub number : Option ℕ → ℕ
-number read = unwrap_or read 0
 
 -- the least that the first so many hops of a path hold, 0 where there is none
 abbrev pub least_held : List Fact → (hops : ℕ) → ℕ

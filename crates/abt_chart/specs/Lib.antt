@@ -1,2 +1,5 @@
+pub mod Messages
+pub mod Tellings
+pub mod Arrows
 pub mod Frames
 pub mod Charts

@@ -1,6 +1,6 @@
 //! Charts of runs.
 ghost use Rattle.std.specs.Prelude.{◌≡◌, ◌++◌, [], ◌∷◌, List, IfOk, OnOk};
-ghost use Rattle.abt_arrows.specs.Tellings.{told_after};
+ghost use Rattle.abt_chart.specs.Tellings.{told_after};
 ghost use Rattle.abt_model.specs.Run.{facts_after};
 ghost use Rattle.abt_model.specs.declared.event.Event.{Event as EventSpec};
 ghost use Rattle.abt_net.specs.Topology.{IsWithinRules};
@@ -10,8 +10,8 @@ ghost use Rattle.abt_chart.specs.Frames.{frame_after, frames_from};
 
 use crate::crossings::{Crossing, crossings_of};
 use crate::frame::{Frame, frame_of};
-use abt_arrows::{Told, told_of};
-use abt_list::Sequence;
+use crate::{Told, told_of};
+use abt_model::Sequence;
 use abt_net::Net;
 use abt_node::Onward;
 use abt_world::{Event, World};
@@ -67,7 +67,8 @@ fn take(
 ) -> Result<(), AllocError>
     ensures stands { (past : List EventSpec) → StandsFor net.now past world.old →
         OnOk result (StandsFor net.now (past ++ event.now ∷ []) world.new) }
-    ensures told { (past : List EventSpec) → StandsFor net.now past world.old → told.old ≡ told_after net.now past →
+    ensures told { (past : List EventSpec) → StandsFor net.now past world.old →
+        told.old ≡ told_after net.now past →
         OnOk result (told.new ≡ told_after net.now (past ++ event.now ∷ [])) }
 {
     // Names a type within an outcome, without which the checker can't follow one.
@@ -86,7 +87,8 @@ fn carry(
 ) -> Result<(), AllocError>
     ensures stands { (past : List EventSpec) → StandsFor net.now past world.old →
         OnOk result (StandsFor net.now (past ++ events.now) world.new) }
-    ensures told { (past : List EventSpec) → StandsFor net.now past world.old → told.old ≡ told_after net.now past →
+    ensures told { (past : List EventSpec) → StandsFor net.now past world.old →
+        told.old ≡ told_after net.now past →
         OnOk result (told.new ≡ told_after net.now (past ++ events.now)) }
 {
     for event in events {
@@ -105,7 +107,8 @@ fn carry_shown(
 ) -> Result<Sequence<Frame>, AllocError>
     ensures stands { (past : List EventSpec) → StandsFor net.now past world.old →
         OnOk result (StandsFor net.now (past ++ events.now) world.new) }
-    ensures told { (past : List EventSpec) → StandsFor net.now past world.old → told.old ≡ told_after net.now past →
+    ensures told { (past : List EventSpec) → StandsFor net.now past world.old →
+        told.old ≡ told_after net.now past →
         OnOk result (told.new ≡ told_after net.now (past ++ events.now)) }
     ensures frames { (past : List EventSpec) → StandsFor net.now past world.old →
         IfOk result (λ frames. frames ≡ frames_from net.now (facts_after net.now past) events.now) }

@@ -2,8 +2,8 @@
 ghost use Rattle.std.specs.Prelude.{◌≡◌, ◌+◌, ◌<◌, ◌≤◌, IfOk, length};
 ghost use Rattle.abt_chart.specs.Charts.{IsCrossing, AreCrossings};
 
-use abt_arrows::{Arrival, Departure, Told, arrival_at, departure_at};
-use abt_list::Sequence;
+use crate::{Arrival, Departure, Told, arrival_at, departure_at};
+use abt_model::Sequence;
 use std::alloc::{AllocError, Global};
 
 /// What an event brings, and what it sends.

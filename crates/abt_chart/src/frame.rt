@@ -7,7 +7,7 @@ ghost use Rattle.abt_world.specs.Standing.{StandsFor};
 ghost use Rattle.abt_chart.specs.Frames as spec;
 
 use crate::holdings::{capacities_of, leasts_of, rates_of, stacks_of};
-use abt_list::Sequence;
+use abt_model::Sequence;
 use abt_net::Net;
 use abt_world::World;
 use std::alloc::{AllocError, Global};

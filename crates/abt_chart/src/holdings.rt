@@ -1,16 +1,16 @@
 //! What is read off a world between two events.
-ghost use Rattle.std.specs.Prelude.{◌≡◌, ◌≤◌, List, length, IfOk, Some};
+ghost use Rattle.std.specs.Prelude.{◌≡◌, ◌≤◌, List, length, unwrap_or, IfOk, Some};
 ghost use Rattle.abt_model.specs.declared.event.Event.{Event as EventSpec};
 ghost use Rattle.abt_model.specs.Past.{facts_of};
 ghost use Rattle.abt_model.specs.Reserved.{held_on};
 ghost use Rattle.abt_model.specs.Run.{facts_after};
 ghost use Rattle.abt_net.specs.declared.conn.Conn.{Conn};
 ghost use Rattle.abt_net.specs.Topology.{Topology, IsWithinRules, conn_at};
-ghost use Rattle.abt_trace.specs.Traces.{rates_after, capacities_after};
+ghost use Rattle.abt_model.specs.Traces.{rates_after, capacities_after};
 ghost use Rattle.abt_world.specs.Standing.{StandsFor};
 ghost use Rattle.abt_chart.specs.Frames as spec;
 
-use abt_list::Sequence;
+use abt_model::Sequence;
 use abt_net::{Conn, Net};
 use abt_rate::Rate;
 use abt_world::World;
@@ -18,7 +18,7 @@ use std::alloc::{AllocError, Global};
 
 // The units of a rate, 0 where there is none.
 fn units_of(rate: Option<Rate>) -> u64
-    ensures { result ≡ spec.number rate }
+    ensures { result ≡ unwrap_or rate 0 }
 {
     match rate {
         Some(rate) => rate.units(),
@@ -28,7 +28,7 @@ fn units_of(rate: Option<Rate>) -> u64
 
 // A number that is read, 0 where there is none.
 fn number_of(read: Option<u64>) -> u64
-    ensures { result ≡ spec.number read }
+    ensures { result ≡ unwrap_or read 0 }
 {
     match read {
         Some(number) => number,
@@ -128,7 +128,8 @@ fn stack_of(
 fn held_at(world: &World<'_>, place: u16, conn: &Conn, port: u16) -> u64
     requires { length conn.now.path ≤ u16.MAX }
     ensures { (net : Topology) (events : List EventSpec) → StandsFor net events world.now →
-        conn_at net place ≡ Some conn.now → result ≡ held_on (facts_of place (facts_after net events)) conn.now.path port }
+        conn_at net place ≡ Some conn.now →
+        result ≡ held_on (facts_of place (facts_after net events)) conn.now.path port }
 {
     match conn.path.hop_of(port) {
         Some(hop) => units_of(world.held(place, hop as u16)),

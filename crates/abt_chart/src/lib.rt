@@ -1,12 +1,18 @@
-//! What a picture of a run shows, as values: who sent what to whom, and who held what meanwhile.
+//! What a picture of a run shows, as values: messages, and what is held and shaped meanwhile.
 #![tactic(auto)]
 
+mod arrow;
 mod chart;
 mod crossings;
 mod frame;
 mod holdings;
+mod message;
+mod search;
+mod told;
 
-pub use abt_arrows::{Arrival, Departure, Kind, Message, Stop, Told};
+pub use arrow::{Arrival, Departure, arrival_at, departure_at};
 pub use chart::{Chart, chart_of};
 pub use crossings::Crossing;
 pub use frame::{Frame, frame_of};
+pub use message::{Kind, Message, Stop};
+pub use told::{Told, told_of};

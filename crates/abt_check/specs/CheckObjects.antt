@@ -3,7 +3,7 @@ use Rattle.std.specs.Prelude.{ℕ, List, [], ◌∷◌, ◌++◌, length, codes,
 use Rattle.json.specs.Token.{Token}
 use Rattle.abt_net.specs.declared.fault.NetFault.{NetFault}
 use Rattle.abt_net.specs.declared.fault.NetFault.TheVariants as net
-use Rattle.abt_objects.specs.Members.{text_member, number_member, object_line}
+use Rattle.abt_entry.specs.ObjectMembers.{text_member, number_member, object_line}
 use Rattle.abt_places.specs.Places.{place_at}
 use Rattle.abt_places.specs.declared.place.Place.{Place}
 use Rattle.abt_scenario.specs.Keys.{key_name}

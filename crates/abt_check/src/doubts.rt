@@ -1,9 +1,9 @@
 //! What is doubtful in a text: keys that nothing reads, and what runs otherwise than it looks.
 use crate::finding::{Findings, at_entry, at_item, entry_in};
 use crate::near::{meant, near, shown};
+use abt_model::Command;
 use abt_places::Entry;
 use abt_scenario::Scenario;
-use abt_script::Command;
 use std::alloc::AllocError;
 
 const DOCUMENT_KEYS: [&str; 4] = ["ports", "connection", "events", "operator"];

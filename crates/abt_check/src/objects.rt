@@ -1,11 +1,11 @@
 //! Checks, told as JSON: an object for each finding, on a line of its own.
 ghost use Rattle.std.specs.Prelude.{◌≡◌, ◌++◌, OnOk};
-ghost use Rattle.abt_objects.specs.Members.{Adds};
+ghost use Rattle.abt_entry.specs.ObjectMembers.{Adds};
 ghost use Rattle.abt_check.specs.CheckObjects as spec;
 
 use crate::finding::{Checked, Found, Warning};
+use abt_entry::{begin, end, push_number, push_text};
 use abt_net::NetFault;
-use abt_objects::{begin, end, push_number, push_text};
 use abt_places::place_at;
 use abt_scenario::ScenarioFault;
 use json::Writer;

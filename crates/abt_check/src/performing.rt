@@ -44,8 +44,10 @@ fn check_from<R: Read, W: Write>(
 
 // The check of the text that a reader has left.
 fn said_from<R: Read>(alloc: Global, as_json: bool, reader: &mut R) -> Result<Said, EngineFault>
-    ensures ok { IfOk result (λ said. IfSome (R.remaining reader.old) (IsSaidOf as_json said.is_faulty said.octets.items)) }
-    ensures err { IfErr result (λ fault. (old : _) → Keeps old old → Leaves fault as_json (R.remaining reader.old) old old) }
+    ensures ok { IfOk result
+        (λ said. IfSome (R.remaining reader.old) (IsSaidOf as_json said.is_faulty said.octets.items)) }
+    ensures err { IfErr result
+        (λ fault. (old : _) → Keeps old old → Leaves fault as_json (R.remaining reader.old) old old) }
     ensures stops { ConsumesAtMost (R.remaining reader.old) (R.remaining reader.new) (text_max + 1) }
 {
     let octets = match octets_of(alloc, reader) {
@@ -103,9 +105,12 @@ pub fn perform_check<R: Read, W: Write, E: Write>(
 ) -> u8
     ensures status { (result ≡ 0) ⊎ (result ≡ 1) }
     ensures reads { ConsumesAtMost (R.remaining reader.old) (R.remaining reader.new) (text_max + 1) }
-    ensures ok { result ≡ 0 → Answers plan.now.as_json false (R.remaining reader.old) (W.contents writer.old) (W.contents writer.new) }
+    ensures ok { result ≡ 0 →
+        Answers plan.now.as_json false (R.remaining reader.old) (W.contents writer.old)
+        (W.contents writer.new) }
     ensures quiet { result ≡ 0 → Keeps (E.contents errors.old) (E.contents errors.new) }
-    ensures err { result ≡ 1 → IsFaulty plan.now.as_json (R.remaining reader.old) (W.contents writer.old) (W.contents writer.new)
+    ensures err { result ≡ 1 →
+        IsFaulty plan.now.as_json (R.remaining reader.old) (W.contents writer.old) (W.contents writer.new)
         (E.contents errors.old) (E.contents errors.new) }
 {
     match check_from(alloc, plan.as_json, reader, writer) {

@@ -46,7 +46,8 @@ fn push_check(
     source: &str,
     checked: &Checked,
 ) -> Result<(), AllocError>
-    ensures { OnOk result (string_bytes text.new ≡ string_bytes text.old ++ check_text source.now checked.now) }
+    ensures { OnOk result (string_bytes text.new ≡ string_bytes text.old ++
+        check_text source.now checked.now) }
 {
     push_faults(alloc, text, source, checked.faults.as_slice())?;
     push_warnings(alloc, text, source, checked.warnings.as_slice())?;
@@ -59,7 +60,8 @@ fn push_faults(
     source: &str,
     faults: &[Found],
 ) -> Result<(), AllocError>
-    ensures { OnOk result (string_bytes text.new ≡ string_bytes text.old ++ fault_lines source.now faults.now) }
+    ensures { OnOk result (string_bytes text.new ≡ string_bytes text.old ++
+        fault_lines source.now faults.now) }
 {
     for found in faults {
         push_fault(alloc, text, source, found)?;
@@ -87,7 +89,8 @@ fn push_warnings(
     source: &str,
     warnings: &[Warning],
 ) -> Result<(), AllocError>
-    ensures { OnOk result (string_bytes text.new ≡ string_bytes text.old ++ warning_lines source.now warnings.now) }
+    ensures { OnOk result (string_bytes text.new ≡ string_bytes text.old ++
+        warning_lines source.now warnings.now) }
 {
     for warning in warnings {
         push_warning(alloc, text, source, warning)?;
@@ -101,7 +104,8 @@ fn push_warning(
     source: &str,
     warning: &Warning,
 ) -> Result<(), AllocError>
-    ensures { OnOk result (string_bytes text.new ≡ string_bytes text.old ++ warning_line source.now warning.now) }
+    ensures { OnOk result (string_bytes text.new ≡ string_bytes text.old ++
+        warning_line source.now warning.now) }
 {
     let place = place_text(alloc, source, warning.at)?;
     let said = warning.text.as_str();

@@ -2,7 +2,7 @@
 use crate::finding::{Findings, at_item, entry_in};
 use crate::net::items_at;
 use crate::words::{Kind, misfit};
-use abt_grammar::{command_of, event_of, operation_of};
+use abt_format::{command_of, event_of, operation_of};
 use abt_scenario::ScenarioFault;
 use std::alloc::AllocError;
 use toml::{Table, Value};

@@ -1,6 +1,6 @@
 //! Why a text says no event, no command or no operation.
 use crate::near::{meant, near, shown};
-use abt_grammar::rate_of;
+use abt_format::rate_of;
 use abt_text::{u16_of, u32_of, u64_of, words_of};
 use std::alloc::{AllocError, Global};
 

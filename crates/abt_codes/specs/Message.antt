@@ -3,7 +3,8 @@ use Rattle.std.specs.Prelude.{ℕ, ◌^◌, ◌==◌, nat_lt, if◌then◌else�
 use Rattle.abt_cell.specs.Message.{Terms, answer_to}
 use Rattle.abt_cell.specs.declared.message.Rm.{Rm}
 use Rattle.abt_cell.specs.declared.message.Rm.TheVariants as rm
-use Rattle.abt_grammar.specs.Values.{rate_of}
+use Rattle.abt_format.specs.Values.{rate_of}
+use Rattle.abt_text.specs.FirstFault.{◌>>=◌}
 use Rattle.abt_text.specs.Words.{number_below}
 use Rattle.abt_codes.specs.declared.message.Kind.{Kind}
 use Rattle.abt_codes.specs.declared.message.Kind.TheVariants.{Request, Yes, No}
@@ -15,12 +16,6 @@ use Rattle.abt_codes.specs.declared.fault.CodesFault.TheVariants.{Vpi, Vci, Seq,
 abbrev pub or_fault : CodesFault → Option ℕ → Result ℕ CodesFault
 or_fault fault (Some number) = Ok number
 or_fault fault None = Err fault
-
--- what the first says, and then what is said with it, or the first fault
-infixl 10 ◌>>=◌
-abbrev pub ◌>>=◌ : {A B : Type 0} → Result A CodesFault → (A → Result B CodesFault) → Result B CodesFault
-Ok x >>= f = f x
-Err fault >>= f = Err fault
 
 -- a request, or a yes or a no to it
 abbrev pub rm_of : Kind → Terms → Rm

@@ -2,7 +2,7 @@
 use Rattle.std.specs.Prelude.{◌≡◌, ℕ, ◌*◌, ◌<◌, ◌≤◌, ◌↔◌, Option, IsNone, IfSome, IsSomeAnd, MatchOption}
 use Rattle.abt_rate.specs.Extremes.{IsGreatest, IsLeast}
 use Rattle.abt_rate.specs.Rate.{IsRate, greatest_units}
-use Rattle.abt_grammar.specs.Values.{rate_of}
+use Rattle.abt_format.specs.Values.{rate_of}
 use Rattle.abt_text.specs.Text.{Text}
 use Rattle.abt_codes.specs.Quantity.{quantity_in}
 use Rattle.abt_codes.specs.declared.quantity.Quantity.{Quantity}

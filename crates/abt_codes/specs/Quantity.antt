@@ -3,7 +3,7 @@ use Rattle.std.specs.Prelude.{ℕ, ◌+◌, ◌*◌, ◌^◌, ◌==◌, nat_le, 
 use Rattle.std.specs.Char.{is_ascii_digit}
 use Rattle.std.specs.List.{prefix_len}
 use Rattle.std.specs.Str.{bytes_eq}
-use Rattle.abt_grammar.specs.Values.{◌>>=◌}
+use Rattle.abt_format.specs.Values.{◌>>=◌}
 use Rattle.abt_text.specs.Text.{Text}
 use Rattle.abt_text.specs.Words.{number_of}
 use Rattle.abt_codes.specs.declared.quantity.Quantity.{Quantity}

@@ -6,7 +6,7 @@ ghost use Rattle.abt_codes.specs.Message.{rm_in, rm_of, rm_with};
 
 use crate::fault::CodesFault;
 use abt_cell::{Answer, Request, Rm, Vc};
-use abt_grammar::rate_of;
+use abt_format::rate_of;
 use abt_rate::Rate;
 use abt_text::{u16_of, u32_of};
 
@@ -68,7 +68,8 @@ fn rm_with(
     ask: Rate,
 ) -> Result<Rm, CodesFault>
     requires { vpi < 2 ^ 12 }
-    ensures { result ≡ rm_with kind (record { vc = record { vpi = vpi; vci = vci }; seq = seq; floor = floor; ask = ask }) }
+    ensures { result ≡
+        rm_with kind (record { vc = record { vpi = vpi; vci = vci }; seq = seq; floor = floor; ask = ask }) }
 {
     if seq == 0 {
         return Err(CodesFault::SeqZero);

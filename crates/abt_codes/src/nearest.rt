@@ -1,11 +1,11 @@
 //! The rates that codes say, nearest to a quantity.
 ghost use Rattle.std.specs.Prelude.{◌≡◌, ◌≢◌, ◌<◌, ◌*◌, ℕ, IsNone, IfSome};
 ghost use Rattle.abt_rate.specs.Rate.{IsRate};
-ghost use Rattle.abt_grammar.specs.Values.{rate_of};
+ghost use Rattle.abt_format.specs.Values.{rate_of};
 ghost use Rattle.abt_codes.specs.Nearest.{IsAbove, IsBelow, IsExactly, IsSaid};
 
 use crate::quantity::{Quantity, quantity_in};
-use abt_grammar::rate_of;
+use abt_format::rate_of;
 use abt_rate::Rate;
 
 /// The greatest rate of a code that isn't above a quantity.

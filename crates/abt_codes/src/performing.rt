@@ -39,7 +39,8 @@ pub fn perform_codes<W: Write, E: Write>(
 // Writes what a plan prints.
 fn print<W: Write>(alloc: Global, plan: &CodesPlan, writer: &mut W) -> Result<(), CodesFault>
     ensures ok { OnOk result (IsPrinted plan.now (W.contents writer.old) (W.contents writer.new)) }
-    ensures err { IfErr result (λ fault. EndsBy fault plan.now (W.contents writer.old) (W.contents writer.new)) }
+    ensures err { IfErr result
+        (λ fault. EndsBy fault plan.now (W.contents writer.old) (W.contents writer.new)) }
 {
     let text = text_of(alloc, plan)?;
     put(writer, text.as_bytes()).map_err(|_| CodesFault::Write)

@@ -9,14 +9,16 @@ ghost use Rattle.abt_codes.specs.declared.fault.CodesFault.TheVariants as fault;
 use crate::fault::CodesFault;
 use crate::nearest::{above, below};
 use crate::quantity::{Quantity, quantity_in};
+use abt_perform::rate_line;
 use abt_rate::Rate;
-use abt_text::HexCode;
 use std::alloc::{AllocError, Global};
 
 /// The codes nearest to the rate that a text says: the greatest that isn't above it, and the least that isn't below it.
 pub fn code_text(alloc: Global, word: &str) -> Result<String, CodesFault>
-    ensures ok { IfOk result (λ text. IsSomeAnd (quantity_in word.now) (λ quantity. IsCodeText quantity (string_bytes text))) }
-    ensures err { IfErr result (λ found. (found ≡ Memory) ⊎ ((found ≡ fault.Rate) × (quantity_in word.now ≡ None))) }
+    ensures ok { IfOk result
+        (λ text. IsSomeAnd (quantity_in word.now) (λ quantity. IsCodeText quantity (string_bytes text))) }
+    ensures err { IfErr result
+        (λ found. (found ≡ Memory) ⊎ ((found ≡ fault.Rate) × (quantity_in word.now ≡ None))) }
 {
     match quantity_in(word) {
         Some(quantity) => Ok(nearest_text(alloc, quantity)?),
@@ -43,17 +45,5 @@ fn above_line(alloc: Global, above: Option<Rate>) -> Result<String, AllocError>
             format!(in alloc; "above {line}")
         }
         None => String::from_str(alloc, "above none\n"),
-    }
-}
-
-// The line of `abt rate`.
-fn rate_line(alloc: Global, rate: Rate) -> Result<String, AllocError>
-    ensures { IfOk result (λ line. string_bytes line ≡ rate_line rate) }
-{
-    let code = HexCode(rate.code());
-    let units = rate.units();
-    match rate.spacing() {
-        Some(spacing) => format!(in alloc; "{code} units {units} spacing {spacing}\n"),
-        None => format!(in alloc; "{code} units {units} spacing none\n"),
     }
 }

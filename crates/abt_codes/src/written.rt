@@ -14,7 +14,8 @@ use std::alloc::{AllocError, Global};
 
 /// The cell that is written for the message that words say, as 104 hexadecimal digits on a line.
 pub fn write_text(alloc: Global, words: &MessageWords) -> Result<String, CodesFault>
-    ensures ok { IfOk result (λ text. IsOkAnd (rm_in words.now) (λ rm. string_bytes text ≡ message_hex rm ⋅ newline)) }
+    ensures ok { IfOk result
+        (λ text. IsOkAnd (rm_in words.now) (λ rm. string_bytes text ≡ message_hex rm ⋅ newline)) }
     ensures err { IfErr result (λ fault. (fault ≡ Memory) ⊎ (rm_in words.now ≡ Err fault)) }
 {
     let rm = rm_in(words)?;

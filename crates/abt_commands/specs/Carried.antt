@@ -1,6 +1,8 @@
 -- What carrying a plan out leaves, by its exit status.
 use Rattle.std.specs.Prelude.{◌⊎◌, Option, Some, None, MatchOption, codes, string_bytes}
 use Rattle.std.specs.Io.KnownBytes.{Keeps}
+use Rattle.std.specs.declared.io.ErrorKind.{ErrorKind}
+use Rattle.std.specs.declared.io.ErrorKind.TheVariants.{OutOfMemory}
 use Rattle.abt_text.specs.Text.{Text, ◌⋅◌, newline}
 use Rattle.abt_perform.specs.Names.{fault_line}
 use Rattle.abt_perform.specs.Plans as plain
@@ -40,6 +42,11 @@ ReadsHere plan old new = MatchOption (file_of plan) (ReadsFor plan old new) (λ 
 -- what is told of a file that isn't opened
 abbrev pub open_line : Text
 open_line = codes "fault: open" ⋅ newline
+
+-- what is told of an error in opening a file, by what it is to the system
+abbrev pub line_of_kind : ErrorKind → Text
+line_of_kind OutOfMemory = fault_line Memory
+line_of_kind _ = open_line
 
 -- The file isn't opened: that is told, or want of memory, and nothing goes out.
 abbrev pub IsUnopened : (old new errors_old errors_new : Option Text) → Type 0

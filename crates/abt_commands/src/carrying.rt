@@ -1,11 +1,12 @@
 //! Plans, carried out over files or over the standard input.
 ghost use Rattle.std.specs.Prelude.{◌≡◌, ◌⊎◌};
 ghost use Rattle.std.specs.Io.KnownBytes.{Keeps};
+ghost use Rattle.std.specs.IoError.{error_kind};
 ghost use Rattle.std.specs.Option.{option_map};
 ghost use Rattle.abt_perform.specs.Names.{fault_line};
 ghost use Rattle.abt_perform.specs.Plans.{IsWithinLimits, ReadsFor};
 ghost use Rattle.abt_perform.specs.declared.fault.Fault.TheVariants.{Memory};
-ghost use Rattle.abt_commands.specs.Carried.{IsDone, IsRefused, IsDoneHere, IsRefusedHere, ReadsHere, file_of, open_line};
+ghost use Rattle.abt_commands.specs.Carried.{IsDone, IsRefused, IsDoneHere, IsRefusedHere, ReadsHere, file_of, line_of_kind, open_line};
 
 use abt_perform::{MEMORY_LINE, OPEN_LINE, Plan, perform, tell_text};
 use abt_perform_threads::perform_threads;
@@ -32,9 +33,11 @@ where
     requires { IsWithinLimits plan.now }
     ensures status { (result ≡ 0) ⊎ (result ≡ 1) }
     ensures reads { ReadsHere plan.now (R.remaining input.old) (R.remaining input.new) }
-    ensures ok { result ≡ 0 → IsDoneHere plan.now (R.remaining input.old) (W.contents out.old) (W.contents out.new) }
+    ensures ok { result ≡ 0 →
+        IsDoneHere plan.now (R.remaining input.old) (W.contents out.old) (W.contents out.new) }
     ensures quiet { result ≡ 0 → Keeps (E.contents errors.old) (E.contents errors.new) }
-    ensures err { result ≡ 1 → IsRefusedHere plan.now (R.remaining input.old) (W.contents out.old) (W.contents out.new)
+    ensures err { result ≡ 1 →
+        IsRefusedHere plan.now (R.remaining input.old) (W.contents out.old) (W.contents out.new)
         (E.contents errors.old) (E.contents errors.new) }
 {
     let Some(name) = file_of(plan) else {
@@ -54,7 +57,8 @@ where
 
 /// What is told of a file that isn't opened: that, or want of memory.
 pub fn line_of_unopened(error: &Error) -> &'static str
-    ensures { (result.now ≡ open_line) ⊎ (result.now ≡ fault_line Memory) }
+    ensures value { result.now ≡ line_of_kind (error_kind error.now) }
+    ensures either { (result.now ≡ open_line) ⊎ (result.now ≡ fault_line Memory) }
 {
     match error.kind() {
         ErrorKind::OutOfMemory => MEMORY_LINE,
@@ -88,9 +92,11 @@ pub fn carry_out_over<T: Threads + Wait + Sync, R: Read, W: Write, E: Write>(
     requires { IsWithinLimits plan.now }
     ensures status { (result ≡ 0) ⊎ (result ≡ 1) }
     ensures reads { ReadsFor plan.now (R.remaining reader.old) (R.remaining reader.new) }
-    ensures ok { result ≡ 0 → IsDone plan.now (R.remaining reader.old) (W.contents out.old) (W.contents out.new) }
+    ensures ok { result ≡ 0 →
+        IsDone plan.now (R.remaining reader.old) (W.contents out.old) (W.contents out.new) }
     ensures quiet { result ≡ 0 → Keeps (E.contents errors.old) (E.contents errors.new) }
-    ensures err { result ≡ 1 → IsRefused plan.now (R.remaining reader.old) (W.contents out.old) (W.contents out.new)
+    ensures err { result ≡ 1 →
+        IsRefused plan.now (R.remaining reader.old) (W.contents out.old) (W.contents out.new)
         (E.contents errors.old) (E.contents errors.new) }
 {
     match plan {

@@ -8,7 +8,7 @@ mod words;
 
 pub use carrying::{carry_out, carry_out_over, line_of_unopened};
 pub use command::{
-    CODE, EVENTS, EXPLAIN, FILE, HEX, JOURNALS, JSON, QUIET, STDIN, add_commands, program,
+    CODE, EVENTS, EXPLAIN, FILE, HEX, JOURNALS, JSON, QUIET, STDIN, WORKERS, add_commands, program,
 };
 pub use telling::answer_words;
 pub use words::{capacity_of, no_plan, plan_of, plan_words, refusal, workers_of};

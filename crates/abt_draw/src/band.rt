@@ -1,8 +1,7 @@
 //! The bands below the chart of messages: over the axis of the events, what each port holds, and at which rate each source shapes.
 use crate::sheet::Sheet;
 use crate::words::short_rate;
-use abt_layout::{Actor, BAND_HEIGHT};
-use abt_svg::{Point, push_label, push_line};
+use crate::{Actor, BAND_HEIGHT, Point, push_label, push_line};
 use std::alloc::AllocError;
 
 // Where the axis begins, and what is left free behind its end, in tenths of a unit.

@@ -1,17 +1,18 @@
 //! Scenarios from any reader, pictures as texts.
-ghost use Rattle.std.specs.Prelude.{◌+◌, ◌≤◌, IfOk};
+ghost use Rattle.std.specs.Prelude.{◌+◌, ◌≤◌, length, IfOk, IfErr, IfSome, IfNone};
 ghost use Rattle.abt_text.specs.Streams.{ConsumesAtMost, text_max};
+ghost use Rattle.abt_draw.specs.Drawn.{IsDrawn, IsUndrawn, IsUndrawnRange, IsShownRange, AreKnown, IsUnknown};
 
 use crate::fault::DrawFault;
 use crate::page::{html_of, svg_of};
-use crate::plan::DrawPlan;
-use crate::sheet::{Sheet, left_of, step_of};
+use crate::plan::PicturePlan;
+use crate::sheet::{Sheet, left_most, left_of, step_of};
+use crate::{Rows, Scene, columns_of};
 use abt_chart::{Chart, chart_of};
-use abt_layout::{Rows, columns_of};
 use abt_net::Net;
-use abt_placed::{Placed, read_placed};
+use abt_places::read_placed;
 use abt_reason::explanation_of;
-use std::alloc::Global;
+use std::alloc::{AllocError, Global};
 use std::io::Read;
 
 /// How many events are drawn at once.
@@ -21,25 +22,40 @@ pub const EVENTS_MAX: usize = 2000;
 const NUMBERS_MAX: usize = 1 << 26;
 
 /// The text of the picture that a plan asks for, of the scenario that a reader has left.
+///
+/// # Errors
+/// Why there is no scenario, or why it isn't drawn.
 pub fn drawing_of<R: Read>(
     alloc: Global,
-    plan: &DrawPlan,
+    plan: &PicturePlan,
     reader: &mut R,
 ) -> Result<String, DrawFault>
     ensures stops { ConsumesAtMost (R.remaining reader.old) (R.remaining reader.new) (text_max + 1) }
 {
     let placed = read_placed(alloc, reader)?;
-    drawn(alloc, plan, &placed)
+    let scenario = &placed.scenario;
+    let scene = Scene {
+        net: &scenario.net,
+        events: scenario.events.as_slice(),
+        lines: placed.lines.as_slice(),
+        stuck: &[],
+    };
+    picture_of(alloc, plan, &scene)
 }
 
-// The picture of a scenario.
-fn drawn(alloc: Global, plan: &DrawPlan, placed: &Placed) -> Result<String, DrawFault> {
-    let net = &placed.scenario.net;
-    let events = placed.scenario.events.as_slice();
-    for conn in plan.only.as_slice() {
-        if usize::from(*conn) >= net.conns().len() {
-            return Err(DrawFault::Only(*conn));
-        }
+#[tactic(auto, using(crate::proofs::Ranges::undrawn_range))]
+/// The text of the picture that a plan asks for, of events over a net to which nothing happened before, and of the entries at which journals
+/// are stuck behind them.
+///
+/// # Errors
+/// Which connection or which events are named that there aren't, what is too much for one picture, or want of memory.
+pub fn picture_of(alloc: Global, plan: &PicturePlan, scene: &Scene<'_>) -> Result<String, DrawFault>
+    ensures ok { IfOk result (λ _. IsDrawn plan.now scene.now.net.now scene.now.events.now) }
+    ensures err { IfErr result (IsUndrawn plan.now scene.now.net.now scene.now.events.now) }
+{
+    let (net, events) = (scene.net, scene.events);
+    if let Some(conn) = unknown_in(plan.only.as_slice(), net.conns().len()) {
+        return Err(DrawFault::Only(conn));
     }
     let (first, last) = range_of(plan, events.len())?;
     if numbers_of(net, last - first) > NUMBERS_MAX {
@@ -48,36 +64,69 @@ fn drawn(alloc: Global, plan: &DrawPlan, placed: &Placed) -> Result<String, Draw
     let (before, rest) = events.split_at(first);
     let (shown, after) = rest.split_at(last - first);
     let chart = chart_of(alloc, net, before, shown, after)?;
-    let explanation = explanation_of(alloc, net, events, placed.lines.as_slice())?;
+    let words = words_of(alloc, scene)?;
     let rows = Rows {
         first,
         count: (last - first) as u32,
     };
-    text_of(alloc, plan, net, &chart, rows, explanation.as_str())
+    match text_of(alloc, plan, scene, &chart, rows, words.as_str())? {
+        Some(text) => Ok(text),
+        None => Err(DrawFault::Columns),
+    }
 }
 
-// The text of a picture of these rows.
+// A picture in words: each event with its reason, and behind them the entries at which journals are stuck.
+fn words_of(alloc: Global, scene: &Scene<'_>) -> Result<String, AllocError> {
+    let mut words = explanation_of(alloc, scene.net, scene.events, scene.lines)?;
+    for mark in scene.stuck {
+        words.push_str("stuck: ")?;
+        words.push_str(mark.text)?;
+        words.push_str("\n")?;
+    }
+    Ok(words)
+}
+
+// The first connection that is named and isn't one of so many.
+fn unknown_in(only: &[u16], conns: usize) -> Option<u16>
+    ensures some { IfSome result (IsUnknown only.now conns) }
+    ensures none { IfNone result (AreKnown only.now conns) }
+{
+    for place in 0..only.len() {
+        if usize::from(only[place]) >= conns {
+            return Some(only[place]);
+        }
+    }
+    None
+}
+
+// The text of a picture of these rows; None where there are too many columns.
 fn text_of(
     alloc: Global,
-    plan: &DrawPlan,
-    net: &Net,
+    plan: &PicturePlan,
+    scene: &Scene<'_>,
     chart: &Chart,
     rows: Rows,
     explanation: &str,
-) -> Result<String, DrawFault>
+) -> Result<Option<String>, AllocError>
     requires { rows.count ≤ 2000 }
 {
-    let Some(columns) = columns_of(alloc, net, plan.only.as_slice())? else {
-        return Err(DrawFault::Columns);
+    let Some(columns) = columns_of(alloc, scene.net, plan.only.as_slice())? else {
+        return Ok(None);
     };
     let step = step_of(columns.len());
+    let left = if scene.stuck.is_empty() {
+        left_of(alloc, chart, rows, step, explanation)?
+    } else {
+        left_most(step)
+    };
     let sheet = Sheet {
         alloc,
-        net,
+        net: scene.net,
         chart,
         columns: columns.as_slice(),
         rows,
-        left: left_of(alloc, chart, rows, step, explanation)?,
+        stuck: scene.stuck,
+        left,
         step,
     };
     let text = if plan.page {
@@ -85,12 +134,13 @@ fn text_of(
     } else {
         svg_of(&sheet, explanation)?
     };
-    Ok(text)
+    Ok(Some(text))
 }
 
 // The first event that is shown, counted from 0, and the one behind the last.
-fn range_of(plan: &DrawPlan, events: usize) -> Result<(usize, usize), DrawFault>
-    ensures { IfOk result (λ range. (range.0 ≤ range.1) × (range.1 ≤ events) × (range.1 ≤ range.0 + 2000)) }
+fn range_of(plan: &PicturePlan, events: usize) -> Result<(usize, usize), DrawFault>
+    ensures ok { IfOk result (λ range. IsShownRange plan.now events range.0 range.1) }
+    ensures err { IfErr result (IsUndrawnRange plan.now events) }
 {
     let count = events as u64;
     let from = plan.from.unwrap_or(1);

@@ -1,4 +1,6 @@
 //! Why nothing is drawn.
+ghost use Rattle.abt_draw.specs.Drawn.{TellsSome};
+
 use abt_perform::{Fault, MEMORY_LINE, tell_fault, tell_text};
 use abt_scenario::EngineFault;
 use std::alloc::{AllocError, Global};
@@ -52,7 +54,9 @@ impl From<AllocError> for DrawFault {
 }
 
 /// Tells a fault, as far as the writer takes it; want of memory, where its line can't be made.
-pub fn tell_draw_fault<E: Write>(alloc: Global, fault: DrawFault, errors: &mut E) {
+pub fn tell_draw_fault<E: Write>(alloc: Global, fault: DrawFault, errors: &mut E)
+    ensures { TellsSome (E.contents errors.old) (E.contents errors.new) }
+{
     if let DrawFault::Engine(engine) = fault {
         tell_fault(Fault::from(engine), errors);
         return;

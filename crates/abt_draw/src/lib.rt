@@ -1,21 +1,40 @@
-//! `abt draw`: a scenario is run, and a picture of its run is made.
+//! `abt draw`: a scenario is run, and a picture of its run is made; where its parts stand, and their texts in SVG.
 #![tactic(auto)]
 
+mod actor;
+mod arrow;
 mod band;
+mod block;
 mod drawing;
+mod element;
+mod escape;
 mod fault;
 mod lifeline;
 mod mark;
 mod page;
 mod picture;
+mod place;
 mod plan;
+mod point;
 mod rates;
 mod row;
+mod scene;
 mod sheet;
 mod stack;
+mod stuck;
 mod style;
 mod words;
 
-pub use drawing::{EVENTS_MAX, drawing_of};
+pub use actor::{Actor, actor_at, column_of, columns_of};
+pub use arrow::{Arrow, Lost, Spot, arrow_of, lost_of};
+pub use block::{BAND_HEIGHT, Block, blocks_of, height_of};
+pub use drawing::{EVENTS_MAX, drawing_of, picture_of};
+pub use element::{
+    Picture, push_circle, push_document, push_group, push_label, push_line, push_rect,
+};
+pub use escape::escaped;
 pub use fault::{DrawFault, tell_draw_fault};
-pub use plan::{DrawPlan, add_commands, plan_of};
+pub use place::{Rows, level_of, x_of, y_of};
+pub use plan::{DrawPlan, OUTPUT, PicturePlan, add_commands, picture_plan_of, plan_of};
+pub use point::{Point, Size, Tenths};
+pub use scene::{Scene, StuckMark};

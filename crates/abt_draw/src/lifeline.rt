@@ -1,7 +1,6 @@
 //! The lifelines: one for each column, with its name above.
 use crate::sheet::Sheet;
-use abt_layout::{Actor, level_of, y_of};
-use abt_svg::{Point, push_label, push_line};
+use crate::{Actor, Point, level_of, push_label, push_line, y_of};
 use abt_world::Outcome;
 use std::alloc::AllocError;
 

@@ -1,10 +1,11 @@
 //! The marks of events on the lifelines.
 use crate::sheet::Sheet;
-use abt_arrows::{Stop, Told};
+use crate::{
+    Actor, Point, Size, actor_at, column_of, level_of, push_circle, push_line, push_rect, y_of,
+};
+use abt_chart::{Stop, Told};
 use abt_gcra::Verdict;
-use abt_layout::{Actor, actor_at, column_of, level_of, y_of};
 use abt_node::{Back, Onward};
-use abt_svg::{Point, Size, push_circle, push_line, push_rect};
 use abt_world::{Event, Heard, Outcome};
 use std::alloc::AllocError;
 

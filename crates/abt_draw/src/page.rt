@@ -2,7 +2,7 @@
 use crate::picture::push_picture;
 use crate::sheet::Sheet;
 use crate::style::{DEFINITIONS, KEYS, PAGE, SCRIPT, SHAPES};
-use abt_svg::{Picture, Point, Size, escaped, push_document, push_line};
+use crate::{Picture, Point, Size, escaped, push_document, push_line};
 use std::alloc::AllocError;
 
 /// The SVG text of a picture. The explanation is that of the whole run, and stands in it for readers of screens.
@@ -45,12 +45,17 @@ fn push_cursor(sheet: &Sheet<'_>, out: &mut String, lower: u64) -> Result<(), Al
 fn title_of(sheet: &Sheet<'_>) -> Result<String, AllocError> {
     let alloc = sheet.alloc;
     let events = sheet.chart.told.len();
+    let behind = if sheet.stuck.is_empty() {
+        ""
+    } else {
+        ", behind which journals are stuck"
+    };
     if events == 0 {
-        return String::from_str(alloc, "A run without events");
+        return format!(in alloc; "A run without events{behind}");
     }
     let first = (sheet.rows.first as u64).saturating_add(1);
     let last = (sheet.rows.first as u64).saturating_add(u64::from(sheet.rows.count));
-    format!(in alloc; "Events {first} to {last} of a run of {events}")
+    format!(in alloc; "Events {first} to {last} of a run of {events}{behind}")
 }
 
 /// A page with the picture, which steps through its events.

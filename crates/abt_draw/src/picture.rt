@@ -5,8 +5,8 @@ use crate::rates::{most_of, push_rates};
 use crate::row::push_row;
 use crate::sheet::{Sheet, line_of};
 use crate::stack::{most_at, push_stacks};
-use abt_layout::{Actor, BAND_HEIGHT};
-use abt_svg::{Point, push_label, push_line};
+use crate::stuck::push_stuck;
+use crate::{Actor, BAND_HEIGHT, Point, push_label, push_line};
 use std::alloc::AllocError;
 
 /// Adds all of a picture, and gives the lower edge of it. The explanation is that of the whole run.
@@ -17,6 +17,7 @@ pub(crate) fn push_picture(
 ) -> Result<u64, AllocError> {
     push_lifelines(sheet, out)?;
     push_rows(sheet, out, explanation)?;
+    push_stuck(sheet, out)?;
     push_bands(sheet, out)
 }
 

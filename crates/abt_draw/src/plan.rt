@@ -1,14 +1,14 @@
 //! The words of `abt draw`.
 use abt_perform::WordsFault;
 use abt_text::{u16_of, u64_of};
-use clap::{Arg, ArgMatches, Command};
+use clap::{Arg, ArgMatches, Command, value_parser};
 use std::alloc::{AllocError, Global};
 
 // The scenario to draw.
 const FILE: &str = "FILE";
 
-// The file for the picture.
-const OUT: &str = "output";
+/// The file for the picture.
+pub const OUTPUT: &str = "output";
 
 // The connections that are shown.
 const ONLY: &str = "only";
@@ -18,11 +18,15 @@ const FROM: &str = "from";
 
 const TO: &str = "to";
 
-/// What the words of `abt draw` ask for: to draw the scenario of this file, or of the standard input.
+// How many link workers a run in threads has whose woven events are drawn.
+const WORKERS: &str = "workers";
+
+// The file for the woven events, as a scenario.
+const EVENTS: &str = "events";
+
+/// What is to be shown of a run, and into which file.
 #[derive(Drop)]
-pub struct DrawPlan {
-    /// The file of the scenario.
-    pub file: Option<String>,
+pub struct PicturePlan {
     /// The file for the picture.
     pub out: String,
     /// Whether the picture is to be a page.
@@ -35,12 +39,30 @@ pub struct DrawPlan {
     pub to: Option<u64>,
 }
 
-/// Adds `draw` to the commands of a program.
+/// What the words of `abt draw` ask for: to draw the scenario of this file, or of the standard input.
+#[derive(Drop)]
+pub struct DrawPlan {
+    /// The file of the scenario.
+    pub file: Option<String>,
+    /// What is to be shown.
+    pub picture: PicturePlan,
+}
+
+/// Adds `draw` to the commands of a program. Its words `--workers` and `--events` are read by who runs threads.
 pub fn add_commands<'a>(alloc: Global, program: Command<'a>) -> Result<Command<'a>, AllocError> {
+    let draw = Command::new(alloc, "draw")
+        .about("Run a scenario, and draw who sent what to whom, and who held what meanwhile")
+        .after_help(EXAMPLE);
+    let draw = add_run_words(alloc, add_picture_words(alloc, draw)?)?;
+    program.subcommand(draw)
+}
+
+// What is to be shown, and into which file.
+fn add_picture_words<'a>(alloc: Global, draw: Command<'a>) -> Result<Command<'a>, AllocError> {
     let file = Arg::new(alloc, FILE).help(
         "The scenario, a TOML text; without a file it is read from the standard input",
     );
-    let out = Arg::new(alloc, OUT)
+    let out = Arg::new(alloc, OUTPUT)
         .short('o')
         .long("output")
         .value_name("OUT")
@@ -58,18 +80,32 @@ pub fn add_commands<'a>(alloc: Global, program: Command<'a>) -> Result<Command<'
         .long("to")
         .value_name("N")
         .help("Show the events up to this one");
-    let draw = Command::new(alloc, "draw")
-        .about("Run a scenario, and draw who sent what to whom, and who held what meanwhile")
-        .after_help(EXAMPLE)
-        .arg(file)?
-        .arg(out)?
-        .arg(only)?
-        .arg(from)?
-        .arg(to)?;
-    program.subcommand(draw)
+    draw.arg(file)?.arg(out)?.arg(only)?.arg(from)?.arg(to)
+}
+
+// Whether the scenario runs in threads.
+fn add_run_words<'a>(alloc: Global, draw: Command<'a>) -> Result<Command<'a>, AllocError> {
+    let workers = Arg::new(alloc, WORKERS)
+        .long("workers")
+        .value_name("N")
+        .value_parser(value_parser!(u64).range(1..=64))
+        .help(
+            "Run the scenario's scripts in threads, with this many link workers, 1 to 64, and draw the events that were woven",
+        );
+    let events = Arg::new(alloc, EVENTS)
+        .long("events")
+        .value_name("OUT")
+        .help(
+            "With --workers, write the events that were woven to this file too, as a scenario for abt run",
+        )
+        .requires_arg(WORKERS)?;
+    draw.arg(workers)?.arg(events)
 }
 
 /// The plan that the words behind a command's name ask for, or `None` if the command is another one.
+///
+/// # Errors
+/// Words that are wrong, or want of memory.
 pub fn plan_of(
     alloc: Global,
     name: &str,
@@ -82,7 +118,20 @@ pub fn plan_of(
         Some(file) => Some(String::from_str(alloc, file)?),
         None => None,
     };
-    let out = found.get_str(OUT).unwrap_or("");
+    let picture = picture_plan_of(alloc, found, OUTPUT)?;
+    Ok(Some(DrawPlan { file, picture }))
+}
+
+/// What is to be shown by the words of a command that has `--only`, `--from` and `--to`, and the file for the picture under the name `out`.
+///
+/// # Errors
+/// Words that are wrong, or want of memory.
+pub fn picture_plan_of(
+    alloc: Global,
+    found: &ArgMatches<'_>,
+    out: &str,
+) -> Result<PicturePlan, WordsFault> {
+    let out = found.get_str(out).unwrap_or("");
     let page = out.ends_with(".html");
     if !page && !out.ends_with(".svg") {
         return Err(wrong_words(alloc, "OUT ends in .svg or in .html")?);
@@ -90,14 +139,13 @@ pub fn plan_of(
     let only = only_of(alloc, found)?;
     let from = number_of(alloc, found, FROM)?;
     let to = number_of(alloc, found, TO)?;
-    Ok(Some(DrawPlan {
-        file,
+    Ok(PicturePlan {
         out: String::from_str(alloc, out)?,
         page,
         only,
         from,
         to,
-    }))
+    })
 }
 
 // The connections that are named.
@@ -143,4 +191,5 @@ fn wrong_words(alloc: Global, why: &str) -> Result<WordsFault, AllocError> {
 
 const EXAMPLE: &str = "Example:
   abt draw scenarios/two_ports.toml -o two_ports.html
+  abt draw scenarios/threads_crossing.toml --workers 4 -o crossing.html
 What stands in the picture is told in docs/PICTURES.md. At most 2000 events are drawn at once.";

@@ -1,9 +1,9 @@
 //! The bands of sources: the rate at which each shapes, under the least that its path holds for it.
 use crate::band::{Band, edge_of};
+use crate::height_of;
 use crate::sheet::Sheet;
 use crate::stack::push_step;
 use abt_chart::Frame;
-use abt_layout::height_of;
 use std::alloc::AllocError;
 
 // The rate of a source, and the least that is held for it.

@@ -2,11 +2,12 @@
 use crate::mark::{Mark, mark_of, push_cross, push_mark};
 use crate::sheet::Sheet;
 use crate::words::{answer_in, clipped, message_words};
-use abt_arrows::{Arrival, Departure, Kind, Message, Told};
-use abt_chart::Crossing;
-use abt_layout::{Arrow, actor_at, arrow_of, column_of, level_of, lost_of, y_of};
-use abt_svg::{Point, Size, push_group, push_label, push_line, push_rect};
-use abt_wording::push_event;
+use crate::{
+    Arrow, Point, Size, actor_at, arrow_of, column_of, level_of, lost_of, push_group, push_label,
+    push_line, push_rect, y_of,
+};
+use abt_chart::{Arrival, Crossing, Departure, Kind, Message, Told};
+use abt_format::push_event;
 use std::alloc::AllocError;
 
 /// Adds the row of an event, whose line in the explanation of its run this is.

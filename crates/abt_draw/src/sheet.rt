@@ -2,11 +2,10 @@
 ghost use Rattle.std.specs.Prelude.{◌≤◌, length};
 
 use crate::words::answer_in;
+use crate::{Actor, Point, Rows, Spot, StuckMark, x_of, y_of};
 use abt_chart::Chart;
-use abt_layout::{Actor, Rows, Spot, x_of, y_of};
+use abt_format::push_event;
 use abt_net::Net;
-use abt_svg::Point;
-use abt_wording::push_event;
 use std::alloc::{AllocError, Global};
 
 // How far the columns are apart, in tenths of a unit, where there are few, some and many.
@@ -21,6 +20,9 @@ const SIGNS_MAX: usize = 66;
 
 const SIGN_WIDTH: u32 = 42;
 
+// From the row of a stuck entry to the next, in tenths of a unit.
+const ROW_HEIGHT: u64 = 260;
+
 // How wide a picture is at least.
 const WIDTH_MIN: u64 = 6000;
 
@@ -32,6 +34,8 @@ pub(crate) struct Sheet<'a> {
     pub(crate) chart: &'a Chart,
     pub(crate) columns: &'a [Actor],
     pub(crate) rows: Rows,
+    /// The entries at which journals are stuck, each with a row below those of the events.
+    pub(crate) stuck: &'a [StuckMark<'a>],
     /// The middle of the first column.
     pub(crate) left: u32,
     /// From one column to the next.
@@ -76,9 +80,23 @@ impl Sheet<'_> {
         self.x(columns).max(WIDTH_MIN)
     }
 
+    /// The lower edge of the rows of events.
+    fn edge(&self) -> u64 {
+        y_of(self.rows.count.saturating_add(1))
+    }
+
+    /// The middle of the row of a stuck entry, which counts from 1.
+    pub(crate) fn stuck_y(&self, number: u64) -> u64 {
+        self.edge()
+            .saturating_add(ROW_HEIGHT.saturating_mul(number))
+    }
+
     /// The lower edge of the chart of messages.
     pub(crate) fn bottom(&self) -> u64 {
-        y_of(self.rows.count.saturating_add(1))
+        match self.stuck.len() {
+            0 => self.edge(),
+            count => self.stuck_y((count as u64).saturating_add(1)),
+        }
     }
 }
 
@@ -107,8 +125,18 @@ pub(crate) fn left_of(
             signs = signs.max(answer_in(line).len());
         }
     }
+    Ok(left_behind(signs, step))
+}
+
+/// The same behind words that take all the room that there is.
+pub(crate) fn left_most(step: u32) -> u32 {
+    left_behind(SIGNS_MAX, step)
+}
+
+// The same behind words of so many signs.
+fn left_behind(signs: usize, step: u32) -> u32 {
     let signs = signs.min(SIGNS_MAX) as u32;
-    Ok(signs * SIGN_WIDTH + step / 2 + 100)
+    signs * SIGN_WIDTH + step / 2 + 100
 }
 
 /// The first line of a text, and what stands behind it.

@@ -2,9 +2,8 @@
 use crate::band::{Band, edge_of};
 use crate::sheet::Sheet;
 use crate::words::short_rate;
+use crate::{Block, Point, Size, blocks_of, height_of, push_label, push_line, push_rect};
 use abt_chart::Frame;
-use abt_layout::{Block, blocks_of, height_of};
-use abt_svg::{Point, Size, push_label, push_line, push_rect};
 use std::alloc::AllocError;
 
 // What is held on a port, and its capacity.

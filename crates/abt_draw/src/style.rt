@@ -34,7 +34,12 @@ rect.set { fill: #111 }
 rect.row { fill: #fff; fill-opacity: 0 }
 .event:hover rect.row, .event.now rect.row { fill: #fd6; fill-opacity: 0.45 }
 .event:focus rect.row { stroke: #b70 }
-.event:focus { outline: none }
+.event:focus, .stuck:focus { outline: none }
+.stuck text { fill: #a00; font-weight: bold }
+.stuck:hover rect.row { fill: #fd6; fill-opacity: 0.45 }
+.stuck:focus rect.row { stroke: #b70 }
+circle.stuck { stroke: #a00; stroke-width: 1.6px }
+line.stuck { stroke: #a00; stroke-width: 1.6px }
 rect.hold { stroke: #333; stroke-width: 0.6px }
 rect.h0 { fill: url(#p0) }
 rect.h1 { fill: url(#p1) }
@@ -83,6 +88,7 @@ pub(crate) const KEYS: &str =
     "<p>Time goes down, event by event. Thin line: a request; thick line: a yes; long dashes: a no; short dashes: a
 message that came again or late. A cross ends what never came. On a lifeline, a circle is a start, a large cross a crash, a dot a request that is
 sent, a tick a cell, a full box a capacity that is set, an open box something refused or dropped, a dashed circle an event that couldn't happen.
+A circle with a cross, below all events, is an entry at which a journal is stuck: no event fits there.
 Below, over the events: what each connection holds at each port, under its capacity; and the rate at which each source shapes, under the least
 that its path holds for it (dashes). Rates are cells per second; a + stands for a fraction.</p>
 ";
@@ -91,6 +97,7 @@ that its path holds for it (dashes). Rates are cells per second; a + stands for 
 pub(crate) const SCRIPT: &str = "
 (function () {
   var events = Array.prototype.slice.call(document.querySelectorAll('g.event'));
+  var stuck = Array.prototype.slice.call(document.querySelectorAll('g.stuck'));
   var slider = document.getElementById('slider');
   var told = document.getElementById('now');
   var cursor = document.querySelector('line.cursor');
@@ -121,9 +128,14 @@ pub(crate) const SCRIPT: &str = "
     var steps = { ArrowRight: at + 1, ArrowLeft: at - 1, Home: 0, End: events.length - 1 };
     if (key.key in steps) { show(steps[key.key], true); key.preventDefault(); }
   });
-  events.forEach(function (group, place) {
+  events.concat(stuck).forEach(function (group) {
     group.addEventListener('mouseenter', function () { told.textContent = textOf(group); });
     group.addEventListener('mouseleave', function () { if (at !== -1) { told.textContent = textOf(events[at]); } });
+  });
+  stuck.forEach(function (group) {
+    group.addEventListener('focus', function () { told.textContent = textOf(group); });
+  });
+  events.forEach(function (group, place) {
     group.addEventListener('focus', function () { show(place, false); });
     group.addEventListener('click', function () { show(place, false); });
   });

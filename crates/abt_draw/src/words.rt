@@ -1,6 +1,6 @@
 //! The words that stand in a picture.
 use crate::sheet::Sheet;
-use abt_arrows::{Kind, Message, Told};
+use abt_chart::{Kind, Message, Told};
 use abt_rate::Rate;
 use abt_world::Outcome;
 use std::alloc::{AllocError, Global};

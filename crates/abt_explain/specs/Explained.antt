@@ -9,8 +9,8 @@ use Rattle.abt_scenario.specs.declared.engine.EngineFault.TheVariants.{Write}
 use Rattle.abt_perform.specs.Names.{fault_line, fault_of_engine}
 use Rattle.abt_perform.specs.Plans.{Tells}
 use Rattle.abt_perform.specs.declared.fault.Fault.{Fault}
-use Rattle.abt_placed.specs.Placed.{IsPlacedIn}
-use Rattle.abt_placed.specs.declared.placed.Placed.{Placed}
+use Rattle.abt_places.specs.Placed.{IsPlacedIn}
+use Rattle.abt_places.specs.declared.placed.Placed.{Placed}
 use Rattle.abt_reason.specs.Explanation.{IsExplanation}
 
 -- The text explains the scenario that was read, with the lines of its events.

@@ -8,7 +8,7 @@ ghost use Rattle.abt_explain.specs.Explained.{IsExplanationOf, IsExplained, IsRe
 
 use crate::plan::ExplainPlan;
 use abt_perform::{Fault, tell_fault};
-use abt_placed::{Placed, read_placed};
+use abt_places::{Placed, read_placed};
 use abt_reason::explanation_of;
 use abt_scenario::EngineFault;
 use abt_text::put;
@@ -22,7 +22,8 @@ pub fn explain_text<R: Read, W: Write>(
     reader: &mut R,
     writer: &mut W,
 ) -> Result<(), EngineFault>
-    ensures ok { OnOk result (IsExplained (R.remaining reader.old) (W.contents writer.old) (W.contents writer.new)) }
+    ensures ok { OnOk result (IsExplained (R.remaining reader.old) (W.contents writer.old)
+        (W.contents writer.new)) }
     ensures err { IfErr result (λ fault. Leaves fault (R.remaining reader.old)
         (W.contents writer.old) (W.contents writer.new)) }
     ensures stops { ConsumesAtMost (R.remaining reader.old) (R.remaining reader.new) (text_max + 1) }
@@ -50,7 +51,9 @@ fn explained_from<R: Read>(alloc: Global, reader: &mut R) -> Result<String, Engi
 
 // The explanation of a scenario's run, with the lines of its events.
 fn explanation_in(alloc: Global, placed: &Placed) -> Result<String, AllocError>
-    ensures { IfOk result (λ text. IsExplanation placed.now.scenario.net placed.now.lines.items placed.now.scenario.events (string_bytes text)) }
+    ensures { IfOk result
+        (λ text. IsExplanation placed.now.scenario.net placed.now.lines.items placed.now.scenario.events
+        (string_bytes text)) }
 {
     let scenario = &placed.scenario;
     explanation_of(
@@ -72,9 +75,11 @@ pub fn perform_explain<R: Read, W: Write, E: Write>(
 ) -> u8
     ensures status { (result ≡ 0) ⊎ (result ≡ 1) }
     ensures reads { ConsumesAtMost (R.remaining reader.old) (R.remaining reader.new) (text_max + 1) }
-    ensures ok { result ≡ 0 → IsExplained (R.remaining reader.old) (W.contents writer.old) (W.contents writer.new) }
+    ensures ok { result ≡ 0 →
+        IsExplained (R.remaining reader.old) (W.contents writer.old) (W.contents writer.new) }
     ensures quiet { result ≡ 0 → Keeps (E.contents errors.old) (E.contents errors.new) }
-    ensures err { result ≡ 1 → IsRefused (R.remaining reader.old) (W.contents writer.old) (W.contents writer.new)
+    ensures err { result ≡ 1 →
+        IsRefused (R.remaining reader.old) (W.contents writer.old) (W.contents writer.new)
         (E.contents errors.old) (E.contents errors.new) }
 {
     match explain_text(alloc, reader, writer) {

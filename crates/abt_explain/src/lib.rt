@@ -1,11 +1,13 @@
-//! `abt explain`: a scenario is run, and each of its events is told with its reason.
+//! `abt explain`: a scenario is run, and each of its events is told with its reason. So are events that were woven.
 #![tactic(auto)]
 
+mod answers;
 mod explaining;
 mod plan;
+mod telling;
+#[cfg(test)]
+mod tests;
 
 pub use explaining::{explain_text, perform_explain};
 pub use plan::{ExplainPlan, add_commands, plan_of};
-
-#[cfg(test)]
-mod tests;
+pub use telling::{tell_events, told_text};

@@ -13,12 +13,12 @@ newest_of (Shut seq hop ∷ facts) j = if hop == j then max seq (newest_of facts
 newest_of (fact ∷ facts) j = newest_of facts j
 
 -- what hop j holds for number s while that is its newest: nothing for none, the floor once it is shut, and else what was asked
-abbrev pub worth_of : List Fact → ℕ → ℕ → ℕ
-worth_of facts j s = if s == 0 then 0 else (if was_shut facts s j then floor_of facts s else ask_of facts s)
+abbrev pub reserved_for : List Fact → ℕ → ℕ → ℕ
+reserved_for facts j s = if s == 0 then 0 else (if was_shut facts s j then floor_of facts s else ask_of facts s)
 
 -- the rate that hop j holds for the connection
 abbrev pub held_of : List Fact → ℕ → ℕ
-held_of facts j = worth_of facts j (newest_of facts j)
+held_of facts j = reserved_for facts j (newest_of facts j)
 
 -- whether the newest number of hop j is open
 abbrev pub is_open_at : List Fact → ℕ → Bool

@@ -62,7 +62,8 @@ impl Bucket {
     /// The bucket that keeps these, as [`Bucket::tau`], [`Bucket::level`] and [`Bucket::clock`] gave them, or `None` where
     /// the tolerance or the level is above its limit, or a cell was taken after the clock.
     pub fn of_parts(tau: u64, level: Option<(u64, u64)>, clock: u64) -> Option<Bucket>
-        ensures some { IsSome result ↔ ((tau ≤ tau_max) × IfSome level (λ after. IsLevelAt clock after.0 after.1)) }
+        ensures some { IsSome result ↔
+            ((tau ≤ tau_max) × IfSome level (λ after. IsLevelAt clock after.0 after.1)) }
         ensures value { IfSome result (λ bucket. bucket ≡
             record { tau = tau; tat = option_map (λ after. after.0 + after.1) level; clock = clock }) }
     {

@@ -1,3 +1,11 @@
+pub mod Counts
+pub mod Walk
+pub mod Rows
+pub mod Through
+pub mod Histories
+pub mod Rising
+pub mod Pigeon
+pub mod Marks
 pub mod Seen
 pub mod Growing
 pub mod Reopening

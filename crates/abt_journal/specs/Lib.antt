@@ -1,3 +1,8 @@
+pub mod Following
+pub mod Gathered
+pub mod Missing
+pub mod Foreign
+pub mod Faults
 pub mod Replay
 pub mod Opening
 pub mod Journaled

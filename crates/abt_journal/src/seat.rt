@@ -78,7 +78,8 @@ impl Seat {
         ensures ok { IfOk result (λ r. state.new ≡ record {
           opening = state.old.opening;
           table = table_after state.old.table input;
-          entries = state.old.entries ++ record { place = r.0; caller = self.old.caller; input = input; reply = r.1 } ∷ [];
+          entries = state.old.entries ++
+              record { place = r.0; caller = self.old.caller; input = input; reply = r.1 } ∷ [];
         }) }
         ensures receipt { IfOk result (λ r. self.new ≡ record {
           caller = self.old.caller;
@@ -90,7 +91,8 @@ impl Seat {
         ensures place { IfOk result (λ r. seen_at port self.old.receipts ≤ r.0) }
         ensures seen { IfOk result (λ r. seen_at port self.new.receipts ≡ r.0 + 1) }
         ensures wound { (seen found : ℕ) → IsErrOf result (ServeFault.Wound seen found)
-            ↔ ((seen ≡ seen_at port self.old.receipts) × (found ≡ length state.old.entries) × (found < seen)) }
+            ↔ ((seen ≡ seen_at port self.old.receipts) × (found ≡ length state.old.entries) ×
+            (found < seen)) }
         ensures same { OnErr result ((self.new ≡ self.old) × (state.new ≡ state.old)) }
     {
         let seen = self.seen(port);

@@ -115,7 +115,8 @@ impl PortState {
         ensures ok { IfOk result (λ r. self.new ≡ record {
           opening = self.old.opening;
           table = table_after self.old.table input;
-          entries = self.old.entries ++ record { place = r.0; caller = caller; input = input; reply = r.1 } ∷ [];
+          entries = self.old.entries ++
+              record { place = r.0; caller = caller; input = input; reply = r.1 } ∷ [];
         }) }
         ensures same { OnErr result (self.new ≡ self.old) }
     {

@@ -1,6 +1,7 @@
 //! Lines and texts of journals. The lines, the values and the faults are written by hand from docs/JOURNALS.md.
 mod kinds;
 mod line_faults;
+mod open_writes;
 mod ports;
 mod runs;
 mod sources;
@@ -8,11 +9,11 @@ mod streams;
 mod text_faults;
 
 use abt_cell::{Answer, Request, Vc};
-use abt_entry_line::{Line, LineFault, read_line};
+use abt_entry::{Line, LineFault, read_line};
 use abt_journal::Entry;
 use abt_journal_text::{Book, Cause, read_text};
+use abt_model::SourceEntry;
 use abt_rate::Rate;
-use abt_source_journal::SourceEntry;
 use json::Scratch;
 use std::alloc::{AllocError, Global};
 use std::fmt::Debug;

@@ -6,9 +6,9 @@ use Rattle.abt_net.specs.Topology.{Topology}
 use Rattle.abt_net.specs.declared.fault.NetFault.{NetFault}
 use Rattle.abt_net.specs.declared.fault.NetFault.TheVariants as net
 use Rattle.abt_text.specs.Text.{Text}
-use Rattle.abt_members.specs.declared.fault.LineFault.{LineFault}
-use Rattle.abt_members.specs.declared.fault.LineFault.TheVariants as line
-use Rattle.abt_entry_line.specs.Lines.{SaysNone}
+use Rattle.abt_entry.specs.declared.fault.LineFault.{LineFault}
+use Rattle.abt_entry.specs.declared.fault.LineFault.TheVariants as line
+use Rattle.abt_entry.specs.Lines.{SaysNone}
 use Rattle.abt_journal_text.specs.Books.{Told}
 use Rattle.abt_journal_text.specs.Entering.{IsNoNet, IsOwn, RefusesLine}
 use Rattle.abt_journal_text.specs.declared.fault.Cause.{Cause}

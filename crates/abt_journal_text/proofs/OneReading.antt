@@ -4,10 +4,10 @@ use Rattle.std.specs.Prelude.{Some, Ok, Result, Option}
 use Rattle.json.specs.Json.{Json, document}
 use Rattle.abt_text.specs.Text.{Text}
 use Rattle.abt_text.specs.Words.{Lacks}
-use Rattle.abt_members.specs.declared.fault.LineFault.{LineFault}
-use Rattle.abt_entry_line.specs.Lines.{Says, line_in}
-use Rattle.abt_entry_line.specs.declared.line.Line as declared
-use Rattle.abt_entry_line.specs.declared.line.Line.TheVariants as line
+use Rattle.abt_entry.specs.declared.fault.LineFault.{LineFault}
+use Rattle.abt_entry.specs.Lines.{Says, line_in}
+use Rattle.abt_entry.specs.declared.line.Line as declared
+use Rattle.abt_entry.specs.declared.line.Line.TheVariants as line
 use Rattle.abt_journal_text.specs.Books.{Told}
 use Rattle.abt_journal_text.specs.Entering.{Takes, TakesLine}
 use Rattle.abt_journal_text.specs.Texts.{below, text_of, TakesAll, Reads}
@@ -28,6 +28,7 @@ takes_one : (spot : Spot) (told : Told) (said : declared.Line) (a b : Told) → 
 takes_one spot told (line.Net net) a b p q = p.2 ∙ sym q.2
 takes_one spot told (line.Port port entry) a b p q = p.3 ∙ sym q.3
 takes_one spot told (line.Source source entry) a b p q = p.2 ∙ sym q.2
+takes_one spot told (line.Open source entry) a b p q = p.2 ∙ sym q.2
 takes_one spot told line.End a b p q = p.1 ∙ sym q.1
 
 takes_line_one : (spot : Spot) (told : Told) (octets : Text) (a b : Told) → TakesLine spot told octets a → TakesLine spot told octets b → a ≡ b

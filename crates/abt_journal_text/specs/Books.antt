@@ -3,19 +3,21 @@ use Rattle.std.specs.Prelude.{◌≡◌, ℕ, Bool, true, false, List, [], ◌�
 use Rattle.std.specs.declared.alloc.Global.{Global}
 use Rattle.abt_net.specs.Topology.{Topology}
 use Rattle.abt_journal.specs.declared.entry.Entry.{Entry}
-use Rattle.abt_source_journal.specs.declared.entry.SourceEntry.{SourceEntry}
-use Rattle.abt_source_journal.specs.declared.journal.SourceJournal.{SourceJournal}
+use Rattle.abt_model.specs.declared.entry.SourceEntry.{SourceEntry}
+use Rattle.abt_model.specs.declared.journal.SourceJournal.{SourceJournal}
+use Rattle.abt_journal_text.specs.declared.open_write.OpenWrite.{OpenWrite}
 use Rattle.abt_journal_text.specs.declared.run.Run.{Run}
 use Rattle.abt_journal_text.specs.declared.spot.Spot.{Spot}
 
--- The net, the journals of its ports and of its sources by their numbers, where each of their entries stands, and whether the end of
--- the text was read.
+-- The net, the journals of its ports and of its sources by their numbers, where each of their entries stands, which entries leave open
+-- whether a write that failed was stored, in the order in which they were read, and whether the end of the text was read.
 pub record Told : Type 0 where
   pub net : Option Topology
   pub ports : List (List Entry)
   pub sources : List (List SourceEntry)
   pub port_spots : List (List Spot)
   pub source_spots : List (List Spot)
+  pub open_writes : List OpenWrite
   pub ended : Bool
 
 -- There is a journal for each port and each source of the net.
@@ -27,7 +29,7 @@ pub record IsSized (told : Told) : Type 0 where
 
 -- nothing was told, and no text was begun
 abbrev pub blank : Told
-blank = record { net = None; ports = []; sources = []; port_spots = []; source_spots = []; ended = true }
+blank = record { net = None; ports = []; sources = []; port_spots = []; source_spots = []; open_writes = []; ended = true }
 
 -- the next text is begun
 abbrev pub with_text : Told → Told
@@ -37,6 +39,7 @@ with_text told = record {
   sources = told.sources;
   port_spots = told.port_spots;
   source_spots = told.source_spots;
+  open_writes = told.open_writes;
   ended = false;
 }
 
@@ -52,6 +55,10 @@ appended_at lists n item = slice_set lists n (slice_index_or lists n [] ++ item 
 abbrev pub steps_at : Told → ℕ → List Entry
 steps_at told p = slice_index_or told.ports p []
 
+-- the entries of a source so far
+abbrev pub entries_at : Told → ℕ → List SourceEntry
+entries_at told c = slice_index_or told.sources c []
+
 -- the net, before any entry
 abbrev pub with_net : Topology → Told → Told
 with_net net told = record {
@@ -60,6 +67,7 @@ with_net net told = record {
   sources = replicate (length net.conns) [];
   port_spots = replicate (length net.capacities) [];
   source_spots = replicate (length net.conns) [];
+  open_writes = told.open_writes;
   ended = told.ended;
 }
 
@@ -71,6 +79,7 @@ with_step spot p entry told = record {
   sources = told.sources;
   port_spots = appended_at told.port_spots p spot;
   source_spots = told.source_spots;
+  open_writes = told.open_writes;
   ended = told.ended;
 }
 
@@ -82,6 +91,19 @@ with_entry spot c entry told = record {
   sources = appended_at told.sources c entry;
   port_spots = told.port_spots;
   source_spots = appended_at told.source_spots c spot;
+  open_writes = told.open_writes;
+  ended = told.ended;
+}
+
+-- the same, of one that leaves open whether a write that failed was stored
+abbrev pub with_open : Spot → ℕ → SourceEntry → Told → Told
+with_open spot c entry told = record {
+  net = told.net;
+  ports = told.ports;
+  sources = appended_at told.sources c entry;
+  port_spots = told.port_spots;
+  source_spots = appended_at told.source_spots c spot;
+  open_writes = told.open_writes ++ record { source = c; place = length (entries_at told c) } ∷ [];
   ended = told.ended;
 }
 
@@ -93,6 +115,7 @@ with_end told = record {
   sources = told.sources;
   port_spots = told.port_spots;
   source_spots = told.source_spots;
+  open_writes = told.open_writes;
   ended = true;
 }
 
@@ -107,6 +130,7 @@ pub record IsToldRun (told : Told) (run : Run) : Type 0 where
   pub sources : run.sources.items ≡ map journal_of told.sources
   pub port_spots : lists_of run.port_spots ≡ told.port_spots
   pub source_spots : lists_of run.source_spots ≡ told.source_spots
+  pub open_writes : run.open_writes.items ≡ told.open_writes
   pub port_count : length run.journals ≡ length run.net.capacities
   pub source_count : length run.sources.items ≡ length run.net.conns
 

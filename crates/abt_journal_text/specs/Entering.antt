@@ -5,15 +5,15 @@ use Rattle.abt_net.specs.Faults.{IsFirstFault}
 use Rattle.abt_net.specs.Topology.{Topology, IsWithinRules}
 use Rattle.abt_net.specs.declared.fault.NetFault.{NetFault}
 use Rattle.abt_text.specs.Text.{Text}
-use Rattle.abt_members.specs.declared.fault.LineFault.{LineFault}
-use Rattle.abt_members.specs.declared.fault.LineFault.TheVariants.{Utf8}
-use Rattle.abt_entry_line.specs.Lines.{Says, SaysNone}
-use Rattle.abt_entry_line.specs.declared.line.Line as declared
-use Rattle.abt_entry_line.specs.declared.line.Line.TheVariants as line
+use Rattle.abt_entry.specs.declared.fault.LineFault.{LineFault}
+use Rattle.abt_entry.specs.declared.fault.LineFault.TheVariants.{Utf8}
+use Rattle.abt_entry.specs.Lines.{Says, SaysNone}
+use Rattle.abt_entry.specs.declared.line.Line as declared
+use Rattle.abt_entry.specs.declared.line.Line.TheVariants as line
 use Rattle.abt_journal_text.specs.declared.spot.Spot.{Spot}
 use Rattle.abt_journal_text.specs.declared.fault.Cause.{Cause}
 use Rattle.abt_journal_text.specs.declared.fault.Cause.TheVariants as cause
-use Rattle.abt_journal_text.specs.Books.{Told, steps_at, with_net, with_step, with_entry, with_end}
+use Rattle.abt_journal_text.specs.Books.{Told, steps_at, with_net, with_step, with_entry, with_open, with_end}
 
 -- the net comes first, and once
 abbrev pub TakesNet : Told → Topology → Told → Type 0
@@ -28,6 +28,7 @@ Takes spot told (line.Net net) after = TakesNet told net after
 Takes spot told (line.Port p entry) after =
     (told.net ≢ None) × (p < length told.ports) × (entry.place ≡ length (steps_at told p)) × (after ≡ with_step spot p entry told)
 Takes spot told (line.Source c entry) after = (told.net ≢ None) × (c < length told.sources) × (after ≡ with_entry spot c entry told)
+Takes spot told (line.Open c entry) after = (told.net ≢ None) × (c < length told.sources) × (after ≡ with_open spot c entry told)
 Takes spot told line.End after = TakesEnd told after
 
 -- ports and connections aren't a net
@@ -42,6 +43,8 @@ Refuses told (line.Port p entry) cause.NoPort = (told.net ≢ None) × (length t
 Refuses told (line.Port p entry) cause.Place = (told.net ≢ None) × (p < length told.ports) × (entry.place ≢ length (steps_at told p))
 Refuses told (line.Source c entry) cause.NoNet = told.net ≡ None
 Refuses told (line.Source c entry) cause.NoSource = (told.net ≢ None) × (length told.sources ≤ c)
+Refuses told (line.Open c entry) cause.NoNet = told.net ≡ None
+Refuses told (line.Open c entry) cause.NoSource = (told.net ≢ None) × (length told.sources ≤ c)
 Refuses told line.End cause.NoNet = told.net ≡ None
 Refuses told some other = ⊥
 

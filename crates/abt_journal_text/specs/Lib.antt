@@ -1,3 +1,8 @@
+pub mod NetJson
+pub mod Lines
+pub mod Fits
+pub mod Tellable
+pub mod RoundTrip
 pub mod Books
 pub mod Entering
 pub mod OneReading

@@ -1,6 +1,6 @@
 -- What the texts of journals say (docs/JOURNALS.md, "Texts").
 use Rattle.std.specs.Prelude.{◌≡◌, ◌≢◌, ℕ, ◌+◌, ◌<◌, ◌≤◌, ◌⊎◌, true, false, List, [], ◌∷◌, length, take, Option, IfSome}
-use Rattle.abt_text.specs.Text.{Text, ◌⋅◌}
+use Rattle.abt_text.specs.Text.{Text, ◌⋅◌, line_feed}
 use Rattle.abt_text.specs.Words.{Lacks}
 use Rattle.abt_journal_text.specs.Books.{Told, with_text}
 use Rattle.abt_journal_text.specs.Entering.{TakesLine, RefusesLine}
@@ -8,9 +8,6 @@ use Rattle.abt_journal_text.specs.declared.spot.Spot.{Spot}
 use Rattle.abt_journal_text.specs.declared.fault.Cause.{Cause}
 use Rattle.abt_journal_text.specs.declared.fault.Cause.TheVariants as cause
 use Rattle.abt_journal_text.specs.declared.fault.TextFault.{TextFault}
-
-abbrev pub line_feed : ℕ
-line_feed = 10
 
 -- how many octets a line has at most, without its line feed
 abbrev pub line_max : ℕ

@@ -1,8 +1,9 @@
 //! The line that has begun.
 ghost use Rattle.std.specs.Prelude.{◌≡◌, ◌≢◌, ◌≤◌, ◌+◌, ◌⊎◌, [], ◌∷◌, ◌++◌, length, vec_len, OnOk, IfErr};
+ghost use Rattle.abt_text.specs.Text.{line_feed};
 ghost use Rattle.abt_text.specs.Words.{Lacks};
 ghost use Rattle.abt_journal_text.specs.Entering.{IsOwn};
-ghost use Rattle.abt_journal_text.specs.Texts.{below, line_feed, line_max, top};
+ghost use Rattle.abt_journal_text.specs.Texts.{below, line_max, top};
 ghost use Rattle.abt_journal_text.specs.declared.fault.Cause.TheVariants as cause;
 
 use crate::fault::Cause;
@@ -38,7 +39,9 @@ impl Begun {
         requires { octet ≢ line_feed }
         ensures ok { OnOk result (self.new.octets.items ≡ self.old.octets.items ++ octet ∷ []) }
         ensures spot { self.new.spot ≡ self.old.spot }
-        ensures err { IfErr result (λ why. (why ≡ cause.Memory) ⊎ ((why ≡ cause.TooLong) × (length self.old.octets.items ≡ line_max))) }
+        ensures err { IfErr result
+            (λ why. (why ≡ cause.Memory) ⊎
+            ((why ≡ cause.TooLong) × (length self.old.octets.items ≡ line_max))) }
     {
         if self.octets.len() == LINE_MAX {
             return Err(Cause::TooLong);

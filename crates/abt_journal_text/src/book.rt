@@ -1,26 +1,24 @@
 //! What texts have told so far.
 ghost use Rattle.std.specs.Prelude.{◌≡◌, ◌⊎◌, IfErr, OnOk};
-ghost use Rattle.abt_entry_line.specs.declared.line.Line.TheVariants as line;
+ghost use Rattle.abt_entry.specs.declared.line.Line.TheVariants as line;
 ghost use Rattle.abt_journal_text.specs.Books as books;
 ghost use Rattle.abt_journal_text.specs.Entering.{Takes, TakesNet, TakesEnd, Refuses, TakesLine, RefusesLine, IsOwn};
 
 use crate::entering::{cause_of_line, net_of};
 use crate::fault::Cause;
 use crate::lists::{empty_lists, push_at};
+use crate::open_write::OpenWrite;
 use crate::spot::Spot;
-use abt_entry_line::{Line, NetDraft, read_line};
-use abt_journal::{Entry, PortInput, PortReply};
-use abt_members::LineFault;
-use abt_model::{Event, Outcome};
+use abt_entry::{Line, LineFault, NetDraft, read_line};
+use abt_journal::{Entry, Journals, PortInput, PortReply};
+use abt_model::{Event, Outcome, SourceEntry};
 use abt_net::Net;
 use abt_node::{Back, Onward};
-use abt_ports::Journals;
-use abt_source_journal::SourceEntry;
 use json::Scratch;
 use std::alloc::Global;
 use std::marker::Model;
 
-/// The net and the journals that texts have told so far, and where each entry stands.
+/// The net and the journals that texts have told so far, where each entry stands, and what they leave open.
 #[derive(Debug, Drop)]
 pub struct Book {
     pub(crate) net: Option<Net>,
@@ -28,6 +26,7 @@ pub struct Book {
     pub(crate) sources: Vec<Vec<SourceEntry>>,
     pub(crate) port_spots: Vec<Vec<Spot>>,
     pub(crate) source_spots: Vec<Vec<Spot>>,
+    pub(crate) open_writes: Vec<OpenWrite>,
     // Whether the end of the text was read that was begun last.
     pub(crate) ended: bool,
 }
@@ -43,6 +42,7 @@ impl Model for Book {
       sources = lists_of b.sources;
       port_spots = lists_of b.port_spots;
       source_spots = lists_of b.source_spots;
+      open_writes = b.open_writes.items;
       ended = b.ended;
     } };
 
@@ -52,6 +52,7 @@ impl Model for Book {
       sources = lists_of b.sources;
       port_spots = lists_of b.port_spots;
       source_spots = lists_of b.source_spots;
+      open_writes = b.open_writes.items;
       ended = b.ended;
     }) };
 }
@@ -69,6 +70,7 @@ impl Book {
             sources: Vec::new(alloc),
             port_spots: Vec::new(alloc),
             source_spots: Vec::new(alloc),
+            open_writes: Vec::new(alloc),
             ended: true,
         }
     }
@@ -143,6 +145,27 @@ impl Book {
         Ok(())
     }
 
+    fn take_open(&mut self, spot: Spot, source: u16, said: SourceEntry) -> Result<(), Cause>
+        ensures ok { OnOk result (Takes spot self.old (line.Open source said) self.new) }
+        ensures err { IfErr result (λ why. IsOwn why ⊎ Refuses self.old (line.Open source said) why) }
+    {
+        if self.net.is_none() {
+            return Err(Cause::NoNet);
+        }
+        // Name types within an entry, without which the checker can't follow one.
+        let _ = Event::Crash { conn: source };
+        let _ = Outcome::Answered(Back::Pass);
+        let _ = Onward::Pass;
+        let Some(entries) = self.sources.get(usize::from(source)) else {
+            return Err(Cause::NoSource);
+        };
+        let place = entries.len() as u64;
+        self.open_writes.push(OpenWrite { source, place })?;
+        push_at(&mut self.sources, source, said)?;
+        push_at(&mut self.source_spots, source, spot)?;
+        Ok(())
+    }
+
     fn take_end(&mut self) -> Result<(), Cause>
         ensures ok { OnOk result (TakesEnd self.old self.new) }
         ensures err { IfErr result (λ why. Refuses self.old line.End why) }
@@ -163,6 +186,7 @@ impl Book {
             Line::Net(draft) => self.take_net(alloc, draft),
             Line::Port { port, entry } => self.take_step(spot, port, entry),
             Line::Source { source, entry } => self.take_entry(spot, source, entry),
+            Line::Open { source, entry } => self.take_open(spot, source, entry),
             Line::End => self.take_end(),
         }
     }

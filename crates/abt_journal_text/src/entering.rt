@@ -2,12 +2,11 @@
 ghost use Rattle.std.specs.Prelude.{◌≡◌, ◌≢◌, ◌⊎◌, IfOk, IfErr};
 ghost use Rattle.abt_journal_text.specs.Entering.{IsNoNet};
 ghost use Rattle.abt_journal_text.specs.declared.fault.Cause.TheVariants as cause;
-ghost use Rattle.abt_members.specs.declared.fault.LineFault.TheVariants as line_fault;
+ghost use Rattle.abt_entry.specs.declared.fault.LineFault.TheVariants as line_fault;
 ghost use Rattle.abt_net.specs.declared.fault.NetFault.TheVariants as net_fault;
 
 use crate::fault::Cause;
-use abt_entry_line::NetDraft;
-use abt_members::LineFault;
+use abt_entry::{LineFault, NetDraft};
 use abt_net::{Net, NetFault};
 use std::alloc::Global;
 
@@ -25,7 +24,8 @@ pub(crate) fn net_of(alloc: Global, draft: NetDraft) -> Result<Net, Cause>
 
 // What a fault of a net is to a text.
 fn cause_of_net(fault: NetFault) -> Cause
-    ensures { ((fault ≡ net_fault.Memory) × (result ≡ cause.Memory)) ⊎ ((fault ≢ net_fault.Memory) × (result ≡ cause.Net fault)) }
+    ensures { ((fault ≡ net_fault.Memory) × (result ≡ cause.Memory)) ⊎
+        ((fault ≢ net_fault.Memory) × (result ≡ cause.Net fault)) }
 {
     match fault {
         NetFault::Memory => Cause::Memory,
@@ -35,7 +35,8 @@ fn cause_of_net(fault: NetFault) -> Cause
 
 // What a fault of a line is to a text.
 pub(crate) fn cause_of_line(fault: LineFault) -> Cause
-    ensures { ((fault ≡ line_fault.Memory) × (result ≡ cause.Memory)) ⊎ ((fault ≢ line_fault.Memory) × (result ≡ cause.Line fault)) }
+    ensures { ((fault ≡ line_fault.Memory) × (result ≡ cause.Memory)) ⊎
+        ((fault ≢ line_fault.Memory) × (result ≡ cause.Line fault)) }
 {
     match fault {
         LineFault::Memory => Cause::Memory,

@@ -1,6 +1,6 @@
 //! Why texts are no journals.
 use crate::spot::Spot;
-use abt_members::LineFault;
+use abt_entry::LineFault;
 use abt_net::NetFault;
 use std::alloc::{AllocError, AllocFailed};
 use thiserror::Error;

@@ -1,19 +1,17 @@
 //! Texts of any reader, line by line.
-ghost use Rattle.std.specs.Prelude.{◌≡◌, ◌<◌, ◌≤◌, ◌⊎◌, [], ◌∷◌, ◌++◌, length, take, true, IfOk, IfErr, OnOk, OnErr};
-ghost use Rattle.std.specs.Io.KnownBytes.{Consumes, IsAtEnd, Keeps};
-ghost use Rattle.abt_text.specs.Text.{Text, ◌⋅◌};
+ghost use Rattle.std.specs.Prelude.{◌≡◌, ◌⊎◌, [], ◌∷◌, ◌++◌, true, IfErr, OnOk};
+ghost use Rattle.std.specs.Io.KnownBytes.{IsAtEnd};
+ghost use Rattle.abt_text.specs.Text.{Text, ◌⋅◌, line_feed};
 ghost use Rattle.abt_journal_text.specs.Entering.{TakesLine, RefusesLine, IsOwn};
-ghost use Rattle.abt_journal_text.specs.Texts.{below, line_feed, Fails, GoesOn, IsRead, IsUnread, Reads};
+ghost use Rattle.abt_journal_text.specs.Texts.{below, Fails, GoesOn, IsRead, IsUnread, Reads};
 
 use crate::begun::Begun;
 use crate::book::Book;
 use crate::fault::{Cause, TextFault};
+use abt_text::{Unread, read_some};
 use json::Scratch;
 use std::alloc::Global;
-use std::io::{ErrorKind, Read};
-
-// How often a read is tried that is interrupted each time.
-const TRIES: u32 = 4294967295;
+use std::io::Read;
 
 /// Reads the next text of journals, which has this number, into a book, from all that a reader has left.
 ///
@@ -29,7 +27,8 @@ pub fn read_text<R: Read>(
 ) -> Result<(), TextFault>
     ensures ok { OnOk result (IsRead number book.old book.new (R.remaining reader.old)) }
     ensures end { OnOk result (IsAtEnd (R.remaining reader.new)) }
-    ensures err { IfErr result (λ fault. IsOwn fault.cause ⊎ IsUnread number book.old fault (R.remaining reader.old)) }
+    ensures err { IfErr result
+        (λ fault. IsOwn fault.cause ⊎ IsUnread number book.old fault (R.remaining reader.old)) }
 {
     book.begin_text();
     let mut begun = Begun::new(alloc, number);
@@ -38,7 +37,7 @@ pub fn read_text<R: Read>(
     for _read in 0..u64::MAX {
         let count = match read_some(reader, &mut piece) {
             Ok(count) => count,
-            Err(cause) => return Err(fault_at(&begun, cause)),
+            Err(Unread) => return Err(fault_at(&begun, Cause::Read)),
         };
         if count == 0 {
             return end_text(book, &begun);
@@ -48,26 +47,6 @@ pub fn read_text<R: Read>(
         }
     }
     Err(fault_at(&begun, Cause::Endless))
-}
-
-// Reads the next octets, none only at the end.
-fn read_some<R: Read>(reader: &mut R, room: &mut [u8]) -> Result<usize, Cause>
-    requires { 0 < length room.old }
-    ensures within { IfOk result (λ count. count ≤ length room.new) }
-    ensures same_room { length room.new ≡ length room.old }
-    ensures ok { IfOk result (λ count. Consumes (R.remaining reader.old) (R.remaining reader.new) (take count room.new)) }
-    ensures end { IfOk result (λ count. count ≡ 0 → IsAtEnd (R.remaining reader.new)) }
-    ensures err { OnErr result (Keeps (R.remaining reader.old) (R.remaining reader.new)) }
-    ensures fault { IfErr result IsOwn }
-{
-    for _try in 0..TRIES {
-        match reader.read(room) {
-            Ok(count) => return Ok(count),
-            Err(error) if error.kind() == ErrorKind::Interrupted => {}
-            Err(_) => return Err(Cause::Read),
-        }
-    }
-    Err(Cause::Read)
 }
 
 // A fault of the line that has begun.

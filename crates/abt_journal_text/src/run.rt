@@ -3,14 +3,14 @@ ghost use Rattle.std.specs.Prelude.{◌≡◌, IfOk, map};
 ghost use Rattle.abt_journal_text.specs.Books.{IsToldRun, IsToldRunIfAny, journal_of, lists_of};
 
 use crate::book::Book;
+use crate::open_write::OpenWrite;
 use crate::spot::Spot;
-use abt_list::Sequence;
+use abt_journal::Journals;
+use abt_model::{Sequence, SourceEntry, SourceJournal};
 use abt_net::Net;
-use abt_ports::Journals;
-use abt_source_journal::{SourceEntry, SourceJournal};
 use std::alloc::{AllocError, Global};
 
-/// A net with the journals of its ports and sources, and where each of their entries stands.
+/// A net with the journals of its ports and sources, where each of their entries stands, and which of them leave something open.
 #[derive(Debug, Drop)]
 pub struct Run {
     /// The net.
@@ -23,6 +23,8 @@ pub struct Run {
     pub port_spots: Vec<Vec<Spot>>,
     /// Where the entries of each source stand.
     pub source_spots: Vec<Vec<Spot>>,
+    /// The entries of sources that leave open whether a write that failed was stored. Their plans are that it wasn't.
+    pub open_writes: Vec<OpenWrite>,
 }
 
 impl Book {
@@ -36,6 +38,7 @@ impl Book {
             sources,
             port_spots,
             source_spots,
+            open_writes,
             ended: _,
         } = self;
         let Some(net) = net else {
@@ -48,6 +51,7 @@ impl Book {
             sources,
             port_spots,
             source_spots,
+            open_writes,
         }))
     }
 }

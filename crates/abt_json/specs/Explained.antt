@@ -6,15 +6,15 @@ use Rattle.abt_model.specs.Past.{Past}
 use Rattle.abt_model.specs.declared.event.Event.{Event}
 use Rattle.abt_model.specs.declared.outcome.Outcome.{Outcome}
 use Rattle.abt_net.specs.Topology.{Topology}
-use Rattle.abt_report.specs.OutcomeText.{outcome_text}
+use Rattle.abt_format.specs.OutcomeText.{outcome_text}
 use Rattle.abt_text.specs.Text.{Text, ◌⋅◌}
-use Rattle.abt_trace.specs.declared.trace.Trace.{Trace}
-use Rattle.abt_trace.specs.Traces.{IsTrace}
-use Rattle.abt_wording.specs.EventText.{event_text}
+use Rattle.abt_model.specs.declared.trace.Trace.{Trace}
+use Rattle.abt_model.specs.Traces.{IsTrace}
+use Rattle.abt_format.specs.EventText.{event_text}
 use Rattle.abt_reason.specs.declared.grounds.Grounds.{Grounds}
 use Rattle.abt_reason.specs.Grounds.{grounds_of}
 use Rattle.abt_reason.specs.Reasons.{reason_text}
-use Rattle.abt_objects.specs.Members.{text_member, number_member, object_line}
+use Rattle.abt_entry.specs.ObjectMembers.{text_member, number_member, object_line}
 use Rattle.abt_json.specs.Objects.{outcome_members, end_objects}
 
 -- the line of the file in which an event's text stands, where it is known

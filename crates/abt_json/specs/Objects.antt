@@ -17,14 +17,14 @@ use Rattle.abt_node.specs.declared.reply.Onward.{Onward}
 use Rattle.abt_node.specs.declared.reply.Onward.TheVariants as onward
 use Rattle.abt_shaper.specs.declared.fault.ShapeFault.{ShapeFault}
 use Rattle.abt_shaper.specs.declared.fault.ShapeFault.TheVariants.{ClockBack, TimeRange, Zero, TooSoon}
-use Rattle.abt_grammar.specs.Values.{rate_of}
-use Rattle.abt_report.specs.Names.{cause_name, verdict_name, heard_name, start_fault_name, ask_fault_name, capacity_fault_name}
+use Rattle.abt_format.specs.Values.{rate_of}
+use Rattle.abt_format.specs.Names.{cause_name, verdict_name, heard_name, start_fault_name, ask_fault_name, capacity_fault_name}
 use Rattle.abt_text.specs.Text.{Text, ◌⋅◌, decimal, code_text}
-use Rattle.abt_trace.specs.declared.trace.Trace.{Trace}
+use Rattle.abt_model.specs.declared.trace.Trace.{Trace}
 use Rattle.abt_perform.specs.CellText.{message_of}
 use Rattle.abt_perform.specs.declared.fault.Fault.{Fault}
 use Rattle.abt_perform.specs.declared.fault.Fault.TheVariants.{Code}
-use Rattle.abt_objects.specs.Members.{text_member, number_member, rate_member, object_line}
+use Rattle.abt_entry.specs.ObjectMembers.{text_member, number_member, rate_member, object_line}
 
 -- the spacing of a rate's cells in picoseconds, of which the rate 0 has none
 abbrev pub spacing_token : ℕ → Token

@@ -4,8 +4,8 @@ use Rattle.std.specs.Io.KnownBytes.{Appends, Keeps}
 use Rattle.std.specs.declared.alloc.Global.{Global}
 use Rattle.abt_text.specs.Text.{Text}
 use Rattle.abt_text.specs.Streams.{AppendsPrefix, ConsumesAtMost, text_max}
-use Rattle.abt_trace.specs.Traces.{IsTrace}
-use Rattle.abt_trace.specs.declared.trace.Trace.{Trace}
+use Rattle.abt_model.specs.Traces.{IsTrace}
+use Rattle.abt_model.specs.declared.trace.Trace.{Trace}
 use Rattle.abt_scenario.specs.Scenarios.{Reads}
 use Rattle.abt_scenario.specs.Engine.{Explains}
 use Rattle.abt_scenario.specs.declared.scenario.Scenario as declared
@@ -14,8 +14,8 @@ use Rattle.abt_scenario.specs.declared.engine.EngineFault.TheVariants as engine
 use Rattle.abt_perform.specs.Names.{fault_line, fault_of_engine}
 use Rattle.abt_perform.specs.Plans.{EndsTextBy, Tells}
 use Rattle.abt_perform.specs.declared.fault.Fault.{Fault}
-use Rattle.abt_placed.specs.Placed.{IsPlacedIn}
-use Rattle.abt_placed.specs.declared.placed.Placed.{Placed}
+use Rattle.abt_places.specs.Placed.{IsPlacedIn}
+use Rattle.abt_places.specs.declared.placed.Placed.{Placed}
 use Rattle.abt_json.specs.Explained.{IsExplainedJson}
 use Rattle.abt_json.specs.Objects.{rate_json, cell_json, trace_objects}
 use Rattle.abt_json.specs.declared.plan.JsonPlan.{JsonPlan}

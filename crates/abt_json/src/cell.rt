@@ -2,11 +2,11 @@
 ghost use Rattle.std.specs.Prelude.{◌≡◌, ◌⊎◌, ◌++◌, Ok, Err, IfOk, IfErr, OnOk};
 ghost use Rattle.abt_cell.specs.Message.{Terms};
 ghost use Rattle.abt_perform.specs.declared.fault.Fault.TheVariants.{Memory};
-ghost use Rattle.abt_objects.specs.Members.{Adds};
+ghost use Rattle.abt_entry.specs.ObjectMembers.{Adds};
 ghost use Rattle.abt_json.specs.Objects.{cell_json, cell_object, message_name, channel_members, terms_members, rates_members, request_members};
 
 use abt_cell::{Request, Rm, Vc};
-use abt_objects::{begin, end, push_number, push_rate, push_text};
+use abt_entry::{begin, end, push_number, push_rate, push_text};
 use abt_perform::{Fault, message_of};
 use abt_rate::Rate;
 use json::Writer;

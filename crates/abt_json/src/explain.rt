@@ -1,17 +1,17 @@
 //! Explanations of runs, an object a line.
 ghost use Rattle.std.specs.Prelude.{◌≡◌, ◌++◌, IfOk, OnOk, slice_get};
-ghost use Rattle.abt_objects.specs.Members.{Adds};
+ghost use Rattle.abt_entry.specs.ObjectMembers.{Adds};
 ghost use Rattle.abt_json.specs.Explained as spec;
 
 use crate::outcome::push_outcome;
 use crate::report::push_end;
-use abt_list::Sequence;
+use abt_entry::{begin, end, push_number, push_text};
+use abt_format as report;
+use abt_format::push_event;
+use abt_model::Sequence;
 use abt_net::Net;
 use abt_node::Onward;
-use abt_objects::{begin, end, push_number, push_text};
 use abt_reason::{Grounds, grounds_of, push_reason};
-use abt_report as report;
-use abt_wording::push_event;
 use abt_world::{Event, Outcome, World};
 use json::Writer;
 use std::alloc::{AllocError, Global};
@@ -65,7 +65,8 @@ fn push_explained(
     outcome: &Outcome,
 ) -> Result<(), AllocError>
     ensures { OnOk result
-        (text.new.items ≡ text.old.items ++ spec.explained_object number line event.now grounds.now outcome.now) }
+        (text.new.items ≡ text.old.items ++
+        spec.explained_object number line event.now grounds.now outcome.now) }
 {
     let mut said = String::new(alloc);
     push_event(&mut said, event)?;

@@ -1,15 +1,15 @@
 //! What events answered, as members of an object.
 ghost use Rattle.std.specs.Prelude.{OnOk};
-ghost use Rattle.abt_objects.specs.Members.{Adds};
+ghost use Rattle.abt_entry.specs.ObjectMembers.{Adds};
 ghost use Rattle.abt_json.specs.Objects.{outcome_named, outcome_with, refused_members, shape_fault_members, dropped_members, onward_members, back_members, outcome_members};
 
 use crate::cell::push_request;
-use abt_model::Outcome;
-use abt_node::{Back, Onward};
-use abt_objects::{push_number, push_text};
-use abt_report::{
+use abt_entry::{push_number, push_text};
+use abt_format::{
     ask_fault_name, capacity_fault_name, cause_name, heard_name, start_fault_name, verdict_name,
 };
+use abt_model::Outcome;
+use abt_node::{Back, Onward};
 use abt_shaper::ShapeFault;
 use json::Writer;
 use std::alloc::{AllocError, Global};

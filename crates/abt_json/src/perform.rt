@@ -24,9 +24,11 @@ pub fn perform_json<R: Read, W: Write, E: Write>(
 ) -> u8
     ensures status { (result ≡ 0) ⊎ (result ≡ 1) }
     ensures reads { ReadsFor plan.now (R.remaining reader.old) (R.remaining reader.new) }
-    ensures ok { result ≡ 0 → Prints plan.now (R.remaining reader.old) (W.contents writer.old) (W.contents writer.new) }
+    ensures ok { result ≡ 0 →
+        Prints plan.now (R.remaining reader.old) (W.contents writer.old) (W.contents writer.new) }
     ensures quiet { result ≡ 0 → Keeps (E.contents errors.old) (E.contents errors.new) }
-    ensures err { result ≡ 1 → IsRefused plan.now (R.remaining reader.old) (W.contents writer.old) (W.contents writer.new)
+    ensures err { result ≡ 1 →
+        IsRefused plan.now (R.remaining reader.old) (W.contents writer.old) (W.contents writer.new)
         (E.contents errors.old) (E.contents errors.new) }
 {
     match print(alloc, plan, reader, writer) {
@@ -46,7 +48,8 @@ fn print<R: Read, W: Write>(
     writer: &mut W,
 ) -> Result<(), Fault>
     ensures reads { ReadsFor plan.now (R.remaining reader.old) (R.remaining reader.new) }
-    ensures ok { OnOk result (Prints plan.now (R.remaining reader.old) (W.contents writer.old) (W.contents writer.new)) }
+    ensures ok { OnOk result (Prints plan.now (R.remaining reader.old) (W.contents writer.old)
+        (W.contents writer.new)) }
     ensures err { IfErr result (λ fault.
         EndsBy fault plan.now (R.remaining reader.old) (W.contents writer.old) (W.contents writer.new)) }
 {
@@ -60,7 +63,8 @@ fn print<R: Read, W: Write>(
 
 // Writes a text, if there is one.
 fn put_text<W: Write>(text: Result<Vec<u8>, Fault>, writer: &mut W) -> Result<(), Fault>
-    ensures ok { OnOk result (IsOkAnd (text_seen text) (Appends (W.contents writer.old) (W.contents writer.new))) }
+    ensures ok { OnOk result (IsOkAnd (text_seen text)
+        (Appends (W.contents writer.old) (W.contents writer.new))) }
     ensures err { IfErr result (λ fault.
         EndsTextBy fault (text_seen text) (W.contents writer.old) (W.contents writer.new)) }
 {

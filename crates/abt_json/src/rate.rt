@@ -3,8 +3,8 @@ ghost use Rattle.std.specs.Prelude.{◌≡◌, ◌⊎◌, ◌++◌, Ok, IfOk, If
 ghost use Rattle.abt_perform.specs.declared.fault.Fault.TheVariants.{Memory};
 ghost use Rattle.abt_json.specs.Objects.{rate_json, rate_object};
 
-use abt_grammar::rate_of;
-use abt_objects::{begin, end, push_number, push_rate};
+use abt_entry::{begin, end, push_number, push_rate};
+use abt_format::rate_of;
 use abt_perform::Fault;
 use abt_rate::Rate;
 use std::alloc::{AllocError, Global};

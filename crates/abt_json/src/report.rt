@@ -1,14 +1,12 @@
 //! The reports of traces, an object a line.
 ghost use Rattle.std.specs.Prelude.{◌≡◌, ◌++◌, IfOk, OnOk};
-ghost use Rattle.abt_objects.specs.Members.{Adds};
+ghost use Rattle.abt_entry.specs.ObjectMembers.{Adds};
 ghost use Rattle.abt_json.specs.Objects.{trace_objects, end_objects, outcome_object, outcome_objects, conn_object, conn_objects, held_member, rate_strings, port_object, port_objects, safe_object};
 
 use crate::outcome::push_outcome;
-use abt_list::Sequence;
-use abt_model::Outcome;
-use abt_objects::{begin, end, push_code, push_number, push_rate};
+use abt_entry::{begin, end, push_code, push_number, push_rate};
+use abt_model::{Outcome, Sequence, Trace};
 use abt_rate::Rate;
-use abt_trace::Trace;
 use json::Writer;
 use std::alloc::{AllocError, Global};
 

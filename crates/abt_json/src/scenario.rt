@@ -8,10 +8,9 @@ ghost use Rattle.abt_json.specs.Printed.{IsRunJson, IsReportOf, IsExplanationOf,
 use crate::explain::explanation_json;
 use crate::plan::Telling;
 use crate::report::report_json;
-use abt_placed::{Placed, read_placed};
-use abt_scenario::{EngineFault, Scenario, read_from};
+use abt_places::{Placed, read_placed};
+use abt_scenario::{EngineFault, Scenario, read_from, trace_of};
 use abt_text::put;
-use abt_world::run;
 use std::alloc::{AllocError, Global};
 use std::io::{Read, Write};
 
@@ -23,7 +22,8 @@ pub fn scenario_json<R: Read, W: Write>(
     reader: &mut R,
     writer: &mut W,
 ) -> Result<(), EngineFault>
-    ensures ok { OnOk result (Reports telling (R.remaining reader.old) (W.contents writer.old) (W.contents writer.new)) }
+    ensures ok { OnOk result (Reports telling (R.remaining reader.old) (W.contents writer.old)
+        (W.contents writer.new)) }
     ensures err { IfErr result (λ fault. Leaves fault telling (R.remaining reader.old)
         (W.contents writer.old) (W.contents writer.new)) }
     ensures stops { ConsumesAtMost (R.remaining reader.old) (R.remaining reader.new) (text_max + 1) }
@@ -84,21 +84,15 @@ fn explanation_from<R: Read>(alloc: Global, reader: &mut R) -> Result<Vec<u8>, E
 fn json_of_run(alloc: Global, scenario: Scenario) -> Result<Vec<u8>, AllocError>
     ensures { IfOk result (λ text. IsRunJson scenario text.items) }
 {
-    let Scenario {
-        net,
-        events,
-        scripts: _,
-        operator: _,
-    } = scenario;
-    let trace = run(alloc, &net, events.as_slice())?;
-    // The trace says it all: a long list of events isn't kept beside the report.
-    drop(events);
+    let trace = trace_of(alloc, scenario)?;
     report_json(alloc, &trace)
 }
 
 // The explanation of a scenario's run, with the lines of its events.
 fn explanation_in(alloc: Global, placed: &Placed) -> Result<Vec<u8>, AllocError>
-    ensures { IfOk result (λ text. IsExplainedJson placed.now.scenario.net placed.now.lines.items placed.now.scenario.events text.items) }
+    ensures { IfOk result
+        (λ text. IsExplainedJson placed.now.scenario.net placed.now.lines.items placed.now.scenario.events
+        text.items) }
 {
     let scenario = &placed.scenario;
     explanation_json(

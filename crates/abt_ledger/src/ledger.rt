@@ -47,7 +47,8 @@ impl Ledger {
     /// Gives the link another capacity, in units, of which no less can be than is held. What is held stays.
     pub fn set_capacity(&mut self, capacity: u64) -> Result<(), CapacityFault>
         ensures value { result ≡ capacity_answer (capacity_fault self.old.total capacity) }
-        ensures capacity { self.new.capacity ≡ capacity_after self.old.capacity capacity (capacity_fault self.old.total capacity) }
+        ensures capacity { self.new.capacity ≡
+            capacity_after self.old.capacity capacity (capacity_fault self.old.total capacity) }
         ensures below_sum { IsErrOf result CapacityFault.BelowSum ↔ (capacity < self.old.total) }
         ensures above_limit { IsErrOf result CapacityFault.AboveLimit
             ↔ ((self.old.total ≤ capacity) × (capacity_max < capacity)) }

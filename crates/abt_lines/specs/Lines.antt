@@ -1,15 +1,12 @@
 -- The lines of a stream of octets (docs/FORMATS.md, "Parts by hand").
 use Rattle.std.specs.Prelude.{ℕ, ◌==◌, nat_lt, if◌then◌else◌, List, [], ◌∷◌, length, map, Option, Some, None}
 use Rattle.std.specs.Io.BufRead.{strip_last}
-use Rattle.abt_text.specs.Text.{Text}
+use Rattle.abt_text.specs.Text.{Text, line_feed}
 use Rattle.abt_text.specs.Words.{with_octet}
 
 -- how many octets of a line are read at most
 abbrev pub line_max : ℕ
 line_max = 4096
-
-abbrev pub line_feed : ℕ
-line_feed = 10
 
 abbrev pub carriage_return : ℕ
 carriage_return = 13

@@ -1,9 +1,9 @@
 //! The line that has begun.
 ghost use Rattle.std.specs.Prelude.{◌≡◌, ◌≢◌, ◌≤◌, ◌+◌, [], ◌∷◌, vec_len, OnOk};
 ghost use Rattle.std.specs.Option.{option_map};
-ghost use Rattle.abt_text.specs.Text.{Text, ◌⋅◌};
+ghost use Rattle.abt_text.specs.Text.{Text, ◌⋅◌, line_feed};
 ghost use Rattle.abt_text.specs.Words.{Lacks};
-ghost use Rattle.abt_lines.specs.Lines.{line_feed, line_max, seen_lines, seen_of};
+ghost use Rattle.abt_lines.specs.Lines.{line_max, seen_lines, seen_of};
 
 use std::alloc::{AllocError, Global};
 

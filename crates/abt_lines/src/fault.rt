@@ -1,4 +1,5 @@
 //! Why lines aren't all answered.
+use abt_text::Unread;
 use std::alloc::AllocError;
 use thiserror::Error;
 
@@ -17,6 +18,17 @@ pub enum LinesFault {
     /// No memory was found.
     #[error("out of memory")]
     Memory,
+}
+
+impl From<Unread> for LinesFault {
+    ghost use Rattle.std.specs.Prelude.{◌≡◌};
+    ghost use Rattle.abt_lines.specs.declared.fault.LinesFault.TheVariants.{Read};
+
+    ghost from_gives = { λ _ fault. fault ≡ Read };
+
+    fn from(_: Unread) -> LinesFault {
+        LinesFault::Read
+    }
 }
 
 impl From<AllocError> for LinesFault {

@@ -3,7 +3,6 @@
 
 mod begun;
 mod fault;
-mod reading;
 mod server;
 mod serving;
 

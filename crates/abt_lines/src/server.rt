@@ -19,12 +19,15 @@ pub trait LineServer {
         line: Option<&[u8]>,
         text: &mut String,
     ) -> Result<(), AllocError>
-        ensures ok { OnOk result ((more : List (Option Text)) → string_bytes text.new ⋅ answers self.new (number + 1) more
-            ≡ string_bytes text.old ⋅ answers self.old number (option_map (λ line. line.now) line.entry ∷ more)) }
+        ensures ok { OnOk result ((more : List (Option Text)) →
+            string_bytes text.new ⋅ answers self.new (number + 1) more
+            ≡ string_bytes text.old ⋅ answers self.old number
+            (option_map (λ line. line.now) line.entry ∷ more)) }
         ensures err { OnErr result (string_bytes text.new ≡ string_bytes text.old) };
 
     /// Adds what is said behind the last line to a text, where the next one would have this number.
     fn end(&self, alloc: Global, number: u64, text: &mut String) -> Result<(), AllocError>
-        ensures ok { OnOk result (string_bytes text.new ≡ string_bytes text.old ⋅ answers self.now number []) }
+        ensures ok { OnOk result (string_bytes text.new ≡
+            string_bytes text.old ⋅ answers self.now number []) }
         ensures err { OnErr result (string_bytes text.new ≡ string_bytes text.old) };
 }

@@ -7,9 +7,8 @@ ghost use Rattle.abt_lines.specs.Served.{AppendsFront, Begins, IsServed, IsServe
 
 use crate::begun::{Begun, seen_of};
 use crate::fault::LinesFault;
-use crate::reading::read_some;
 use crate::server::LineServer;
-use abt_text::put;
+use abt_text::{put, read_some};
 use std::alloc::Global;
 use std::io::{Read, Write};
 
@@ -52,8 +51,10 @@ fn write_out<W: Write>(
     made: Result<(), LinesFault>,
 ) -> Result<(), LinesFault>
     ensures made { OnOk result (IsOk made) }
-    ensures ok { OnOk result (Appends (W.contents writer.old) (W.contents writer.new) (string_bytes text.now)) }
-    ensures err { OnErr result (AppendsFront (W.contents writer.old) (W.contents writer.new) (string_bytes text.now)) }
+    ensures ok { OnOk result (Appends (W.contents writer.old) (W.contents writer.new)
+        (string_bytes text.now)) }
+    ensures err { OnErr result (AppendsFront (W.contents writer.old) (W.contents writer.new)
+        (string_bytes text.now)) }
 {
     if put(writer, text.as_bytes()).is_err() {
         return Err(LinesFault::Write);
@@ -70,7 +71,8 @@ fn feed<S: LineServer>(
     text: &mut String,
 ) -> Result<(), LinesFault>
     ensures ok { OnOk result ((rest : Text) →
-        string_bytes text.new ⋅ S.answers server.new begun.new.number (seen_lines (begun.new.octets.items ⋅ rest))
+        string_bytes text.new ⋅ S.answers server.new begun.new.number
+        (seen_lines (begun.new.octets.items ⋅ rest))
         ≡ S.answers server.old begun.old.number (seen_lines (begun.old.octets.items ⋅ piece.now ⋅ rest))) }
     ensures front { (rest : Text) → Begins (string_bytes text.new)
         (S.answers server.old begun.old.number (seen_lines (begun.old.octets.items ⋅ piece.now ⋅ rest))) }
@@ -92,8 +94,10 @@ fn take<S: LineServer>(
     text: &mut String,
 ) -> Result<(), LinesFault>
     ensures ok { OnOk result ((rest : Text) →
-        string_bytes text.new ⋅ S.answers server.new begun.new.number (seen_lines (begun.new.octets.items ⋅ rest))
-        ≡ string_bytes text.old ⋅ S.answers server.old begun.old.number (seen_lines (begun.old.octets.items ⋅ octet ∷ rest))) }
+        string_bytes text.new ⋅ S.answers server.new begun.new.number
+        (seen_lines (begun.new.octets.items ⋅ rest))
+        ≡ string_bytes text.old ⋅ S.answers server.old begun.old.number
+        (seen_lines (begun.old.octets.items ⋅ octet ∷ rest))) }
     ensures err { OnErr result (string_bytes text.new ≡ string_bytes text.old) }
 {
     if octet != b'\n' {
@@ -113,7 +117,8 @@ fn answer<S: LineServer>(
     ensures next { OnOk result (begun.new.octets.items ≡ []) }
     ensures ok { OnOk result ((more : List (Option Text)) →
         string_bytes text.new ⋅ S.answers server.new begun.new.number more
-        ≡ string_bytes text.old ⋅ S.answers server.old begun.old.number (seen_of begun.old.octets.items ∷ more)) }
+        ≡ string_bytes text.old ⋅ S.answers server.old begun.old.number
+        (seen_of begun.old.octets.items ∷ more)) }
     ensures err { OnErr result (string_bytes text.new ≡ string_bytes text.old) }
 {
     let Some(next) = begun.number.checked_add(1) else {

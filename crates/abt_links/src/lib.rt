@@ -1,12 +1,50 @@
-//! The public face of scripts, of ports under locks, of the workers at them, and of what is gathered of a run.
+//! Ports under locks, and all that waits: links, sources at work, the operator, and runs of a net in threads.
 #![tactic(auto)]
 
-pub use abt_access::access_worker;
-pub use abt_follow::{Next, follow};
-pub use abt_journal::{Entry, PortInput, PortReply, PortState, Receipt, Seat, ServeFault};
-pub use abt_operator::operator_worker;
-pub use abt_ports::{Gate, GatherFault, Journals, OpenGate, PortCell, gather};
-pub use abt_relay::{AnswerBox, Parcel, ThreadPlan, link_worker};
-pub use abt_script::{Command, Operation, Script};
-pub use abt_source_journal::{SourceEntry, SourceJournal};
-pub use abt_threads::{Gathered, RunFault, run_threads};
+mod access;
+mod access_line;
+mod boxes;
+mod count;
+mod delivery;
+mod emission;
+mod fault;
+mod gate;
+mod gathered;
+mod handles;
+mod join;
+mod link;
+mod listening;
+mod opening;
+mod operator;
+mod parcel;
+mod plan;
+mod port_cell;
+mod ports;
+mod promises;
+mod request;
+mod router;
+mod run;
+mod scripts;
+mod source_worker;
+mod start;
+mod stop;
+mod worker_results;
+mod workers;
+
+pub use abt_journal::{
+    Entry, GatherFault, Journals, Next, PortInput, PortReply, PortState, Receipt, Seat, ServeFault,
+    follow, gather,
+};
+pub use abt_model::{Command, Operation, Script, SourceEntry, SourceJournal};
+pub use access::access_worker;
+pub use fault::RunFault;
+pub use gate::{Gate, OpenGate};
+pub use gathered::Gathered;
+pub use link::link_worker;
+pub use operator::operator_worker;
+pub use parcel::{AnswerBox, Parcel};
+pub use plan::ThreadPlan;
+pub use port_cell::PortCell;
+pub use ports::are_for_ports;
+pub use router::Router;
+pub use run::run_threads;

@@ -1,3 +1,4 @@
+pub mod Traces
 pub mod Events
 pub mod Targets
 pub mod Commands

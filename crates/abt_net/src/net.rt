@@ -40,7 +40,8 @@ impl Net {
     /// connections. Faults are looked for in the order of [`NetFault`], and each at the lowest
     /// connection. Want of memory comes last: the others are found without it too.
     pub fn build(alloc: Global, capacities: Vec<u64>, conns: Vec<Conn>) -> Result<Net, NetFault>
-        ensures value { IfOk result (λ net. net ≡ record { capacities = capacities.items; conns = conns.items }) }
+        ensures value { IfOk result
+            (λ net. net ≡ record { capacities = capacities.items; conns = conns.items }) }
 
         // A net within the rules, and no other, is Ok, or else memory was refused.
         ensures ok { (IsOk result ⊎ IsErrOf result NetFault.Memory)

@@ -1,24 +1,18 @@
 -- Cells on lines are answered as those that are words.
-use Rattle.std.proofs.Common.{◌≡◌, ◌∙◌, ◌+◌, ℕ, ◌++◌, List, [], ◌∷◌, map, refl, sym, ap, append_assoc}
-use Rattle.std.specs.Prelude.{Some, Result, Ok, Err, codes}
-use Rattle.abt_cell.specs.Codec.{request_of}
+use Rattle.std.proofs.Common.{◌≡◌, ◌+◌, ℕ, ◌++◌, List, [], ◌∷◌, map, refl, sym, ap}
+use Rattle.std.specs.Prelude.{Some, Result, Ok, Err}
 use Rattle.abt_cell.specs.declared.message.Rm.{Rm}
 use Rattle.abt_node.specs.Table.{Table}
 use Rattle.abt_text.specs.Text.{newline}
-use Rattle.abt_perform.specs.CellText.{cell_line, cell_text, cell_text_of, kind_text, message_of, terms_text}
+use Rattle.abt_perform.specs.CellText.{cell_text, cell_text_of, message_of}
 use Rattle.abt_perform.specs.PortText.{fault_text, line_of, lines_from, table_past}
 use Rattle.abt_perform.specs.declared.fault.Fault.{Fault}
-use Rattle.abt_parts.specs.Cells.{read_text, said_text, served_lines}
+use Rattle.abt_parts.specs.Cells.{read_text, served_lines}
 
 pub served_as : (table : Table) (number : ℕ) (cells : List (List ℕ)) → served_lines table number (map Some cells) ≡ lines_from table number cells
 served_as table number [] = refl
 served_as table number (cell ∷ cells) =
     ap (λ more. line_of table number cell ++ more) (served_as (table_past table (message_of cell)) (number + 1) cells)
-
-said_line : (rm : Rm) → cell_line rm ≡ said_text rm ++ newline
-said_line rm =
-    ap (λ more. kind_text rm ++ more) (sym (append_assoc (codes " ") (terms_text (request_of rm)) newline))
-    ∙ sym (append_assoc (kind_text rm) (codes " " ++ terms_text (request_of rm)) newline)
 
 abbrev err_of : {T E : Type 0} → E → Result T E → E
 err_of other (Ok x) = other
@@ -29,7 +23,7 @@ ok_of other (Ok x) = x
 ok_of other (Err e) = other
 
 read_as : (message : Result Rm Fault) (text : List ℕ) → cell_text_of message ≡ Ok text → text ≡ read_text message ++ newline
-read_as (Ok rm) text is = sym (ap (ok_of []) is) ∙ said_line rm
+read_as (Ok rm) text is = sym (ap (ok_of []) is)
 read_as (Err found) text is = absurd (cc is)
 
 refused_as : (message : Result Rm Fault) (fault : Fault) → cell_text_of message ≡ Err fault → read_text message ≡ fault_text fault

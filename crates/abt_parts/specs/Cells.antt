@@ -1,10 +1,9 @@
 -- Cells that are handed over line by line, to be read or to be served at a port (docs/FORMATS.md, "Parts by hand").
 use Rattle.std.specs.Prelude.{ℕ, List, [], Option, Some, None, Result, Ok, Err, codes}
-use Rattle.abt_cell.specs.Codec.{request_of}
 use Rattle.abt_cell.specs.declared.message.Rm.{Rm}
 use Rattle.abt_node.specs.Table.{Table, sum_of}
 use Rattle.abt_text.specs.Text.{Text, ◌⋅◌, newline, decimal}
-use Rattle.abt_perform.specs.CellText.{kind_text, message_of, terms_text}
+use Rattle.abt_perform.specs.CellText.{message_of, message_text}
 use Rattle.abt_perform.specs.PortText.{answer_text, fault_text, table_past}
 use Rattle.abt_perform.specs.declared.fault.Fault.{Fault}
 use Rattle.abt_perform.specs.declared.fault.Fault.TheVariants as fault
@@ -15,13 +14,9 @@ abbrev pub message_on : Option Text → Result Rm Fault
 message_on (Some line) = message_of line
 message_on None = Err fault.TooLong
 
--- what a request or an answer says
-abbrev pub said_text : Rm → Text
-said_text rm = kind_text rm ⋅ codes " " ⋅ terms_text (request_of rm)
-
--- the same, or the fault of the cell
+-- what the request or the answer of a cell says, or the fault of the cell
 abbrev pub read_text : Result Rm Fault → Text
-read_text (Ok rm) = said_text rm
+read_text (Ok rm) = message_text rm
 read_text (Err found) = fault_text found
 
 -- the answers to some lines that are read, the first of this number; nothing is kept, and nothing is said behind the last

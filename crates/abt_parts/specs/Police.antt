@@ -2,16 +2,11 @@
 use Rattle.std.specs.Prelude.{ℕ, ◌-◌, nat_lt, if◌then◌else◌, List, [], Option, Some, None, codes}
 use Rattle.abt_rate.specs.Limits.{arrive_max}
 use Rattle.abt_gcra.specs.declared.verdict.Verdict.{Verdict}
-use Rattle.abt_gcra.specs.declared.verdict.Verdict.TheVariants.{Conforming, TooEarly, NoRate}
 use Rattle.abt_gcra.specs.Policing.{Policing, due_at, policed}
 use Rattle.abt_text.specs.Text.{Text, ◌⋅◌, decimal}
+use Rattle.abt_format.specs.Names.{verdict_name}
 use Rattle.abt_parts.specs.declared.fault.LineFault.TheVariants.{ClockBack, TimeRange}
 use Rattle.abt_parts.specs.Lines.{answers_of, fault_text, moment_of, past_moment, to_moment}
-
-abbrev pub verdict_name : Verdict → Text
-verdict_name Conforming = codes "Conforming"
-verdict_name TooEarly = codes "TooEarly"
-verdict_name NoRate = codes "NoRate"
 
 -- a theoretical arrival time, which is absent until a cell was taken
 abbrev pub tat_text : Option ℕ → Text

@@ -1,18 +1,15 @@
 //! Cells on lines, and what they say.
 ghost use Rattle.std.specs.Prelude.{◌≡◌, ◌⊎◌, Ok, Err, IfOk, IfErr, string_bytes};
 ghost use Rattle.std.specs.Option.{option_map};
-ghost use Rattle.abt_cell.specs.Codec.{request_of};
-ghost use Rattle.abt_perform.specs.CellText.{message_of, rates_text, terms_text, vc_text};
+ghost use Rattle.abt_perform.specs.CellText.{message_of};
 ghost use Rattle.abt_perform.specs.PortText.{fault_text};
 ghost use Rattle.abt_perform.specs.declared.fault.Fault.TheVariants.{Memory};
-ghost use Rattle.abt_parts.specs.Cells.{message_on, read_text, said_text};
+ghost use Rattle.abt_parts.specs.Cells.{message_on, read_text};
 
 use crate::moment::push_numbered;
-use abt_cell::{Rm, Vc};
+use abt_cell::Rm;
 use abt_lines::LineServer;
-use abt_perform::{Fault, message_of};
-use abt_rate::Rate;
-use abt_text::HexCode;
+use abt_perform::{Fault, message_of, message_text};
 use std::alloc::{AllocError, Global};
 
 /// Cells, line by line: each is answered by what it says, or by its fault (docs/FORMATS.md, "Parts by hand").
@@ -46,7 +43,7 @@ fn read_text(alloc: Global, line: Option<&[u8]>) -> Result<String, AllocError>
         ≡ read_text (message_on (option_map (λ line. line.now) line.entry))) }
 {
     match message_on(alloc, line) {
-        Ok(rm) => said_text(alloc, &rm),
+        Ok(rm) => message_text(alloc, &rm),
         Err(Fault::Memory) => Err(AllocError),
         Err(fault) => fault_text(alloc, fault),
     }
@@ -80,59 +77,4 @@ pub(crate) fn fault_text(alloc: Global, fault: Fault) -> Result<String, AllocErr
     ensures { IfOk result (λ text. string_bytes text ≡ fault_text fault) }
 {
     format!(in alloc; "fault {fault}")
-}
-
-// What a request or an answer says.
-fn said_text(alloc: Global, rm: &Rm) -> Result<String, AllocError>
-    ensures { IfOk result (λ text. string_bytes text ≡ said_text rm.now) }
-{
-    let terms = message_terms(alloc, rm)?;
-    let kind = match rm {
-        Rm::Request(_) => "request",
-        Rm::Answer(answer) if answer.granted() => "answer yes",
-        Rm::Answer(_) => "answer no",
-    };
-    format!(in alloc; "{kind} {terms}")
-}
-
-// The terms of a request, or of the request that is answered.
-fn message_terms(alloc: Global, rm: &Rm) -> Result<String, AllocError>
-    ensures { IfOk result (λ text. string_bytes text ≡ terms_text (request_of rm.now)) }
-{
-    let request = rm.request();
-    terms_text(
-        alloc,
-        request.vc(),
-        request.seq(),
-        request.floor(),
-        request.ask(),
-    )
-}
-
-#[tactic(auto, unfolding(abt_perform::specs::CellText::terms_text))]
-fn terms_text(alloc: Global, vc: Vc, seq: u32, floor: Rate, ask: Rate) -> Result<String, AllocError>
-    ensures { IfOk result (λ text. string_bytes text
-        ≡ terms_text (record { vc = vc; seq = seq; floor = floor; ask = ask })) }
-{
-    let vc = vc_text(alloc, vc)?;
-    let rates = rates_text(alloc, floor, ask)?;
-    format!(in alloc; "{vc} seq {seq} {rates}")
-}
-
-#[tactic(auto, unfolding(abt_perform::specs::CellText::vc_text))]
-fn vc_text(alloc: Global, vc: Vc) -> Result<String, AllocError>
-    ensures { IfOk result (λ text. string_bytes text ≡ vc_text vc) }
-{
-    let vpi = vc.vpi();
-    let vci = vc.vci();
-    format!(in alloc; "vpi {vpi} vci {vci}")
-}
-
-#[tactic(auto, unfolding(abt_perform::specs::CellText::rates_text))]
-fn rates_text(alloc: Global, floor: Rate, ask: Rate) -> Result<String, AllocError>
-    ensures { IfOk result (λ text. string_bytes text ≡ rates_text floor ask) }
-{
-    let floor = HexCode(floor.code());
-    let ask = HexCode(ask.code());
-    format!(in alloc; "floor {floor} ask {ask}")
 }

@@ -11,6 +11,8 @@ ghost use Rattle.abt_parts.specs.Cells.{message_on, read_text, served_lines};
 pub fn lines_are_as_words()
     ensures port { (capacity : ℕ) (cells : List Text)
         → served_lines (new_table 0 capacity) 1 (map Some cells) ≡ port_text capacity cells }
-    ensures cell { (hex text : Text) → cell_text hex ≡ Ok text → text ≡ read_text (message_on (Some hex)) ⋅ newline }
-    ensures fault { (hex : Text) (fault : Fault) → cell_text hex ≡ Err fault → read_text (message_on (Some hex)) ≡ fault_text fault }
+    ensures cell { (hex text : Text) → cell_text hex ≡ Ok text →
+        text ≡ read_text (message_on (Some hex)) ⋅ newline }
+    ensures fault { (hex : Text) (fault : Fault) → cell_text hex ≡ Err fault →
+        read_text (message_on (Some hex)) ≡ fault_text fault }
 {}

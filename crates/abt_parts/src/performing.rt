@@ -31,9 +31,11 @@ pub fn perform_parts<R: Read, W: Write, E: Write>(
     requires { IsAllowedPlan plan.now }
     ensures status { (result ≡ 0) ⊎ (result ≡ 1) }
     ensures end { result ≡ 0 → IsAtEnd (R.remaining reader.new) }
-    ensures ok { result ≡ 0 → IsAnswered plan.now (R.remaining reader.old) (W.contents writer.old) (W.contents writer.new) }
+    ensures ok { result ≡ 0 →
+        IsAnswered plan.now (R.remaining reader.old) (W.contents writer.old) (W.contents writer.new) }
     ensures quiet { result ≡ 0 → Keeps (E.contents errors.old) (E.contents errors.new) }
-    ensures err { result ≡ 1 → IsRefused plan.now (R.remaining reader.old) (W.contents writer.old) (W.contents writer.new)
+    ensures err { result ≡ 1 →
+        IsRefused plan.now (R.remaining reader.old) (W.contents writer.old) (W.contents writer.new)
         (E.contents errors.old) (E.contents errors.new) }
 {
     match answer_lines(alloc, plan, reader, writer) {
@@ -55,7 +57,8 @@ fn answer_lines<R: Read, W: Write>(
 ) -> Result<(), LinesFault>
     requires { IsAllowedPlan plan.now }
     ensures end { OnOk result (IsAtEnd (R.remaining reader.new)) }
-    ensures ok { OnOk result (IsAnswered plan.now (R.remaining reader.old) (W.contents writer.old) (W.contents writer.new)) }
+    ensures ok { OnOk result (IsAnswered plan.now (R.remaining reader.old) (W.contents writer.old)
+        (W.contents writer.new)) }
     ensures err { OnErr result (IsServedPart (answers_to plan.now) (R.remaining reader.old)
         (W.contents writer.old) (W.contents writer.new)) }
 {

@@ -1,10 +1,11 @@
 //! A policer that is handed arrivals line by line.
 ghost use Rattle.std.specs.Prelude.{◌≡◌, IfOk, string_bytes};
 ghost use Rattle.std.specs.Option.{option_map};
-ghost use Rattle.abt_parts.specs.Police.{arrival_text, early_of, past_arrival, policed_past, policed_text, tat_text, verdict_name, verdict_text};
+ghost use Rattle.abt_parts.specs.Police.{arrival_text, early_of, past_arrival, policed_past, policed_text, tat_text, verdict_text};
 
 use crate::fault::{LineFault, fault_text};
 use crate::moment::{moment_of, push_numbered};
+use abt_format::verdict_name;
 use abt_gcra::{GcraFault, Policer, Verdict};
 use abt_lines::LineServer;
 use abt_rate::Rate;
@@ -107,15 +108,5 @@ fn tat_text(alloc: Global, tat: Option<u64>) -> Result<String, AllocError>
     match tat {
         Some(moment) => format!(in alloc; "{moment}"),
         None => String::from_str(alloc, "absent"),
-    }
-}
-
-fn verdict_name(verdict: Verdict) -> &'static str
-    ensures { result.now ≡ verdict_name verdict }
-{
-    match verdict {
-        Verdict::Conforming => "Conforming",
-        Verdict::TooEarly => "TooEarly",
-        Verdict::NoRate => "NoRate",
     }
 }

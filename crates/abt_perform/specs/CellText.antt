@@ -44,8 +44,12 @@ abbrev pub kind_text : Rm → Text
 kind_text (Request terms) = codes "request"
 kind_text (Answer reply) = if reply.granted then codes "answer yes" else codes "answer no"
 
+-- what a request or an answer says
+abbrev pub message_text : Rm → Text
+message_text rm = kind_text rm ⋅ codes " " ⋅ terms_text (request_of rm)
+
 abbrev pub cell_line : Rm → Text
-cell_line rm = kind_text rm ⋅ codes " " ⋅ terms_text (request_of rm) ⋅ newline
+cell_line rm = message_text rm ⋅ newline
 
 abbrev pub cell_text_of : Result Rm Fault → Result Text Fault
 cell_text_of (Ok rm) = Ok (cell_line rm)

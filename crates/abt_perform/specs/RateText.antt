@@ -3,7 +3,7 @@ use Rattle.std.specs.Prelude.{ℕ, Option, Some, None, Result, Ok, Err, codes, �
 use Rattle.abt_rate.specs.Rate.{spacing_of}
 use Rattle.abt_rate.specs.Code.{code_of}
 use Rattle.abt_text.specs.Text.{Text, ◌⋅◌, newline, decimal, code_text}
-use Rattle.abt_grammar.specs.Values.{rate_of}
+use Rattle.abt_format.specs.Values.{rate_of}
 use Rattle.abt_perform.specs.declared.fault.Fault.{Fault}
 use Rattle.abt_perform.specs.declared.fault.Fault.TheVariants.{Code}
 

@@ -1,7 +1,7 @@
 //! Cells as hexadecimal text, and the text of `abt cell`.
 ghost use Rattle.std.specs.Prelude.{◌≡◌, ◌⊎◌, Ok, Err, IfOk, IfErr, string_bytes};
 ghost use Rattle.abt_cell.specs.Codec.{request_of};
-ghost use Rattle.abt_perform.specs.CellText.{message_in, message_of, message_hex, vc_text, rates_text, terms_text, cell_line, cell_text};
+ghost use Rattle.abt_perform.specs.CellText.{message_in, message_of, message_hex, message_text, vc_text, rates_text, terms_text, cell_line, cell_text};
 ghost use Rattle.abt_perform.specs.declared.fault.Fault.TheVariants.{Memory};
 
 use crate::fault::Fault;
@@ -65,13 +65,22 @@ pub fn message_hex(alloc: Global, rm: &Rm) -> Result<String, AllocError>
 fn cell_line(alloc: Global, rm: &Rm) -> Result<String, AllocError>
     ensures { IfOk result (λ line. string_bytes line ≡ cell_line rm.now) }
 {
+    let mut line = message_text(alloc, rm)?;
+    line.push_str("\n")?;
+    Ok(line)
+}
+
+/// What a request or an answer says, without a line feed: which message it is, the connection, the number and the rate codes.
+pub fn message_text(alloc: Global, rm: &Rm) -> Result<String, AllocError>
+    ensures { IfOk result (λ text. string_bytes text ≡ message_text rm.now) }
+{
     let terms = message_terms(alloc, rm)?;
     let kind = match rm {
         Rm::Request(_) => "request",
         Rm::Answer(answer) if answer.granted() => "answer yes",
         Rm::Answer(_) => "answer no",
     };
-    format!(in alloc; "{kind} {terms}\n")
+    format!(in alloc; "{kind} {terms}")
 }
 
 // The terms of a request, or of the request that is answered.

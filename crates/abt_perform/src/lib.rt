@@ -11,8 +11,10 @@ mod port;
 mod rate;
 mod telling;
 
-pub use cell::{message_hex, message_of};
+pub use cell::{message_hex, message_of, message_text};
 pub use fault::Fault;
 pub use performing::perform;
 pub use plan::{Plan, WordsFault};
+pub use port::push_served;
+pub use rate::rate_line;
 pub use telling::{MEMORY_LINE, OPEN_LINE, WRITE_LINE, tell_fault, tell_text};

@@ -33,9 +33,11 @@ pub fn perform<R: Read, W: Write, E: Write>(
     requires kind { NeedsNoThreads plan.now }
     ensures status { (result ≡ 0) ⊎ (result ≡ 1) }
     ensures reads { ReadsFor plan.now (R.remaining reader.old) (R.remaining reader.new) }
-    ensures ok { result ≡ 0 → Prints plan.now (R.remaining reader.old) (W.contents writer.old) (W.contents writer.new) }
+    ensures ok { result ≡ 0 →
+        Prints plan.now (R.remaining reader.old) (W.contents writer.old) (W.contents writer.new) }
     ensures quiet { result ≡ 0 → Keeps (E.contents errors.old) (E.contents errors.new) }
-    ensures err { result ≡ 1 → IsRefused plan.now (R.remaining reader.old) (W.contents writer.old) (W.contents writer.new)
+    ensures err { result ≡ 1 →
+        IsRefused plan.now (R.remaining reader.old) (W.contents writer.old) (W.contents writer.new)
         (E.contents errors.old) (E.contents errors.new) }
 {
     match print(alloc, plan, reader, writer) {
@@ -57,7 +59,8 @@ fn print<R: Read, W: Write>(
     requires limits { IsWithinLimits plan.now }
     requires kind { NeedsNoThreads plan.now }
     ensures reads { ReadsFor plan.now (R.remaining reader.old) (R.remaining reader.new) }
-    ensures ok { OnOk result (Prints plan.now (R.remaining reader.old) (W.contents writer.old) (W.contents writer.new)) }
+    ensures ok { OnOk result (Prints plan.now (R.remaining reader.old) (W.contents writer.old)
+        (W.contents writer.new)) }
     ensures err { IfErr result (λ fault.
         EndsBy fault plan.now (R.remaining reader.old) (W.contents writer.old) (W.contents writer.new)) }
 {
@@ -75,7 +78,8 @@ fn print<R: Read, W: Write>(
 
 // Writes a text, if there is one.
 fn put_text<W: Write>(text: Result<String, Fault>, writer: &mut W) -> Result<(), Fault>
-    ensures ok { OnOk result (IsOkAnd (text_seen text) (Appends (W.contents writer.old) (W.contents writer.new))) }
+    ensures ok { OnOk result (IsOkAnd (text_seen text)
+        (Appends (W.contents writer.old) (W.contents writer.new))) }
     ensures err { IfErr result (λ fault.
         EndsTextBy fault (text_seen text) (W.contents writer.old) (W.contents writer.new)) }
 {
@@ -95,7 +99,8 @@ fn port_lines(alloc: Global, capacity: u64, cells: &[String]) -> Result<String, 
 // Writes the report of the scenario that the reader has.
 fn run<R: Read, W: Write>(alloc: Global, reader: &mut R, writer: &mut W) -> Result<(), Fault>
     ensures reads { ConsumesAtMost (R.remaining reader.old) (R.remaining reader.new) (text_max + 1) }
-    ensures ok { OnOk result (Reports (R.remaining reader.old) (W.contents writer.old) (W.contents writer.new)) }
+    ensures ok { OnOk result (Reports (R.remaining reader.old) (W.contents writer.old)
+        (W.contents writer.new)) }
     ensures err { IfErr result (λ fault.
         EndsRunBy fault (R.remaining reader.old) (W.contents writer.old) (W.contents writer.new)) }
 {

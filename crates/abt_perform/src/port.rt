@@ -54,8 +54,16 @@ fn push_line(
     text.push_str("\n")
 }
 
-// Adds what the port does with a message, whose connection it adds if it is new.
-fn push_served(alloc: Global, text: &mut String, port: &mut Port, rm: &Rm) -> Result<(), AllocError>
+/// Adds what a port does with a message, whose connection it adds if it is new.
+///
+/// # Errors
+/// Memory was refused for the connection, or for the text. The port may have served the message by then.
+pub fn push_served(
+    alloc: Global,
+    text: &mut String,
+    port: &mut Port,
+    rm: &Rm,
+) -> Result<(), AllocError>
     ensures text { OnOk result (string_bytes text.new
         ≡ string_bytes text.old ++ served_text (table_knowing port.old (request_of rm.now).vc) rm.now) }
     ensures table { OnOk result (port.new

@@ -5,7 +5,7 @@ ghost use Rattle.abt_perform.specs.RateText.{rate_line, rate_text};
 ghost use Rattle.abt_perform.specs.declared.fault.Fault.TheVariants.{Memory};
 
 use crate::fault::Fault;
-use abt_grammar::rate_of;
+use abt_format::rate_of;
 use abt_rate::Rate;
 use abt_text::HexCode;
 use std::alloc::{AllocError, Global};
@@ -21,7 +21,8 @@ pub fn rate_text(alloc: Global, code: &str) -> Result<String, Fault>
     }
 }
 
-fn rate_line(alloc: Global, rate: Rate) -> Result<String, AllocError>
+/// The line of `abt rate`: the canonical form of a rate's code, its units of 1/512 cell/s and its spacing in picoseconds.
+pub fn rate_line(alloc: Global, rate: Rate) -> Result<String, AllocError>
     ensures { IfOk result (λ line. string_bytes line ≡ rate_line rate) }
 {
     let code = HexCode(rate.code());

@@ -2,9 +2,9 @@
 use Rattle.std.proofs.Common.{◌≡◌, ℕ, suc, ◌+◌, List, [], ◌∷◌, length, refl, ap}
 use Rattle.abt_net.specs.declared.conn.Conn.{Conn}
 use Rattle.abt_journal.specs.declared.entry.Entry.{Entry}
-use Rattle.abt_script.specs.declared.command.Command.{Command}
-use Rattle.abt_source_journal.specs.declared.journal.SourceJournal.{SourceJournal}
-use Rattle.abt_threads.specs.Runs.{AreRunsFrom}
+use Rattle.abt_model.specs.declared.script_command.Command.{Command}
+use Rattle.abt_model.specs.declared.journal.SourceJournal.{SourceJournal}
+use Rattle.abt_links.specs.Runs.{AreRunsFrom}
 
 pub sources_count : (c : ℕ) (conns : List Conn) (scripts : List (List Command)) (journals : List (List Entry)) (sources : List SourceJournal)
     → AreRunsFrom c conns scripts journals sources → length sources ≡ length conns

@@ -1,10 +1,10 @@
 -- What a run's result says of workers and scripts.
 use Rattle.std.proofs.Common.{◌≡◌, ℕ, ◌↔◌, Result, Ok, Err, IsErrOf, refl}
 use Rattle.abt_scenario.specs.declared.scenario.Scenario.{Scenario}
-use Rattle.abt_threads.specs.Runs.{ScriptsFit}
-use Rattle.abt_operator.specs.Operations.{AreForPorts}
-use Rattle.abt_threads.specs.declared.fault.RunFault.{RunFault}
-use Rattle.abt_threads.specs.declared.fault.RunFault.TheVariants as run
+use Rattle.abt_links.specs.Runs.{ScriptsFit}
+use Rattle.abt_links.specs.Operations.{AreForPorts}
+use Rattle.abt_links.specs.declared.fault.RunFault.{RunFault}
+use Rattle.abt_links.specs.declared.fault.RunFault.TheVariants as run
 use Rattle.abt_perform.specs.declared.fault.Fault.TheVariants.{Code, Hex, Length, Rm, Full, Read, TooLong, NotUtf8, Scenario as Text, Workers, Scripts, Operator, Thread, Wound, Gather, NoOrder, Mismatch, Write, Memory}
 use Rattle.abt_perform_threads.specs.Faults.{fault_of_run}
 use Rattle.abt_rate.specs.Limits.{AreWorkers}

@@ -5,12 +5,12 @@ use Rattle.std.specs.Io.KnownBytes.{Appends}
 use Rattle.abt_text.specs.Streams.{AppendsPrefix}
 use Rattle.abt_net.specs.Topology.{Topology}
 use Rattle.abt_model.specs.declared.event.Event.{Event}
-use Rattle.abt_trace.specs.Traces.{IsTrace}
-use Rattle.abt_threads.specs.declared.gathered.Gathered.{Gathered}
-use Rattle.abt_woven.specs.Woven.{IsWoven}
+use Rattle.abt_model.specs.Traces.{IsTrace}
+use Rattle.abt_links.specs.declared.gathered.Gathered.{Gathered}
+use Rattle.abt_weave.specs.Woven.{IsWoven}
 use Rattle.abt_perform_threads.specs.Judging.{IsJudged, IsVerdict}
 use Rattle.abt_perform_threads.specs.Shown.{BreaksOff, ShowsAll, ShowsUntil, gathered_line, woven_line}
-use Rattle.abt_report.specs.Report.{safe_line}
+use Rattle.abt_format.specs.Report.{safe_line}
 use Rattle.abt_perform_threads.specs.declared.judging.Judged.{Judged}
 use Rattle.abt_perform_threads.specs.declared.ran.Ran.{Ran}
 use Rattle.abt_perform_threads.specs.declared.showing.ShowFault.TheVariants.{Trace, Write}

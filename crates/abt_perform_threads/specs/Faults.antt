@@ -1,8 +1,8 @@
 -- What the faults of a run, and of showing it, are to the program.
 use Rattle.abt_perform.specs.declared.fault.Fault.{Fault}
 use Rattle.abt_perform.specs.declared.fault.Fault.TheVariants.{Workers, Scripts, Operator, Thread, Wound, Gather, NoOrder, Mismatch, Write, Memory}
-use Rattle.abt_threads.specs.declared.fault.RunFault.{RunFault}
-use Rattle.abt_threads.specs.declared.fault.RunFault.TheVariants as run
+use Rattle.abt_links.specs.declared.fault.RunFault.{RunFault}
+use Rattle.abt_links.specs.declared.fault.RunFault.TheVariants as run
 use Rattle.abt_weave.specs.declared.fault.WeaveFault.{WeaveFault}
 use Rattle.abt_weave.specs.declared.fault.WeaveFault.TheVariants as weave
 use Rattle.abt_perform_threads.specs.declared.showing.ShowFault.{ShowFault}

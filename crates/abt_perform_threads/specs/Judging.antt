@@ -2,13 +2,13 @@
 use Rattle.std.specs.Prelude.{◌≡◌, true, List}
 use Rattle.abt_net.specs.Topology.{Topology}
 use Rattle.abt_model.specs.declared.event.Event.{Event}
-use Rattle.abt_trace.specs.Traces.{IsTrace}
-use Rattle.abt_threads.specs.declared.gathered.Gathered.{Gathered}
-use Rattle.abt_woven.specs.Stuck.{Journaled}
-use Rattle.abt_woven.specs.Woven.{IsWoven}
+use Rattle.abt_model.specs.Traces.{IsTrace}
+use Rattle.abt_links.specs.declared.gathered.Gathered.{Gathered}
+use Rattle.abt_weave.specs.Stuck.{RunJournals}
+use Rattle.abt_weave.specs.Woven.{IsWoven}
 use Rattle.abt_perform_threads.specs.declared.judging.Judged.{Judged}
 
-abbrev pub journals_of : Gathered → Journaled
+abbrev pub journals_of : Gathered → RunJournals
 journals_of run = record { ports = run.journals; sources = run.sources.items }
 
 -- These are the events, with their trace, which is safe.

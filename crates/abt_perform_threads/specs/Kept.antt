@@ -6,9 +6,9 @@ use Rattle.abt_scenario.specs.declared.scenario.Scenario as declared
 use Rattle.abt_perform.specs.Names.{fault_line}
 use Rattle.abt_perform.specs.Plans.{Tells}
 use Rattle.abt_perform.specs.declared.fault.Fault.TheVariants as program
-use Rattle.abt_journal_lines.specs.Lines.{Sends, Stops, journal_lines}
-use Rattle.abt_journal_lines.specs.declared.fault.WriteFault.{WriteFault}
-use Rattle.abt_journal_lines.specs.declared.fault.WriteFault.TheVariants as unwritten
+use Rattle.abt_journal_text.specs.Lines.{Sends, Stops, journal_lines}
+use Rattle.abt_journal_text.specs.declared.write_fault.WriteFault.{WriteFault}
+use Rattle.abt_journal_text.specs.declared.write_fault.WriteFault.TheVariants as unwritten
 use Rattle.abt_perform_threads.specs.Performing.{MayRun, EndsRunBy, IsShownUntil}
 use Rattle.abt_perform_threads.specs.Shown.{IsRanFrom, ShowsAll}
 use Rattle.abt_perform_threads.specs.declared.judging.Judged.{Judged}

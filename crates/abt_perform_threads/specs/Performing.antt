@@ -6,8 +6,8 @@ use Rattle.abt_scenario.specs.Engine.{Explains}
 use Rattle.abt_scenario.specs.Scenarios.{Reads}
 use Rattle.abt_scenario.specs.declared.engine.EngineFault.{EngineFault}
 use Rattle.abt_scenario.specs.declared.scenario.Scenario as declared
-use Rattle.abt_threads.specs.Runs.{ScriptsFit}
-use Rattle.abt_operator.specs.Operations.{AreForPorts}
+use Rattle.abt_links.specs.Runs.{ScriptsFit}
+use Rattle.abt_links.specs.Operations.{AreForPorts}
 use Rattle.abt_perform.specs.Names.{fault_line, fault_of_engine}
 use Rattle.abt_perform.specs.Plans.{Tells}
 use Rattle.abt_perform.specs.declared.plan.Plan.{Plan}

@@ -2,11 +2,11 @@
 use Rattle.std.specs.Prelude.{◌≡◌, ℕ, ◌<◌, ◌⊎◌, true, List, [], Option, length, take, codes}
 use Rattle.std.specs.Io.KnownBytes.{Appends}
 use Rattle.abt_text.specs.Text.{Text, ◌⋅◌, newline}
-use Rattle.abt_report.specs.Report.{safe_line}
+use Rattle.abt_format.specs.Report.{safe_line}
 use Rattle.abt_model.specs.declared.event.Event.{Event}
 use Rattle.abt_scenario.specs.declared.scenario.Scenario.{Scenario}
-use Rattle.abt_threads.specs.Runs.{IsRun}
-use Rattle.abt_woven.specs.Woven.{IsWoven}
+use Rattle.abt_links.specs.Runs.{IsRun}
+use Rattle.abt_weave.specs.Woven.{IsWoven}
 use Rattle.abt_weave.specs.Faults.{IsWeaveFault, SaysNoneIsWoven}
 use Rattle.abt_weave.specs.declared.fault.WeaveFault.{WeaveFault}
 use Rattle.abt_perform_threads.specs.Judging.{IsJudged, journals_of}

@@ -3,8 +3,8 @@ ghost use Rattle.std.specs.Prelude.{◌≡◌};
 ghost use Rattle.abt_perform_threads.specs.Faults as named;
 
 use crate::showing::ShowFault;
+use abt_links::RunFault;
 use abt_perform::Fault;
-use abt_threads::RunFault;
 use abt_weave::WeaveFault;
 
 pub(crate) fn fault_of_run(fault: RunFault) -> Fault

@@ -3,11 +3,9 @@ ghost use Rattle.std.specs.Prelude.{◌≡◌, length, IfOk, IfErr};
 ghost use Rattle.abt_weave.specs.Faults.{IsWeaveFault, SaysNoneIsWoven};
 ghost use Rattle.abt_perform_threads.specs.Judging.{IsJudged, IsVerdict, journals_of};
 
-use abt_list::Sequence;
-use abt_model::Event;
+use abt_links::Gathered;
+use abt_model::{Event, Sequence, Trace};
 use abt_net::Net;
-use abt_threads::Gathered;
-use abt_trace::Trace;
 use abt_weave::{WeaveFault, weave};
 use abt_world::run;
 use std::alloc::{AllocError, Global};

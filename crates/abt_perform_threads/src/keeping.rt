@@ -1,16 +1,16 @@
 //! A run whose journals are kept: written as a text.
 ghost use Rattle.std.specs.Prelude.{◌≡◌, ◌⊎◌, length, IfErr, OnOk};
 ghost use Rattle.std.specs.Io.KnownBytes.{Keeps};
-ghost use Rattle.abt_journal_lines.specs.Lines.{Writes};
+ghost use Rattle.abt_journal_text.specs.Lines.{Writes};
 ghost use Rattle.abt_perform.specs.Plans.{Tells};
 ghost use Rattle.abt_perform_threads.specs.Kept.{EndsKeepingBy, IsKept, IsUnkept, keep_line, lines_left, unwritten_line};
 
 use crate::faults::{fault_of_run, fault_of_show};
 use crate::ran::{Ran, Unrun};
 use crate::showing::{Shown, show_run};
-use abt_journal_lines::{WriteFault, write_journals};
+use abt_journal_text::{WriteFault, write_journals};
+use abt_links::OpenGate;
 use abt_perform::{Fault, tell_fault, tell_text};
-use abt_ports::OpenGate;
 use std::alloc::Global;
 use std::io::Write;
 use std::sync::Wait;
@@ -78,7 +78,8 @@ fn keep_all<T: Threads + Wait + Sync, W: Write, J: Write>(
 ) -> Result<(), KeepFault>
     ensures ok { OnOk result (IsKept workers unrun (W.contents writer.old) (W.contents writer.new)
         (J.contents journals.old) (J.contents journals.new)) }
-    ensures err { IfErr result (λ fault. EndsKeepingBy workers unrun fault (W.contents writer.old) (W.contents writer.new)
+    ensures err { IfErr result
+        (λ fault. EndsKeepingBy workers unrun fault (W.contents writer.old) (W.contents writer.new)
         (J.contents journals.old) (J.contents journals.new)) }
 {
     let shown = match show_run(rt, alloc, workers, unrun, &OpenGate, writer) {

@@ -10,8 +10,8 @@ use crate::faults::{fault_of_run, fault_of_show};
 use crate::judging::Judged;
 use crate::ran::{Ran, Unrun};
 use crate::showing::{Shown, show_run};
+use abt_links::OpenGate;
 use abt_perform::{Fault, Plan, tell_fault};
-use abt_ports::OpenGate;
 use std::alloc::Global;
 use std::io::{Read, Write};
 use std::sync::Wait;
@@ -60,7 +60,8 @@ fn carry_out<T: Threads + Wait + Sync, R: Read, W: Write>(
     writer: &mut W,
 ) -> Result<(), Fault>
     ensures reads { ConsumesAtMost (R.remaining reader.old) (R.remaining reader.new) (text_max + 1) }
-    ensures shown { OnOk result (IsShown workers (R.remaining reader.old) (W.contents writer.old) (W.contents writer.new)) }
+    ensures shown { OnOk result (IsShown workers (R.remaining reader.old) (W.contents writer.old)
+        (W.contents writer.new)) }
     ensures err { IfErr result (λ fault.
         EndsBy workers fault (R.remaining reader.old) (W.contents writer.old) (W.contents writer.new)) }
 {
@@ -89,7 +90,9 @@ pub fn show_scenario<T: Threads + Wait + Sync, R: Read, W: Write>(
     writer: &mut W,
 ) -> Result<JudgedRun, Fault>
     ensures reads { ConsumesAtMost (R.remaining reader.old) (R.remaining reader.new) (text_max + 1) }
-    ensures shown { IfOk result (λ run. IsRunOf workers run (R.remaining reader.old) (W.contents writer.old) (W.contents writer.new)) }
+    ensures shown { IfOk result
+        (λ run. IsRunOf workers run (R.remaining reader.old) (W.contents writer.old)
+        (W.contents writer.new)) }
     ensures err { IfErr result (λ fault.
         EndsBy workers fault (R.remaining reader.old) (W.contents writer.old) (W.contents writer.new)) }
 {

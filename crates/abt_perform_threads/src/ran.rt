@@ -3,17 +3,15 @@ ghost use Rattle.std.specs.Prelude.{◌≡◌, ◌≢◌, ◌<◌, ◌≤◌, �
 ghost use Rattle.abt_text.specs.Streams.{ConsumesAtMost, text_max};
 ghost use Rattle.abt_scenario.specs.Engine.{Explains};
 ghost use Rattle.abt_scenario.specs.Scenarios.{Reads};
-ghost use Rattle.abt_threads.specs.declared.fault.RunFault.{RunFault};
-ghost use Rattle.abt_threads.specs.Runs.{IsRun, ScriptsFit};
-ghost use Rattle.abt_operator.specs.Operations.{AreForPorts};
+ghost use Rattle.abt_links.specs.declared.fault.RunFault.{RunFault};
+ghost use Rattle.abt_links.specs.Runs.{IsRun, ScriptsFit};
+ghost use Rattle.abt_links.specs.Operations.{AreForPorts};
 ghost use Rattle.abt_perform_threads.specs.Shown.{IsRanFrom};
 ghost use Rattle.abt_rate.specs.Limits.{AreWorkers};
 
+use abt_links::{Gate, Gathered, RunFault, ThreadPlan, run_threads};
 use abt_net::Net;
-use abt_ports::Gate;
-use abt_relay::ThreadPlan;
 use abt_scenario::{EngineFault, Scenario, read_from};
-use abt_threads::{Gathered, RunFault, run_threads};
 use std::alloc::Global;
 use std::io::Read;
 use std::marker::Model;
@@ -69,7 +67,8 @@ impl Unrun {
         ensures scripts { IsErrOf result RunFault.Scripts
             ↔ (AreWorkers workers × ¬ ScriptsFit self.net.conns self.scripts) }
         ensures operator { IsErrOf result RunFault.Operator
-            ↔ (AreWorkers workers × ScriptsFit self.net.conns self.scripts × ¬ AreForPorts self.net self.operator) }
+            ↔ (AreWorkers workers × ScriptsFit self.net.conns self.scripts ×
+            ¬ AreForPorts self.net self.operator) }
         ensures wound { (seen found : ℕ) → IsErrOf result (RunFault.Wound seen found) → found < seen }
     {
         let gathered = run_scripts(rt, alloc, &self.scenario, workers, gate)?;

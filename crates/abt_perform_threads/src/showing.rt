@@ -3,16 +3,15 @@ ghost use Rattle.std.specs.Prelude.{◌≡◌, ◌<◌, ◌↔◌, ℕ, length, 
 ghost use Rattle.std.specs.Io.KnownBytes.{Appends, Keeps};
 ghost use Rattle.abt_rate.specs.Limits.{AreWorkers};
 ghost use Rattle.abt_text.specs.Streams.{AppendsPrefix};
-ghost use Rattle.abt_threads.specs.Runs.{ScriptsFit};
-ghost use Rattle.abt_operator.specs.Operations.{AreForPorts};
+ghost use Rattle.abt_links.specs.Runs.{ScriptsFit};
+ghost use Rattle.abt_links.specs.Operations.{AreForPorts};
 ghost use Rattle.abt_perform_threads.specs.Shown.{IsRanFrom, ShowsAll, ShowsUntil};
 
 use crate::judging::{Judged, judge_events};
 use crate::ran::{Ran, Unrun};
-use abt_ports::Gate;
-use abt_report::safe_line;
+use abt_format::safe_line;
+use abt_links::{Gate, RunFault};
 use abt_text::{Unwritten, put};
-use abt_threads::RunFault;
 use abt_weave::{WeaveFault, weave};
 use std::alloc::{AllocError, Global};
 use std::io::Write;
@@ -95,7 +94,8 @@ pub fn show_run<T: Threads + Wait + Sync, G: Gate + Sync, W: Write>(
     ensures scripts { IsErrOf result RunFault.Scripts
         ↔ (AreWorkers workers × ¬ ScriptsFit unrun.net.conns unrun.scripts) }
     ensures operator { IsErrOf result RunFault.Operator
-        ↔ (AreWorkers workers × ScriptsFit unrun.net.conns unrun.scripts × ¬ AreForPorts unrun.net unrun.operator) }
+        ↔ (AreWorkers workers × ScriptsFit unrun.net.conns unrun.scripts ×
+        ¬ AreForPorts unrun.net unrun.operator) }
     ensures wound { (seen found : ℕ) → IsErrOf result (RunFault.Wound seen found) → found < seen }
 {
     let ran = unrun.run(rt, alloc, workers, gate)?;
@@ -107,8 +107,10 @@ pub fn show_run<T: Threads + Wait + Sync, G: Gate + Sync, W: Write>(
 fn show<W: Write>(alloc: Global, ran: &Ran, writer: &mut W) -> Result<Judged, ShowFault>
     requires ports { length ran.now.gathered.journals ≡ length ran.now.net.capacities }
     requires sources { length ran.now.gathered.sources.items ≡ length ran.now.net.conns }
-    ensures ok { IfOk result (λ judged. ShowsAll ran.now judged (W.contents writer.old) (W.contents writer.new)) }
-    ensures err { IfErr result (λ fault. ShowsUntil ran.now fault (W.contents writer.old) (W.contents writer.new)) }
+    ensures ok { IfOk result
+        (λ judged. ShowsAll ran.now judged (W.contents writer.old) (W.contents writer.new)) }
+    ensures err { IfErr result
+        (λ fault. ShowsUntil ran.now fault (W.contents writer.old) (W.contents writer.new)) }
 {
     let Ran { net, gathered } = ran;
     put(writer, b"gathered\n")?;

@@ -1,10 +1,7 @@
 -- Places in texts: lines and columns, counted from 1.
 use Rattle.std.specs.Prelude.{ℕ, suc, ◌==◌, ◌||◌, nat_le, nat_lt, Bool, if◌then◌else◌, List, [], ◌∷◌, take}
+use Rattle.abt_text.specs.Text.{line_feed}
 use Rattle.abt_places.specs.declared.place.Place.{Place}
-
--- the octet that ends a line
-abbrev pub line_feed : ℕ
-line_feed = 10
 
 -- how many lines a text ends
 abbrev pub line_feeds : List ℕ → ℕ

@@ -42,8 +42,10 @@ impl<E: Write> Drawing<E> {
     pub(crate) fn clear(&mut self) -> bool
         ensures stood { result ≡ self.old.stands }
         ensures gone { self.new.stands ≡ false }
-        ensures still { self.old.stands ≡ false → Keeps (E.contents self.old.terminal) (E.contents self.new.terminal) }
-        ensures clears { self.old.stands ≡ true → Draws clear_text (E.contents self.old.terminal) (E.contents self.new.terminal) }
+        ensures still { self.old.stands ≡ false →
+            Keeps (E.contents self.old.terminal) (E.contents self.new.terminal) }
+        ensures clears { self.old.stands ≡ true →
+            Draws clear_text (E.contents self.old.terminal) (E.contents self.new.terminal) }
     {
         let stood = self.stands;
         if stood {

@@ -3,10 +3,10 @@ use Rattle.std.specs.Prelude.{ℕ, ◌+◌, List, [], ◌∷◌, codes}
 use Rattle.abt_cell.specs.Channel.{Channel}
 use Rattle.abt_net.specs.declared.conn.Conn.{Conn}
 use Rattle.abt_net.specs.Topology.{Topology}
-use Rattle.abt_report.specs.Report.{safe_line}
+use Rattle.abt_format.specs.Report.{safe_line}
 use Rattle.abt_text.specs.Text.{Text, ◌⋅◌, newline, decimal}
-use Rattle.abt_trace.specs.declared.trace.Trace.{Trace}
-use Rattle.abt_wording.specs.Measures.{cells_text}
+use Rattle.abt_model.specs.declared.trace.Trace.{Trace}
+use Rattle.abt_format.specs.Measures.{cells_text}
 
 -- what each port of a path holds, the first first
 abbrev pub held_text : (path held : List ℕ) → Text

@@ -5,11 +5,11 @@ use Rattle.abt_model.specs.declared.event.Event.{Event}
 use Rattle.abt_model.specs.declared.outcome.Outcome.{Outcome}
 use Rattle.abt_model.specs.Past.{Past}
 use Rattle.abt_model.specs.Outcomes.{outcome_of, after_event}
-use Rattle.abt_report.specs.OutcomeText.{outcome_text}
+use Rattle.abt_format.specs.OutcomeText.{outcome_text}
 use Rattle.abt_text.specs.Text.{Text, ◌⋅◌, newline, decimal}
-use Rattle.abt_trace.specs.declared.trace.Trace.{Trace}
-use Rattle.abt_trace.specs.Traces.{IsTrace}
-use Rattle.abt_wording.specs.EventText.{event_text}
+use Rattle.abt_model.specs.declared.trace.Trace.{Trace}
+use Rattle.abt_model.specs.Traces.{IsTrace}
+use Rattle.abt_format.specs.EventText.{event_text}
 use Rattle.abt_reason.specs.declared.grounds.Grounds.{Grounds}
 use Rattle.abt_reason.specs.Ending.{ending_text}
 use Rattle.abt_reason.specs.Grounds.{grounds_of}

@@ -2,7 +2,7 @@
 use Rattle.std.specs.Prelude.{ℕ, ◌-◌, ◌==◌, [], codes, if◌then◌else◌, Option, None, Some}
 use Rattle.abt_cell.specs.Message.{Terms}
 use Rattle.abt_text.specs.Text.{Text, ◌⋅◌, decimal}
-use Rattle.abt_wording.specs.Measures.{cells_text, seconds_text}
+use Rattle.abt_format.specs.Measures.{cells_text, seconds_text}
 use Rattle.abt_ledger.specs.declared.fault.CapacityFault.{CapacityFault}
 use Rattle.abt_ledger.specs.declared.fault.CapacityFault.TheVariants.{BelowSum, AboveLimit}
 use Rattle.abt_model.specs.declared.outcome.Cause.{Cause}

@@ -2,12 +2,10 @@
 ghost use Rattle.std.specs.Prelude.{◌≡◌, ◌++◌, IfOk, OnOk, string_bytes};
 ghost use Rattle.abt_reason.specs.Ending as spec;
 
-use abt_list::Sequence;
+use abt_format::{cells_text, safe_line};
+use abt_model::{Sequence, Trace};
 use abt_net::{Conn, Net};
 use abt_rate::Rate;
-use abt_report::safe_line;
-use abt_trace::Trace;
-use abt_wording::cells_text;
 use std::alloc::{AllocError, Global};
 
 // A line for each connection and each port, and whether all that is safe.
@@ -17,7 +15,8 @@ pub(crate) fn push_ending(
     net: &Net,
     trace: &Trace,
 ) -> Result<(), AllocError>
-    ensures { OnOk result (string_bytes text.new ≡ string_bytes text.old ++ spec.ending_text net.now.conns trace.now) }
+    ensures { OnOk result (string_bytes text.new ≡ string_bytes text.old ++
+        spec.ending_text net.now.conns trace.now) }
 {
     push_conns(
         alloc,
@@ -43,7 +42,8 @@ fn push_conns(
     rates: &[Rate],
     held: &[Sequence<Rate>],
 ) -> Result<(), AllocError>
-    ensures { OnOk result (string_bytes text.new ≡ string_bytes text.old ++ spec.conn_lines 0 conns.now rates.now held.now) }
+    ensures { OnOk result (string_bytes text.new ≡ string_bytes text.old ++
+        spec.conn_lines 0 conns.now rates.now held.now) }
 {
     for index in 0..conns.len().min(rates.len()).min(held.len()) {
         let hops = held[index].as_slice();
@@ -61,7 +61,8 @@ fn push_conn(
     rate: Rate,
     held: &[Rate],
 ) -> Result<(), AllocError>
-    ensures { OnOk result (string_bytes text.new ≡ string_bytes text.old ++ spec.conn_line place conn.now rate held.now) }
+    ensures { OnOk result (string_bytes text.new ≡ string_bytes text.old ++
+        spec.conn_line place conn.now rate held.now) }
 {
     let vpi = conn.vc.vpi();
     let vci = conn.vc.vci();
@@ -89,7 +90,8 @@ fn push_held(
     path: &[u16],
     held: &[Rate],
 ) -> Result<(), AllocError>
-    ensures { OnOk result (string_bytes text.new ≡ string_bytes text.old ++ spec.held_text path.now held.now) }
+    ensures { OnOk result (string_bytes text.new ≡ string_bytes text.old ++
+        spec.held_text path.now held.now) }
 {
     let Some((port, path)) = path.split_first() else {
         return Ok(());
@@ -109,7 +111,8 @@ fn push_ports(
     totals: &[u64],
     capacities: &[u64],
 ) -> Result<(), AllocError>
-    ensures { OnOk result (string_bytes text.new ≡ string_bytes text.old ++ spec.port_lines 0 totals.now capacities.now) }
+    ensures { OnOk result (string_bytes text.new ≡ string_bytes text.old ++
+        spec.port_lines 0 totals.now capacities.now) }
 {
     for index in 0..totals.len().min(capacities.len()) {
         push_port(alloc, text, index as u64, totals[index], capacities[index])?;
@@ -125,7 +128,8 @@ fn push_port(
     total: u64,
     capacity: u64,
 ) -> Result<(), AllocError>
-    ensures { OnOk result (string_bytes text.new ≡ string_bytes text.old ++ spec.port_line port total capacity) }
+    ensures { OnOk result (string_bytes text.new ≡ string_bytes text.old ++
+        spec.port_line port total capacity) }
 {
     let rates = cells_text(alloc, total)?;
     let limit = cells_text(alloc, capacity)?;

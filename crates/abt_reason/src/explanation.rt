@@ -5,11 +5,10 @@ ghost use Rattle.abt_reason.specs.Explanation as spec;
 use crate::ending::push_ending;
 use crate::grounds::{Grounds, grounds_of};
 use crate::reason::push_reason;
-use abt_list::Sequence;
+use abt_format::{push_event, push_outcome};
+use abt_model::Sequence;
 use abt_net::Net;
 use abt_node::Onward;
-use abt_report::push_outcome;
-use abt_wording::push_event;
 use abt_world::{Event, Outcome, World};
 use std::alloc::{AllocError, Global};
 
@@ -60,7 +59,8 @@ fn push_told(
     grounds: &Grounds,
     outcome: &Outcome,
 ) -> Result<(), AllocError>
-    ensures { OnOk result (string_bytes text.new ≡ string_bytes text.old ++ spec.told_text number place event.now grounds.now outcome.now) }
+    ensures { OnOk result (string_bytes text.new ≡ string_bytes text.old ++
+        spec.told_text number place event.now grounds.now outcome.now) }
 {
     let place = place_text(alloc, place)?;
     let mut said = String::new(alloc);

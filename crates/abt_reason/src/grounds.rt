@@ -145,7 +145,8 @@ fn moment_grounds(world: &World<'_>, conn: u16, now: u64) -> Grounds
 
 fn cell_grounds(world: &World<'_>, place: u16, conn: &Conn, cell: u64, at: u64) -> Grounds
     ensures { (net : Topology) (events : List EventSpec) → StandsFor net events world.now →
-        result ≡ spec.cell_grounds conn.now cell at (spec.number (moment_in net (facts_after net events) place cell))
+        result ≡ spec.cell_grounds conn.now cell at
+        (spec.number (moment_in net (facts_after net events) place cell))
         (progress_in net (facts_after net events) place) }
 {
     let moment = world.moment(place, cell).unwrap_or(0);
@@ -166,7 +167,8 @@ fn cell_grounds(world: &World<'_>, place: u16, conn: &Conn, cell: u64, at: u64) 
 
 fn hop_grounds(world: &World<'_>, place: u16, conn: &Conn, hop: u16, seq: u32) -> Grounds
     ensures { (net : Topology) (events : List EventSpec) → StandsFor net events world.now →
-        result ≡ spec.hop_grounds net (facts_after net events) place (length conn.now.path) hop seq (steps.port_at conn.now.path hop) }
+        result ≡ spec.hop_grounds net (facts_after net events) place (length conn.now.path) hop seq
+        (steps.port_at conn.now.path hop) }
 {
     match port_at(conn, hop) {
         Some(port) => Grounds::AtHop {
@@ -186,7 +188,8 @@ fn hop_grounds(world: &World<'_>, place: u16, conn: &Conn, hop: u16, seq: u32) -
 // What a request asks for, 0 where it was never asked.
 fn asked_units(world: &World<'_>, place: u16, seq: u32) -> u64
     ensures { (net : Topology) (events : List EventSpec) → StandsFor net events world.now →
-        result ≡ spec.number (option_map (λ terms. terms.1) (asked_for net (facts_after net events) place seq)) }
+        result ≡ spec.number (option_map
+        (λ terms. terms.1) (asked_for net (facts_after net events) place seq)) }
 {
     match world.asked(place, seq) {
         Some((_, ask)) => ask.units(),
@@ -207,7 +210,8 @@ fn held_units(world: &World<'_>, place: u16, hop: u16) -> u64
 
 fn answer_grounds(world: &World<'_>, place: u16, conn: &Conn, hop: u16) -> Grounds
     ensures { (net : Topology) (events : List EventSpec) → StandsFor net events world.now →
-        result ≡ spec.answer_grounds net (facts_after net events) place (length conn.now.path) hop (steps.port_at conn.now.path hop) }
+        result ≡ spec.answer_grounds net (facts_after net events) place (length conn.now.path) hop
+        (steps.port_at conn.now.path hop) }
 {
     match port_at(conn, hop) {
         Some(_) => Grounds::Newest {

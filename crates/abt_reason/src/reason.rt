@@ -8,8 +8,8 @@ use crate::refusal::{
     start_reason,
 };
 use abt_cell::Request;
+use abt_format::{cells_text, seconds_text};
 use abt_model::{Cause, Outcome};
-use abt_wording::{cells_text, seconds_text};
 use std::alloc::{AllocError, Global};
 
 /// Puts the reason of an outcome, or what its codes and moments are, behind a text (docs/EXPLAIN.md); nothing where the outcome says it all.
@@ -22,7 +22,8 @@ pub fn push_reason(
     grounds: &Grounds,
     outcome: &Outcome,
 ) -> Result<(), AllocError>
-    ensures { OnOk result (string_bytes text.new ≡ string_bytes text.old ++ spec.reason_text grounds.now outcome.now) }
+    ensures { OnOk result (string_bytes text.new ≡ string_bytes text.old ++
+        spec.reason_text grounds.now outcome.now) }
 {
     match *outcome {
         Outcome::StartRefused(fault) => text.push_str(start_reason(fault)),
@@ -59,7 +60,8 @@ fn push_cause(
     grounds: &Grounds,
     cause: Cause,
 ) -> Result<(), AllocError>
-    ensures { OnOk result (string_bytes text.new ≡ string_bytes text.old ++ spec.cause_reason grounds.now cause) }
+    ensures { OnOk result (string_bytes text.new ≡ string_bytes text.old ++
+        spec.cause_reason grounds.now cause) }
 {
     match (*grounds, cause) {
         (Grounds::NoConnection { connections }, _) => {
@@ -127,7 +129,8 @@ fn push_cell_cause(
     cause: Cause,
 ) -> Result<(), AllocError>
     ensures { OnOk result (string_bytes text.new ≡ string_bytes text.old
-        ++ spec.cell_reason coming.now.cell coming.now.at coming.now.emitted coming.now.fence coming.now.moment coming.now.delay
+        ++ spec.cell_reason coming.now.cell coming.now.at coming.now.emitted coming.now.fence
+        coming.now.moment coming.now.delay
         coming.now.tau coming.now.last cause) }
 {
     let Coming {
@@ -159,7 +162,8 @@ fn push_delay(
     delay: u64,
     tau: u64,
 ) -> Result<(), AllocError>
-    ensures { OnOk result (string_bytes text.new ≡ string_bytes text.old ++ spec.delay_text cell at moment delay tau) }
+    ensures { OnOk result (string_bytes text.new ≡ string_bytes text.old ++
+        spec.delay_text cell at moment delay tau) }
 {
     let at = seconds_text(alloc, at)?;
     let moment = seconds_text(alloc, moment)?;

@@ -3,11 +3,11 @@ ghost use Rattle.std.specs.Prelude.{◌≡◌, ◌++◌, OnOk, string_bytes};
 ghost use Rattle.abt_reason.specs.Reasons as spec;
 
 use crate::grounds::Grounds;
+use abt_format::seconds_text;
 use abt_model::Heard;
 use abt_node::{Back, CapacityFault, DropCause, Onward};
 use abt_shaper::ShapeFault;
 use abt_source::{AskFault, StartFault};
-use abt_wording::seconds_text;
 use std::alloc::{AllocError, Global};
 
 pub(crate) fn push_onward(
@@ -15,7 +15,8 @@ pub(crate) fn push_onward(
     grounds: &Grounds,
     reply: Onward,
 ) -> Result<(), AllocError>
-    ensures { OnOk result (string_bytes text.new ≡ string_bytes text.old ++ spec.onward_reason grounds.now reply) }
+    ensures { OnOk result (string_bytes text.new ≡ string_bytes text.old ++
+        spec.onward_reason grounds.now reply) }
 {
     let Grounds::AtHop {
         seq,
@@ -49,7 +50,8 @@ fn push_newest(text: &mut String, newest: u32) -> Result<(), AllocError>
 }
 
 pub(crate) fn push_back(text: &mut String, grounds: &Grounds, reply: Back) -> Result<(), AllocError>
-    ensures { OnOk result (string_bytes text.new ≡ string_bytes text.old ++ spec.back_reason grounds.now reply) }
+    ensures { OnOk result (string_bytes text.new ≡ string_bytes text.old ++
+        spec.back_reason grounds.now reply) }
 {
     match (*grounds, reply) {
         (Grounds::Newest { newest }, Back::Drop(DropCause::Stale)) => push_newest(text, newest),
@@ -62,7 +64,8 @@ pub(crate) fn push_heard(
     grounds: &Grounds,
     heard: Heard,
 ) -> Result<(), AllocError>
-    ensures { OnOk result (string_bytes text.new ≡ string_bytes text.old ++ spec.heard_reason grounds.now heard) }
+    ensures { OnOk result (string_bytes text.new ≡ string_bytes text.old ++
+        spec.heard_reason grounds.now heard) }
 {
     match (*grounds, heard) {
         (Grounds::Waits { awaited: Some(seq) }, Heard::Ignored) => write!(
@@ -136,7 +139,8 @@ pub(crate) fn push_capacity(
     grounds: &Grounds,
     fault: CapacityFault,
 ) -> Result<(), AllocError>
-    ensures { OnOk result (string_bytes text.new ≡ string_bytes text.old ++ spec.capacity_reason grounds.now fault) }
+    ensures { OnOk result (string_bytes text.new ≡ string_bytes text.old ++
+        spec.capacity_reason grounds.now fault) }
 {
     match (*grounds, fault) {
         (Grounds::Reserved { total }, CapacityFault::BelowSum) => write!(

@@ -4,8 +4,8 @@ ghost use Rattle.abt_node.specs.Table.{Table};
 ghost use Rattle.abt_safety.specs.Holding.{held_by_port, is_held_along, is_held_at as is_held_there, looked_at, looked_after, ChangesOne};
 
 use abt_cell::Vc;
-use abt_list::Sequence;
-use abt_log::Looks;
+use abt_index::Lookups;
+use abt_model::Sequence;
 use abt_node::Port;
 use abt_rate::Rate;
 use std::alloc::{AllocError, Global};
@@ -38,7 +38,7 @@ pub fn held_along(
 }
 
 /// Whether a rate is at most what each port of a path holds for a channel.
-pub fn is_held(rate: Rate, vc: Vc, path: &[u16], ports: &[Port], looks: &mut Looks) -> bool
+pub fn is_held(rate: Rate, vc: Vc, path: &[u16], ports: &[Port], looks: &mut Lookups) -> bool
     ensures value { result ≡ is_held_along rate vc ports.now path.now }
     ensures looks { looks.new ≤ looks.old + length path.now }
     ensures counted { let looked = looked_at rate vc ports.now path.now in
@@ -51,7 +51,13 @@ pub fn is_held(rate: Rate, vc: Vc, path: &[u16], ports: &[Port], looks: &mut Loo
 }
 
 /// Whether a rate is at most what the port of a number holds for a channel. No port is none that holds less.
-pub fn is_held_at(rate: Rate, vc: Vc, port: Option<u16>, ports: &[Port], looks: &mut Looks) -> bool
+pub fn is_held_at(
+    rate: Rate,
+    vc: Vc,
+    port: Option<u16>,
+    ports: &[Port],
+    looks: &mut Lookups,
+) -> bool
     ensures value { result ≡ is_held_there rate vc ports.now port }
     ensures looks { looks.new ≤ looks.old + 1 }
     ensures counted { looks.new ≡ (if is_some port then min (looks.old + 1) u64.MAX else looks.old) }
@@ -80,10 +86,11 @@ pub fn is_held_after(
     path: &[u16],
     port: Option<u16>,
     ports: &[Port],
-    looks: &mut Looks,
+    looks: &mut Lookups,
 ) -> bool
     ensures value { (tables : List Table) → ChangesOne port vc path.now tables ports.now →
-        before.is_held ≡ is_held_along before.rate vc tables path.now → result ≡ is_held_along rate vc ports.now path.now }
+        before.is_held ≡ is_held_along before.rate vc tables path.now →
+        result ≡ is_held_along rate vc ports.now path.now }
     ensures looks { looks.new ≤ looks.old + length path.now + 1 }
     ensures counted { let looked = looked_after before rate vc ports.now path.now port in
         looks.old + looked ≤ u64.MAX → looks.new ≡ looks.old + looked }

@@ -3,8 +3,8 @@
 
 mod holding;
 mod sums;
-mod tally;
+mod violations;
 
 pub use holding::{Shaped, held_along, is_held, is_held_after, is_held_at};
 pub use sums::{fits, is_above, is_over};
-pub use tally::{Marks, Tally, recount};
+pub use violations::{ViolationFlags, Violations, recount};

@@ -2,7 +2,7 @@
 ghost use Rattle.std.specs.Prelude.{◌≡◌, ◌+◌, ◌≤◌, if◌then◌else◌, is_some, min, nat_le};
 ghost use Rattle.abt_safety.specs.Tallies.{is_above, over_at};
 
-use abt_log::Looks;
+use abt_index::Lookups;
 use abt_node::Port;
 
 /// Whether a sum is at most a capacity, both in units of 1/512 cell/s.
@@ -20,7 +20,7 @@ pub fn is_above(port: &Port) -> bool
 }
 
 /// The same of the port of a number. No port is none that is.
-pub fn is_over(port: Option<u16>, ports: &[Port], looks: &mut Looks) -> bool
+pub fn is_over(port: Option<u16>, ports: &[Port], looks: &mut Lookups) -> bool
     ensures value { result ≡ over_at port ports.now }
     ensures looks { looks.new ≤ looks.old + 1 }
     ensures counted { looks.new ≡ (if is_some port then min (looks.old + 1) u64.MAX else looks.old) }

@@ -2,7 +2,8 @@
 use Rattle.std.proofs.Common.{◌≡◌, ◌++◌, List, [], ◌∷◌, refl, ap, sym, append_assoc, Ok, Err}
 use Rattle.abt_net.specs.declared.conn.Conn.{Conn}
 use Rattle.abt_text.specs.Text.{Text}
-use Rattle.abt_scenario.specs.Reading.{Read, ◌>>=◌}
+use Rattle.abt_text.specs.FirstFault.{◌>>=◌}
+use Rattle.abt_scenario.specs.Reading.{Read}
 use Rattle.abt_scenario.specs.Walk.{ConnectionsRead, with_connection}
 
 -- what was read, and then what is read of the rest

@@ -5,10 +5,10 @@ use Rattle.abt_net.specs.Topology.{Topology}
 use Rattle.abt_net.proofs.FaultLemmas.{one_first}
 use Rattle.abt_net.proofs.RuleLemmas.{no_fault}
 use Rattle.abt_model.specs.declared.event.Event.{Event}
-use Rattle.abt_report.specs.Report.{report_of}
+use Rattle.abt_format.specs.Report.{report_of}
 use Rattle.abt_text.specs.Text.{Text}
-use Rattle.abt_trace.specs.Traces.{IsTrace}
-use Rattle.abt_trace.specs.declared.trace.Trace.{Trace}
+use Rattle.abt_model.specs.Traces.{IsTrace}
+use Rattle.abt_model.specs.declared.trace.Trace.{Trace}
 use Rattle.abt_scenario.specs.declared.fault.ScenarioFault.TheVariants.{Net}
 use Rattle.abt_scenario.specs.declared.scenario.Scenario.{Scenario}
 use Rattle.abt_scenario.specs.Engine.{IsReportText}

@@ -5,7 +5,8 @@ use Rattle.toml.specs.Data.{Items, string, integer, float, boolean, datetime, ar
 use Rattle.abt_text.specs.Text.{Text}
 use Rattle.abt_scenario.specs.declared.key.Key.{Key}
 use Rattle.abt_scenario.specs.declared.fault.ScenarioFault.TheVariants.{WrongType}
-use Rattle.abt_scenario.specs.Reading.{Read, ◌>>=◌}
+use Rattle.abt_text.specs.FirstFault.{◌>>=◌}
+use Rattle.abt_scenario.specs.Reading.{Read}
 use Rattle.abt_scenario.specs.Values.{are_texts, texts_among, texts_in}
 
 one_more : (key : Key) (text : Text) (texts : List Text) (all : Bool) →

@@ -2,11 +2,11 @@
 use Rattle.std.specs.Prelude.{◌≡◌, ◌<◌, ◌≤◌, ⊤, true, length, Option, IfSome, Ok, Err}
 use Rattle.std.specs.Str.{IsUtf8}
 use Rattle.std.specs.Io.KnownBytes.{Appends, Keeps}
-use Rattle.abt_report.specs.Report.{report_of}
+use Rattle.abt_format.specs.Report.{report_of}
 use Rattle.abt_text.specs.Streams.{AppendsPrefix, text_max}
 use Rattle.abt_text.specs.Text.{Text}
-use Rattle.abt_trace.specs.Traces.{IsTrace}
-use Rattle.abt_trace.specs.declared.trace.Trace.{Trace}
+use Rattle.abt_model.specs.Traces.{IsTrace}
+use Rattle.abt_model.specs.declared.trace.Trace.{Trace}
 use Rattle.abt_scenario.specs.declared.engine.EngineFault.{EngineFault}
 use Rattle.abt_scenario.specs.declared.engine.EngineFault.TheVariants.{Read, TooLong, NotUtf8, Scenario, Write, Memory}
 use Rattle.abt_scenario.specs.declared.fault.ScenarioFault.{ScenarioFault}

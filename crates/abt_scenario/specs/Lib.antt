@@ -1,3 +1,7 @@
+pub mod ScenarioText
+pub mod Samples
+pub mod Faults
+pub mod Sent
 pub mod Keys
 pub mod Reading
 pub mod Values

@@ -1,7 +1,8 @@
--- Readings that end at the first fault, and what a function answers of them.
-use Rattle.std.specs.Prelude.{◌≡◌, ◌⊎◌, List, map, Result, Ok, Err, Vec}
+-- Readings of scenarios, and what a function answers of them.
+use Rattle.std.specs.Prelude.{List, map, Result, Vec}
 use Rattle.std.specs.Borrow.{Bor}
 use Rattle.std.specs.declared.alloc.Global.{Global}
+use Rattle.abt_text.specs.FirstFault.{GivesOr}
 use Rattle.abt_text.specs.Text.{Text}
 use Rattle.abt_scenario.specs.declared.fault.ScenarioFault.{ScenarioFault}
 use Rattle.abt_scenario.specs.declared.fault.ScenarioFault.TheVariants.{Memory}
@@ -9,20 +10,9 @@ use Rattle.abt_scenario.specs.declared.fault.ScenarioFault.TheVariants.{Memory}
 abbrev pub Read : Type 0 → Type 0
 Read A = Result A ScenarioFault
 
--- the first, and then what is read with it; its fault stands
-infixl 10 ◌>>=◌
-abbrev pub ◌>>=◌ : {A B : Type 0} → Read A → (A → Read B) → Read B
-Ok x >>= f = f x
-Err fault >>= f = Err fault
-
 -- The answer is the exact one, seen so, or memory was refused.
 abbrev pub Gives : {A B : Type 0} → (B → A) → Read A → Read B → Type 0
-Gives seen exact (Ok x) = exact ≡ Ok (seen x)
-Gives seen exact (Err fault) = (fault ≡ Memory) ⊎ (exact ≡ Err fault)
-
--- a list without where it lies in memory
-abbrev pub listed : {A : Type 0} → Vec A Global → List A
-listed items = items.items
+Gives seen exact answer = GivesOr Memory seen exact answer
 
 -- the texts that some references point to
 abbrev pub texts_seen : Vec (Bor Text) Global → List Text

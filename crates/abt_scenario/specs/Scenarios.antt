@@ -5,15 +5,16 @@ use Rattle.abt_net.specs.Faults.{IsFirstFault}
 use Rattle.abt_net.specs.Topology.{Topology, IsWithinRules}
 use Rattle.abt_net.specs.declared.fault.NetFault.{NetFault}
 use Rattle.abt_model.specs.declared.event.Event.{Event}
-use Rattle.abt_script.specs.declared.command.Command.{Command}
-use Rattle.abt_grammar.specs.CommandTexts.{command_of}
-use Rattle.abt_grammar.specs.EventTexts.{event_of}
-use Rattle.abt_grammar.specs.OperationTexts.{operation_of}
+use Rattle.abt_model.specs.declared.script_command.Command.{Command}
+use Rattle.abt_format.specs.CommandTexts.{command_of}
+use Rattle.abt_format.specs.EventTexts.{event_of}
+use Rattle.abt_format.specs.OperationTexts.{operation_of}
 use Rattle.abt_text.specs.Text.{Text}
 use Rattle.abt_scenario.specs.declared.fault.ScenarioFault.{ScenarioFault}
 use Rattle.abt_scenario.specs.declared.fault.ScenarioFault.TheVariants.{Net, EventText, ScriptText, OperatorText}
 use Rattle.abt_scenario.specs.declared.scenario.Scenario.{Scenario}
-use Rattle.abt_scenario.specs.Reading.{Read, ◌>>=◌}
+use Rattle.abt_text.specs.FirstFault.{◌>>=◌}
+use Rattle.abt_scenario.specs.Reading.{Read}
 use Rattle.abt_scenario.specs.Walk.{DraftRead, draft_in, draft_of}
 
 abbrev pub event_or_fault : ℕ → Option Event → Read Event

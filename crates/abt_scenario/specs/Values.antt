@@ -5,7 +5,8 @@ use Rattle.abt_text.specs.Text.{Text}
 use Rattle.abt_scenario.specs.declared.key.Key.{Key}
 use Rattle.abt_scenario.specs.declared.fault.ScenarioFault.TheVariants.{MissingKey, WrongType}
 use Rattle.abt_scenario.specs.Keys.{key_name}
-use Rattle.abt_scenario.specs.Reading.{Read, ◌>>=◌}
+use Rattle.abt_text.specs.FirstFault.{◌>>=◌}
+use Rattle.abt_scenario.specs.Reading.{Read}
 
 abbrev pub needed : Key → Option Data → Read Data
 needed key (Some value) = Ok value

@@ -14,7 +14,8 @@ use Rattle.abt_scenario.specs.declared.fault.ScenarioFault.TheVariants.{Toml, Wr
 use Rattle.abt_scenario.specs.declared.draft.Draft.{Draft}
 use Rattle.abt_scenario.specs.declared.draft.Connections.{Connections}
 use Rattle.abt_scenario.specs.Keys.{key_name}
-use Rattle.abt_scenario.specs.Reading.{Read, ◌>>=◌, texts_seen}
+use Rattle.abt_text.specs.FirstFault.{◌>>=◌}
+use Rattle.abt_scenario.specs.Reading.{Read, texts_seen}
 use Rattle.abt_scenario.specs.Values.{member_at, whole_of, numbers_of, texts_at, texts_among}
 
 -- The connections, and beside each the texts of its script.

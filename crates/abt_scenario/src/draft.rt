@@ -76,7 +76,8 @@ fn tables_in<'a>(alloc: Global, values: &'a [Value]) -> Result<Vec<&'a Table>, S
 }
 
 fn connections_in<'a>(alloc: Global, tables: &[&'a Table]) -> Result<Connections<'a>, ScenarioFault>
-    ensures { Gives connections_seen (connections_in (map (λ table. table_view table.now) tables.entry.now)) result }
+    ensures { Gives connections_seen (connections_in (map (λ table. table_view table.now) tables.entry.now))
+        result }
 {
     let mut conns = Vec::new(alloc);
     let mut scripts = Vec::new(alloc);

@@ -1,13 +1,15 @@
 //! Scenarios from any reader, reports to any writer.
-ghost use Rattle.std.specs.Prelude.{◌≡◌, ◌≤◌, ◌≢◌, ◌+◌, Ok, IfOk, IfErr, IfSome, OnOk, length, string_bytes};
+ghost use Rattle.std.specs.Prelude.{◌≡◌, ◌≤◌, ◌≢◌, ◌+◌, Ok, true, IfOk, IfErr, IfSome, OnOk, length, string_bytes};
 ghost use Rattle.abt_text.specs.Streams.{ConsumesAtMost, text_max};
+ghost use Rattle.abt_model.specs.Traces.{IsTrace};
 ghost use Rattle.abt_scenario.specs.Scenarios.{Reads};
 ghost use Rattle.abt_scenario.specs.Engine.{Explains, IsReportText, Reports, Leaves, told};
 
 use crate::fault::ScenarioFault;
 use crate::scenario::Scenario;
 use crate::text::{scenario_in, table_of};
-use abt_report::report_text;
+use abt_format::report_text;
+use abt_model::Trace;
 use abt_text::{TextFault, octets_of, put};
 use abt_world::run;
 use std::alloc::{AllocError, Global};
@@ -40,7 +42,8 @@ pub enum EngineFault {
 /// The scenario of the text that a reader has left. At most one octet more than [`TEXT_MAX`](abt_text::TEXT_MAX) is taken,
 /// which shows that the text is too long; a failure of the reader ends the reading at once.
 pub fn read_from<R: Read>(alloc: Global, reader: &mut R) -> Result<Scenario, EngineFault>
-    ensures ok { IfOk result (λ scenario. IfSome (R.remaining reader.old) (λ text. Reads text (Ok scenario))) }
+    ensures ok { IfOk result
+        (λ scenario. IfSome (R.remaining reader.old) (λ text. Reads text (Ok scenario))) }
     ensures limit { IfOk result (λ _. IfSome (R.remaining reader.old) (λ text. length text ≤ text_max)) }
     ensures err { IfErr result (λ fault. IfSome (R.remaining reader.old) (Explains fault)) }
     ensures reads { IfErr result (λ fault. fault ≢ EngineFault.Write) }
@@ -84,7 +87,8 @@ pub fn run_text<R: Read, W: Write>(
     reader: &mut R,
     writer: &mut W,
 ) -> Result<(), EngineFault>
-    ensures ok { OnOk result (Reports (R.remaining reader.old) (W.contents writer.old) (W.contents writer.new)) }
+    ensures ok { OnOk result (Reports (R.remaining reader.old) (W.contents writer.old)
+        (W.contents writer.new)) }
     ensures limit { OnOk result (IfSome (R.remaining reader.old) (λ text. length text ≤ text_max)) }
     ensures err { IfErr result (λ fault. Leaves fault (R.remaining reader.old)
         (W.contents writer.old) (W.contents writer.new)) }
@@ -104,14 +108,18 @@ pub fn run_text<R: Read, W: Write>(
 fn report_of_run(alloc: Global, scenario: Scenario) -> Result<String, AllocError>
     ensures { IfOk result (λ text. IsReportText scenario (string_bytes text)) }
 {
-    let Scenario {
-        net,
-        events,
-        scripts: _,
-        operator: _,
-    } = scenario;
-    let trace = run(alloc, &net, events.as_slice())?;
-    // The trace says it all: a long list of events isn't kept beside the report.
-    drop(events);
+    let trace = trace_of(alloc, scenario)?;
     report_text(alloc, &trace)
+}
+
+/// The trace of a scenario's run, which is safe. It says all that a report says, so the scenario is let go: a long list of events isn't kept
+/// beside the report.
+///
+/// # Errors
+/// Where memory is refused there is no trace.
+pub fn trace_of(alloc: Global, scenario: Scenario) -> Result<Trace, AllocError>
+    ensures trace { IfOk result (IsTrace scenario.net scenario.events) }
+    ensures safe { IfOk result (λ trace. trace.safe ≡ true) }
+{
+    run(alloc, &scenario.net, scenario.events.as_slice())
 }

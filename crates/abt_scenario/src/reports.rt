@@ -1,10 +1,10 @@
 //! Reports of scenarios.
 ghost use Rattle.std.specs.Prelude.{◌≡◌, IfOk, string_bytes};
-ghost use Rattle.abt_report.specs.Report.{report_of};
+ghost use Rattle.abt_format.specs.Report.{report_of};
 
 use crate::scenario::Scenario;
-use abt_report::report_text;
-use abt_trace::Trace;
+use abt_format::report_text;
+use abt_model::Trace;
 use std::alloc::{AllocError, Global};
 
 /// The report of a run of a scenario (docs/FORMATS.md, "Report"). The trace says all that is in it.

@@ -1,8 +1,6 @@
 //! Scenarios.
-use abt_list::Sequence;
-use abt_model::Event;
+use abt_model::{Event, Operation, Script, Sequence};
 use abt_net::Net;
-use abt_script::{Operation, Script};
 
 /// A net, what happens in it, and what its sources and its operator do.
 #[derive(Debug, Drop)]

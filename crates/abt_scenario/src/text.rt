@@ -11,11 +11,9 @@ ghost use Rattle.abt_scenario.specs.Scenarios.{Reads, ReadsTable, ReadsDraft, Is
 use crate::draft::{Connections, Draft, draft_in};
 use crate::fault::ScenarioFault;
 use crate::scenario::Scenario;
-use abt_grammar::{command_of, event_of, operation_of};
-use abt_list::Sequence;
-use abt_model::Event;
+use abt_format::{command_of, event_of, operation_of};
+use abt_model::{Event, Operation, Script, Sequence};
 use abt_net::{Conn, Net, NetFault};
-use abt_script::{Operation, Script};
 use std::alloc::Global;
 use toml::{Table, Value};
 
@@ -44,7 +42,8 @@ pub(crate) fn table_of(alloc: Global, text: &str) -> Result<Table, ScenarioFault
 // The scenario of a table, or its first fault.
 pub(crate) fn scenario_in(alloc: Global, table: &Table) -> Result<Scenario, ScenarioFault>
     ensures ok { IfOk result (λ scenario. ReadsTable (table_view table.now) (Ok scenario)) }
-    ensures err { IfErr result (λ fault. (fault ≡ ScenarioFault.Memory) ⊎ ReadsTable (table_view table.now) (Err fault)) }
+    ensures err { IfErr result
+        (λ fault. (fault ≡ ScenarioFault.Memory) ⊎ ReadsTable (table_view table.now) (Err fault)) }
 {
     let draft = draft_in(alloc, table)?;
     scenario_of(alloc, draft)
@@ -123,7 +122,8 @@ fn scripts_in(alloc: Global, scripts: &[Vec<&str>]) -> Result<Sequence<Script>, 
 
 // The commands of a connection's script, or the first text that says none.
 fn commands_in(alloc: Global, connection: u64, texts: &[&str]) -> Result<Script, ScenarioFault>
-    ensures { Gives (λ commands. commands) (commands_from connection 1 (map (λ text. text.now) texts.now)) result }
+    ensures { Gives
+        (λ commands. commands) (commands_from connection 1 (map (λ text. text.now) texts.now)) result }
 {
     let mut commands = Sequence::new(alloc);
     for (place, text) in texts.iter().enumerate() {
@@ -142,7 +142,8 @@ fn commands_in(alloc: Global, connection: u64, texts: &[&str]) -> Result<Script,
 
 // The operations of the texts among some values, or the first text that says none.
 fn operations_in(alloc: Global, values: &[Value]) -> Result<Sequence<Operation>, ScenarioFault>
-    ensures { Gives (λ operations. operations) (operations_from 1 (texts_among (items_view values.now))) result }
+    ensures { Gives
+        (λ operations. operations) (operations_from 1 (texts_among (items_view values.now))) result }
 {
     let mut operations = Sequence::with_room(alloc, values.len())?;
     let mut number: u64 = 1;

@@ -3,7 +3,8 @@ ghost use Rattle.std.specs.Prelude.{◌≡◌, ◌<◌, ◌≤◌, ◌^◌, opti
 ghost use Rattle.toml.specs.Data.{get_member};
 ghost use Rattle.toml.specs.View.{view, table_view, items_view};
 ghost use Rattle.abt_scenario.specs.Keys.{key_name};
-ghost use Rattle.abt_scenario.specs.Reading.{Gives, listed, texts_seen};
+ghost use Rattle.abt_text.specs.FirstFault.{listed};
+ghost use Rattle.abt_scenario.specs.Reading.{Gives, texts_seen};
 ghost use Rattle.abt_scenario.specs.Values.{member_at, whole_of, numbers_of, numbers_in, are_texts, texts_among, texts_at, texts_in};
 
 use crate::fault::ScenarioFault;
@@ -129,7 +130,8 @@ fn texts_in<'a>(alloc: Global, values: &'a [Value], key: Key) -> Result<Vec<&'a 
 
 // The values at a key, all of which are texts, none where it is missing.
 pub(crate) fn text_values_at<'a>(table: &'a Table, key: Key) -> Result<&'a [Value], ScenarioFault>
-    ensures { Gives (λ values. texts_among (items_view values.now)) (texts_at key (table_view table.entry.now)) result }
+    ensures { Gives
+        (λ values. texts_among (items_view values.now)) (texts_at key (table_view table.entry.now)) result }
 {
     match value_at(table, key) {
         Some(value) => match value.as_array() {
@@ -143,7 +145,8 @@ pub(crate) fn text_values_at<'a>(table: &'a Table, key: Key) -> Result<&'a [Valu
 // The same values, if all are texts.
 #[tactic(auto, using(crate::proofs::TextValues::texts_are))]
 fn text_values<'a>(values: &'a [Value], key: Key) -> Result<&'a [Value], ScenarioFault>
-    ensures { Gives (λ values. texts_among (items_view values.now)) (texts_in key (items_view values.entry.now)) result }
+    ensures { Gives
+        (λ values. texts_among (items_view values.now)) (texts_in key (items_view values.entry.now)) result }
 {
     if are_texts(values) {
         Ok(values)

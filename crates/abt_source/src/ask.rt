@@ -40,13 +40,17 @@ impl<S: Up> Source<S> {
         store: &mut K,
         rate: Rate,
     ) -> Result<(Source<Asking>, Request), AskRefused<S>>
-        ensures seq_exhausted { (result ≡ Err (record { source = self; fault = AskFault.SeqExhausted })) ↔ (self.last ≡ u32.MAX) }
+        ensures seq_exhausted { (result ≡ Err (record { source = self; fault = AskFault.SeqExhausted })) ↔
+            (self.last ≡ u32.MAX) }
         ensures same { self.last ≡ u32.MAX → store.new ≡ store.old }
         ensures kept { self.last < u32.MAX → has_to_write self rate ≡ false →
             (store.new ≡ store.old) × (result ≡ request_goes self rate) }
-        ensures gives { self.last < u32.MAX → has_to_write self rate ≡ true → (answer : Result (Unit {0}) StoreFault)
-            × K.keep_gives store.old (record_to_write self rate) answer store.new × (result ≡ result_of_ask self rate answer) }
-        ensures ok { IfOk result (λ asked. has_to_write self rate ≡ true → K.content store.new ≡ asked.0.kept) }
+        ensures gives { self.last < u32.MAX → has_to_write self rate ≡ true →
+            (answer : Result (Unit {0}) StoreFault)
+            × K.keep_gives store.old (record_to_write self rate) answer store.new ×
+            (result ≡ result_of_ask self rate answer) }
+        ensures ok { IfOk result
+            (λ asked. has_to_write self rate ≡ true → K.content store.new ≡ asked.0.kept) }
         ensures covers { IfOk result (λ asked. (asked.1.seq ≤ asked.0.kept.number)
             × (need_for self rate ≤ asked.0.kept.spacing)) }
         ensures keep { IfErr result (λ refused. refused.fault ≡ AskFault.Keep →

@@ -17,7 +17,8 @@ impl<S: Up> Source<S> {
     /// The record that an ask for a rate has to write before its request goes out, or `None` where its number and its need
     /// are kept (docs/RULES.md, "Source").
     pub fn record_to_write(&self, rate: Rate) -> Option<Record>
-        ensures { result ≡ (if has_to_write self.now rate then Some (record_to_write self.now rate) else None) }
+        ensures { result ≡
+            (if has_to_write self.now rate then Some (record_to_write self.now rate) else None) }
     {
         let need = self.need(rate);
         if self.last < self.kept.number() && need <= self.kept.spacing() {

@@ -1,5 +1,5 @@
 -- What an audit leaves, over the files that are named or over the input that is there.
-use Rattle.std.specs.Prelude.{◌≡◌, ◌⊎◌, List, [], ◌∷◌, length, Option, String}
+use Rattle.std.specs.Prelude.{◌≡◌, ◌⊎◌, ⊤, List, [], ◌∷◌, length, Option, String}
 use Rattle.std.specs.declared.alloc.Global.{Global}
 use Rattle.std.specs.Io.KnownBytes.{Keeps}
 use Rattle.abt_text.specs.Text.{Text}
@@ -27,6 +27,11 @@ pub record IsShownAsOver (names : List (String Global)) (old new : Option Text) 
   pub lefts : List (Option Text)
   pub each : length lefts ≡ length names
   pub shown : IsShownAs lefts old new run
+
+-- what an audit takes of the input that is there: nothing where files are named
+abbrev pub TakesToAudit : AuditPlan → (old new : Option Text) → Type 0
+TakesToAudit Input old new = ⊤
+TakesToAudit (Files names) old new = Keeps old new
 
 -- the journals of the texts are shown to be this run, which is safe
 abbrev pub IsAuditedAs : AuditPlan → (left old new : Option Text) → AuditedRun → Type 0

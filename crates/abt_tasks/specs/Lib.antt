@@ -8,4 +8,5 @@ pub mod Keeping
 pub mod Showing
 pub mod Tasks
 pub mod Telling
+pub mod RunDrawing
 pub mod Opening

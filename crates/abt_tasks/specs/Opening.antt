@@ -1,13 +1,29 @@
 -- What is told of a file that can't be opened or read: its fault, and behind it its name and why (docs/FORMATS.md, "Checks").
 use Rattle.std.specs.Prelude.{◌⊎◌, List, [], ◌∷◌, Option, codes}
 use Rattle.std.specs.Io.KnownBytes.{Keeps}
+use Rattle.std.specs.declared.io.ErrorKind.{ErrorKind}
+use Rattle.std.specs.declared.io.ErrorKind.TheVariants as kind
 use Rattle.abt_text.specs.Text.{Text, newline}
 use Rattle.abt_perform.specs.Names.{fault_line}
 use Rattle.abt_perform.specs.Plans.{Tells}
 use Rattle.abt_perform.specs.declared.fault.Fault.TheVariants.{Read, Memory}
 use Rattle.abt_commands.specs.Carried.{open_line}
+use Rattle.abt_tasks.specs.declared.opening.Unopened.{Unopened}
+use Rattle.abt_tasks.specs.declared.opening.Unopened.TheVariants as unopened
 use Rattle.abt_tasks.specs.declared.opening.Why.{Why}
 use Rattle.abt_tasks.specs.declared.opening.Why.TheVariants.{Missing, Forbidden, Folder, ThroughFile, Name, Circle, Other}
+
+-- what came in place of a file, by what the error is to the system
+abbrev pub unopened_by : ErrorKind → Unopened
+unopened_by kind.OutOfMemory = unopened.Memory
+unopened_by kind.NotFound = unopened.Because Missing
+unopened_by kind.PermissionDenied = unopened.Because Forbidden
+unopened_by kind.IsADirectory = unopened.Because Folder
+unopened_by kind.NotADirectory = unopened.Because ThroughFile
+unopened_by kind.InvalidFilename = unopened.Because Name
+unopened_by kind.InvalidInput = unopened.Because Name
+unopened_by kind.FilesystemLoop = unopened.Because Circle
+unopened_by _ = unopened.Because Other
 
 -- the line of the fault: a folder is opened, and then can't be read
 abbrev pub unopened_line : Why → Text

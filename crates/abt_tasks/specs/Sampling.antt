@@ -2,9 +2,9 @@
 use Rattle.std.specs.Prelude.{◌⊎◌, Option}
 use Rattle.abt_text.specs.Text.{Text}
 use Rattle.abt_perform.specs.Plans.{Tells}
-use Rattle.abt_scenario_text.specs.Faults.{fault_line}
-use Rattle.abt_scenario_text.specs.Sent.{IsSaved, IsUnsaved}
-use Rattle.abt_scenario_text.specs.declared.fault.EventsFault.{EventsFault}
+use Rattle.abt_scenario.specs.Faults.{fault_line}
+use Rattle.abt_scenario.specs.Sent.{IsSaved, IsUnsaved}
+use Rattle.abt_scenario.specs.declared.text_fault.EventsFault.{EventsFault}
 use Rattle.abt_audit.specs.declared.auditing.AuditedRun.{AuditedRun}
 use Rattle.abt_audit.specs.declared.plan.SamplePlan.{SamplePlan}
 use Rattle.abt_tasks.specs.Audits.{IsAuditedAs, IsUnauditedHere}

@@ -11,17 +11,18 @@ use Rattle.abt_explain.specs.Explained.{IsExplained, IsRefused}
 use Rattle.abt_explain.specs.declared.plan.ExplainPlan.{ExplainPlan}
 use Rattle.abt_codes.specs.Printed as codes_printed
 use Rattle.abt_parts.specs.Answered as parts
-use Rattle.abt_tasks.specs.Audits.{IsAuditedHere, IsUnauditedHere}
+use Rattle.abt_tasks.specs.Audits.{IsAuditedHere, IsUnauditedHere, TakesToAudit}
 use Rattle.abt_tasks.specs.Check.{TakesToCheck, IsCheckedHere, IsFaultyHere}
 use Rattle.abt_tasks.specs.Checked as checked
 use Rattle.abt_tasks.specs.Drawing.{TakesToDraw}
 use Rattle.abt_tasks.specs.Json.{TakesToSay, IsSaidHere, IsUnsaidHere}
 use Rattle.abt_tasks.specs.Keeping.{TakesToKeep, IsKeptHere, IsUnkeptHere}
 use Rattle.abt_tasks.specs.Opening.{IsUnopenedFile}
+use Rattle.abt_tasks.specs.RunDrawing.{TakesToDrawRun, IsRunDrawnHere}
 use Rattle.abt_tasks.specs.Sampling.{IsSampledHere, IsUnsampledHere}
 use Rattle.abt_tasks.specs.Telling.{TakesToTell, IsToldHere, IsUntoldHere}
 use Rattle.abt_tasks.specs.declared.task.Task.{Task}
-use Rattle.abt_tasks.specs.declared.task.Task.TheVariants.{Plan, Checked, Keep, Tell, Explain, Check, Json, Audit, Sample, Parts, Codes, Draw}
+use Rattle.abt_tasks.specs.declared.task.Task.TheVariants.{Plan, Checked, Keep, Tell, Explain, Check, Json, Audit, Sample, Parts, Codes, Draw, DrawRun}
 
 abbrev pub IsAllowed : Task → Type 0
 IsAllowed (Plan plan) = IsWithinLimits plan
@@ -36,6 +37,7 @@ IsAllowed (Sample plan) = ⊤
 IsAllowed (Parts plan) = parts.IsAllowedPlan plan
 IsAllowed (Codes plan) = ⊤
 IsAllowed (Draw plan) = ⊤
+IsAllowed (DrawRun plan) = AreWorkers plan.workers
 
 -- the file whose scenario is to be explained
 abbrev pub file_of : ExplainPlan → Option Text
@@ -64,7 +66,7 @@ IsUnexplainedHere plan left old new errors_old errors_new = MatchOption (file_of
     (IsRefused left old new errors_old errors_new)
     (λ name. IsUnopenedFile name old new errors_old errors_new ⊎ IsRefusedOver old new errors_old errors_new)
 
--- what a task takes of the input that is there; where lines are answered, whatever it likes
+-- what a task takes of the input that is there; where it is read to its end, as lines or as journals, whatever it likes
 abbrev pub TakesOf : Task → (old new : Option Text) → Type 0
 TakesOf (Plan plan) old new = ReadsHere plan old new
 TakesOf (Checked plan) old new = checked.TakesToRun plan old new
@@ -73,11 +75,12 @@ TakesOf (Tell plan) old new = TakesToTell plan old new
 TakesOf (Explain plan) old new = TakesToExplain plan old new
 TakesOf (Check plan) old new = TakesToCheck plan old new
 TakesOf (Json plan) old new = TakesToSay plan old new
-TakesOf (Audit plan) old new = ⊤
-TakesOf (Sample plan) old new = ⊤
+TakesOf (Audit plan) old new = TakesToAudit plan old new
+TakesOf (Sample plan) old new = TakesToAudit plan.texts old new
 TakesOf (Parts plan) old new = ⊤
 TakesOf (Codes plan) old new = Keeps old new
 TakesOf (Draw plan) old new = TakesToDraw plan old new
+TakesOf (DrawRun plan) old new = TakesToDrawRun plan old new
 
 -- what the task prints went out, all of it; where it tells events of a run, on standard error, so did these. A picture
 -- is printed nowhere: it goes to its own file
@@ -94,6 +97,7 @@ IsCarriedOut (Sample plan) left old new errors_old errors_new = IsSampledHere pl
 IsCarriedOut (Parts plan) left old new errors_old errors_new = parts.IsAnswered plan left old new
 IsCarriedOut (Codes plan) left old new errors_old errors_new = codes_printed.IsPrinted plan old new
 IsCarriedOut (Draw plan) left old new errors_old errors_new = Keeps old new
+IsCarriedOut (DrawRun plan) left old new errors_old errors_new = Keeps old new × IsRunDrawnHere plan left
 
 -- what is told of a task that is carried out: a check beside a run, if it is asked for; what is told of events is said above; and else
 -- nothing
@@ -116,3 +120,4 @@ IsNotCarriedOut (Sample plan) left old new errors_old errors_new = IsUnsampledHe
 IsNotCarriedOut (Parts plan) left old new errors_old errors_new = parts.IsRefused plan left old new errors_old errors_new
 IsNotCarriedOut (Codes plan) left old new errors_old errors_new = codes_printed.IsRefused plan old new errors_old errors_new
 IsNotCarriedOut (Draw plan) left old new errors_old errors_new = Keeps old new
+IsNotCarriedOut (DrawRun plan) left old new errors_old errors_new = Keeps old new

@@ -8,10 +8,10 @@ use Rattle.abt_perform.specs.Plans.{Tells}
 use Rattle.abt_perform_threads.specs.Performing.{IsRunOf, IsRefused}
 use Rattle.abt_perform_threads.specs.declared.performing.JudgedRun.{JudgedRun}
 use Rattle.abt_perform_threads.specs.declared.telling.TellPlan.{TellPlan}
-use Rattle.abt_scenario_text.specs.Faults.{fault_line}
-use Rattle.abt_scenario_text.specs.Sent.{IsSaved, IsUnsaved}
-use Rattle.abt_scenario_text.specs.declared.fault.EventsFault.{EventsFault}
-use Rattle.abt_telling.specs.Told.{TellsEvents}
+use Rattle.abt_scenario.specs.Faults.{fault_line}
+use Rattle.abt_scenario.specs.Sent.{IsSaved, IsUnsaved}
+use Rattle.abt_scenario.specs.declared.text_fault.EventsFault.{EventsFault}
+use Rattle.abt_explain.specs.Told.{TellsEvents}
 use Rattle.abt_tasks.specs.Checked.{IsUnread, TellsCheck}
 use Rattle.abt_tasks.specs.Opening.{IsUnopenedFile}
 

@@ -32,6 +32,6 @@ fn reads_long(task: &Task) -> bool
         Task::Checked(_) | Task::Keep(_) | Task::Tell(_) | Task::Explain(_) => true,
         Task::Audit(_) | Task::Sample(_) => true,
         Task::Check(_) | Task::Parts(_) | Task::Codes(_) => false,
-        Task::Draw(_) => false,
+        Task::Draw(_) | Task::DrawRun(_) => false,
     }
 }

@@ -1,7 +1,7 @@
 //! Audits, over the files that are named or over the input that is there.
 ghost use Rattle.std.specs.Prelude.{◌≡◌, ◌⊎◌, length, IfOk, IfSome, IsSome, IsNone};
 ghost use Rattle.std.specs.Io.KnownBytes.{Keeps};
-ghost use Rattle.abt_tasks.specs.Audits.{IsAuditedAs, IsAuditedHere, IsUnauditedHere};
+ghost use Rattle.abt_tasks.specs.Audits.{IsAuditedAs, IsAuditedHere, IsUnauditedHere, TakesToAudit};
 
 use abt_audit::{AuditPlan, AuditedRun, show_audit};
 use abt_commands::line_of_unopened;
@@ -22,9 +22,12 @@ pub(crate) fn audit<T: Files + AllocGlobal, R: Read, W: Write, E: Write, P: Writ
     errors: &mut E,
 ) -> u8
     ensures status { (result ≡ 0) ⊎ (result ≡ 1) }
-    ensures ok { result ≡ 0 → IsAuditedHere plan.now (R.remaining input.old) (W.contents out.old) (W.contents out.new) }
+    ensures reads { TakesToAudit plan.now (R.remaining input.old) (R.remaining input.new) }
+    ensures ok { result ≡ 0 →
+        IsAuditedHere plan.now (R.remaining input.old) (W.contents out.old) (W.contents out.new) }
     ensures quiet { result ≡ 0 → Keeps (E.contents errors.old) (E.contents errors.new) }
-    ensures err { result ≡ 1 → IsUnauditedHere plan.now (R.remaining input.old) (W.contents out.old) (W.contents out.new)
+    ensures err { result ≡ 1 →
+        IsUnauditedHere plan.now (R.remaining input.old) (W.contents out.old) (W.contents out.new)
         (E.contents errors.old) (E.contents errors.new) }
 {
     match show_texts(rt, progress, plan, input, out, errors) {
@@ -45,9 +48,12 @@ pub(crate) fn show_texts<T: Files + AllocGlobal, R: Read, W: Write, E: Write, P:
     out: &mut W,
     errors: &mut E,
 ) -> Option<AuditedRun>
-    ensures ok { IfSome result (IsAuditedAs plan.now (R.remaining input.old) (W.contents out.old) (W.contents out.new)) }
+    ensures reads { TakesToAudit plan.now (R.remaining input.old) (R.remaining input.new) }
+    ensures ok { IfSome result (IsAuditedAs plan.now (R.remaining input.old) (W.contents out.old)
+        (W.contents out.new)) }
     ensures quiet { IsSome result → Keeps (E.contents errors.old) (E.contents errors.new) }
-    ensures err { IsNone result → IsUnauditedHere plan.now (R.remaining input.old) (W.contents out.old) (W.contents out.new)
+    ensures err { IsNone result →
+        IsUnauditedHere plan.now (R.remaining input.old) (W.contents out.old) (W.contents out.new)
         (E.contents errors.old) (E.contents errors.new) }
 {
     let names = match plan {
@@ -70,9 +76,11 @@ fn show_input<R: Read, W: Write, E: Write>(
     out: &mut W,
     errors: &mut E,
 ) -> Option<AuditedRun>
-    ensures ok { IfSome result (IsAuditedAs AuditPlan.Input (R.remaining input.old) (W.contents out.old) (W.contents out.new)) }
+    ensures ok { IfSome result (IsAuditedAs AuditPlan.Input (R.remaining input.old) (W.contents out.old)
+        (W.contents out.new)) }
     ensures quiet { IsSome result → Keeps (E.contents errors.old) (E.contents errors.new) }
-    ensures err { IsNone result → IsUnauditedHere AuditPlan.Input (R.remaining input.old) (W.contents out.old) (W.contents out.new)
+    ensures err { IsNone result →
+        IsUnauditedHere AuditPlan.Input (R.remaining input.old) (W.contents out.old) (W.contents out.new)
         (E.contents errors.old) (E.contents errors.new) }
 {
     let mut readers = Vec::new(alloc);

@@ -9,6 +9,7 @@ use crate::drawing::draw;
 use crate::explaining::explain;
 use crate::json::say_as_json;
 use crate::keeping::keep;
+use crate::run_drawing::draw_run;
 use crate::sampling::sample;
 use crate::task::Task;
 use crate::telling::tell;
@@ -37,10 +38,13 @@ where
     requires { IsAllowed task.now }
     ensures status { (result ≡ 0) ⊎ (result ≡ 1) }
     ensures reads { TakesOf task.now (R.remaining input.old) (R.remaining input.new) }
-    ensures ok { result ≡ 0 → IsCarriedOut task.now (R.remaining input.old) (W.contents out.old) (W.contents out.new)
+    ensures ok { result ≡ 0 →
+        IsCarriedOut task.now (R.remaining input.old) (W.contents out.old) (W.contents out.new)
         (E.contents errors.old) (E.contents errors.new) }
-    ensures told { result ≡ 0 → TellsOf task.now (R.remaining input.old) (E.contents errors.old) (E.contents errors.new) }
-    ensures err { result ≡ 1 → IsNotCarriedOut task.now (R.remaining input.old) (W.contents out.old) (W.contents out.new)
+    ensures told { result ≡ 0 →
+        TellsOf task.now (R.remaining input.old) (E.contents errors.old) (E.contents errors.new) }
+    ensures err { result ≡ 1 →
+        IsNotCarriedOut task.now (R.remaining input.old) (W.contents out.old) (W.contents out.new)
         (E.contents errors.old) (E.contents errors.new) }
 {
     match task {
@@ -56,5 +60,6 @@ where
         Task::Parts(plan) => perform_parts(rt.alloc(), plan, input, out, errors),
         Task::Codes(plan) => perform_codes(rt.alloc(), plan, out, errors),
         Task::Draw(plan) => draw(rt, plan, input, errors),
+        Task::DrawRun(plan) => draw_run(rt, plan, input, errors),
     }
 }

@@ -35,9 +35,12 @@ where
     requires { IsWithinLimits plan.now }
     ensures status { (result ≡ 0) ⊎ (result ≡ 1) }
     ensures reads { TakesToRun plan.now (R.remaining input.old) (R.remaining input.new) }
-    ensures ok { result ≡ 0 → IsDoneHere plan.now (R.remaining input.old) (W.contents out.old) (W.contents out.new) }
-    ensures told { result ≡ 0 → TellsHere plan.now (R.remaining input.old) (E.contents errors.old) (E.contents errors.new) }
-    ensures err { result ≡ 1 → IsRefusedHere plan.now (R.remaining input.old) (W.contents out.old) (W.contents out.new)
+    ensures ok { result ≡ 0 →
+        IsDoneHere plan.now (R.remaining input.old) (W.contents out.old) (W.contents out.new) }
+    ensures told { result ≡ 0 →
+        TellsHere plan.now (R.remaining input.old) (E.contents errors.old) (E.contents errors.new) }
+    ensures err { result ≡ 1 →
+        IsRefusedHere plan.now (R.remaining input.old) (W.contents out.old) (W.contents out.new)
         (E.contents errors.old) (E.contents errors.new) }
 {
     let Some(name) = file_of(plan) else {
@@ -67,9 +70,12 @@ fn over_reader<T: Threads + Wait + Sync, R: Read, W: Write, E: Write>(
     requires { IsWithinLimits plan.now }
     ensures status { (result ≡ 0) ⊎ (result ≡ 1) }
     ensures reads { ConsumesAtMost (R.remaining reader.old) (R.remaining reader.new) (text_max + 1) }
-    ensures ok { result ≡ 0 → IsDoneOver plan.now (R.remaining reader.old) (W.contents out.old) (W.contents out.new) }
-    ensures told { result ≡ 0 → TellsOver (R.remaining reader.old) (E.contents errors.old) (E.contents errors.new) }
-    ensures err { result ≡ 1 → IsRefusedOver plan.now (R.remaining reader.old) (W.contents out.old) (W.contents out.new)
+    ensures ok { result ≡ 0 →
+        IsDoneOver plan.now (R.remaining reader.old) (W.contents out.old) (W.contents out.new) }
+    ensures told { result ≡ 0 →
+        TellsOver (R.remaining reader.old) (E.contents errors.old) (E.contents errors.new) }
+    ensures err { result ≡ 1 →
+        IsRefusedOver plan.now (R.remaining reader.old) (W.contents out.old) (W.contents out.new)
         (E.contents errors.old) (E.contents errors.new) }
 {
     match octets_of(alloc, reader) {

@@ -21,9 +21,11 @@ pub(crate) fn check<T: Files + AllocGlobal, R: Read, W: Write, E: Write>(
 ) -> u8
     ensures status { (result ≡ 0) ⊎ (result ≡ 1) }
     ensures reads { TakesToCheck plan.now (R.remaining input.old) (R.remaining input.new) }
-    ensures ok { result ≡ 0 → IsCheckedHere plan.now (R.remaining input.old) (W.contents out.old) (W.contents out.new) }
+    ensures ok { result ≡ 0 →
+        IsCheckedHere plan.now (R.remaining input.old) (W.contents out.old) (W.contents out.new) }
     ensures quiet { result ≡ 0 → Keeps (E.contents errors.old) (E.contents errors.new) }
-    ensures err { result ≡ 1 → IsFaultyHere plan.now (R.remaining input.old) (W.contents out.old) (W.contents out.new)
+    ensures err { result ≡ 1 →
+        IsFaultyHere plan.now (R.remaining input.old) (W.contents out.old) (W.contents out.new)
         (E.contents errors.old) (E.contents errors.new) }
 {
     let Some(name) = file_of(plan) else {

@@ -7,7 +7,7 @@ ghost use Rattle.abt_tasks.specs.Drawing as spec;
 
 use crate::opening::{open_named, tell_unopened};
 use abt_commands::line_of_unopened;
-use abt_draw::{DrawFault, DrawPlan, drawing_of, tell_draw_fault};
+use abt_draw::{DrawFault, DrawPlan, PicturePlan, drawing_of, tell_draw_fault};
 use abt_perform::{MEMORY_LINE, WRITE_LINE, tell_text};
 use abt_text::put;
 use std::alloc::AllocGlobal;
@@ -28,13 +28,13 @@ pub(crate) fn draw<T: Files + AllocGlobal, R: Read, E: Write>(
     ensures quiet { result ≡ 0 → Keeps (E.contents errors.old) (E.contents errors.new) }
 {
     let Some(name) = file_of(plan) else {
-        let text = drawing_of(rt.alloc(), plan, input);
-        return keep_picture(rt, plan, text, errors);
+        let text = drawing_of(rt.alloc(), &plan.picture, input);
+        return keep_picture(rt, &plan.picture, text, errors);
     };
     match open_named(rt, name) {
         Ok(mut file) => {
-            let text = drawing_of(rt.alloc(), plan, &mut file);
-            keep_picture(rt, plan, text, errors)
+            let text = drawing_of(rt.alloc(), &plan.picture, &mut file);
+            keep_picture(rt, &plan.picture, text, errors)
         }
         Err(unopened) => {
             tell_unopened(name, unopened, errors);
@@ -54,9 +54,9 @@ fn file_of(plan: &DrawPlan) -> Option<&str>
 }
 
 // Writes a picture to its file, or tells why there is none.
-fn keep_picture<T: Files + AllocGlobal, E: Write>(
+pub(crate) fn keep_picture<T: Files + AllocGlobal, E: Write>(
     rt: &T,
-    plan: &DrawPlan,
+    plan: &PicturePlan,
     text: Result<String, DrawFault>,
     errors: &mut E,
 ) -> u8

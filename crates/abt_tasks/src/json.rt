@@ -57,9 +57,11 @@ pub(crate) fn say_as_json<T: Files + AllocGlobal, R: Read, W: Write, E: Write, P
 ) -> u8
     ensures status { (result ≡ 0) ⊎ (result ≡ 1) }
     ensures reads { TakesToSay plan.now (R.remaining input.old) (R.remaining input.new) }
-    ensures ok { result ≡ 0 → IsSaidHere plan.now (R.remaining input.old) (W.contents out.old) (W.contents out.new) }
+    ensures ok { result ≡ 0 →
+        IsSaidHere plan.now (R.remaining input.old) (W.contents out.old) (W.contents out.new) }
     ensures quiet { result ≡ 0 → Keeps (E.contents errors.old) (E.contents errors.new) }
-    ensures err { result ≡ 1 → IsUnsaidHere plan.now (R.remaining input.old) (W.contents out.old) (W.contents out.new)
+    ensures err { result ≡ 1 →
+        IsUnsaidHere plan.now (R.remaining input.old) (W.contents out.old) (W.contents out.new)
         (E.contents errors.old) (E.contents errors.new) }
 {
     match file_of(plan) {
@@ -80,7 +82,8 @@ fn say_named<T: Files + AllocGlobal, W: Write, E: Write, P: Write + Drop>(
     ensures status { (result ≡ 0) ⊎ (result ≡ 1) }
     ensures ok { result ≡ 0 → IsSaidOver plan.now (W.contents out.old) (W.contents out.new) }
     ensures quiet { result ≡ 0 → Keeps (E.contents errors.old) (E.contents errors.new) }
-    ensures err { result ≡ 1 → IsUnsaidOver (explains plan.now) plan.now name.now (W.contents out.old) (W.contents out.new)
+    ensures err { result ≡ 1 →
+        IsUnsaidOver (explains plan.now) plan.now name.now (W.contents out.old) (W.contents out.new)
         (E.contents errors.old) (E.contents errors.new) }
 {
     if explains(plan) {

@@ -60,9 +60,11 @@ where
     T: Files + AllocGlobal + Threads + Wait + Sync,
     ensures status { (result ≡ 0) ⊎ (result ≡ 1) }
     ensures reads { TakesToKeep plan.now (R.remaining input.old) (R.remaining input.new) }
-    ensures ok { result ≡ 0 → IsKeptHere plan.now (R.remaining input.old) (W.contents out.old) (W.contents out.new) }
+    ensures ok { result ≡ 0 →
+        IsKeptHere plan.now (R.remaining input.old) (W.contents out.old) (W.contents out.new) }
     ensures quiet { result ≡ 0 → Keeps (E.contents errors.old) (E.contents errors.new) }
-    ensures err { result ≡ 1 → IsUnkeptHere plan.now (R.remaining input.old) (W.contents out.old) (W.contents out.new)
+    ensures err { result ≡ 1 →
+        IsUnkeptHere plan.now (R.remaining input.old) (W.contents out.old) (W.contents out.new)
         (E.contents errors.old) (E.contents errors.new) }
 {
     let Some(name) = file_of(plan) else {
@@ -89,9 +91,11 @@ where
     T: Files + AllocGlobal + Threads + Wait + Sync,
     ensures status { (result ≡ 0) ⊎ (result ≡ 1) }
     ensures reads { ConsumesAtMost (R.remaining reader.old) (R.remaining reader.new) (text_max + 1) }
-    ensures ok { result ≡ 0 → IsKeptOver plan.now (R.remaining reader.old) (W.contents out.old) (W.contents out.new) }
+    ensures ok { result ≡ 0 →
+        IsKeptOver plan.now (R.remaining reader.old) (W.contents out.old) (W.contents out.new) }
     ensures quiet { result ≡ 0 → Keeps (E.contents errors.old) (E.contents errors.new) }
-    ensures err { result ≡ 1 → IsUnkeptOver plan.now (R.remaining reader.old) (W.contents out.old) (W.contents out.new)
+    ensures err { result ≡ 1 →
+        IsUnkeptOver plan.now (R.remaining reader.old) (W.contents out.old) (W.contents out.new)
         (E.contents errors.old) (E.contents errors.new) }
 {
     let unrun = match Unrun::read_from(rt.alloc(), reader) {

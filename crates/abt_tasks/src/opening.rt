@@ -47,7 +47,10 @@ fn is_folder<T: Files>(rt: &T, name: &str) -> bool {
     }
 }
 
-fn unopened_by(kind: ErrorKind) -> Unopened {
+// What came in place of a file, by what the error is to the system.
+fn unopened_by(kind: ErrorKind) -> Unopened
+    ensures { result ≡ spec.unopened_by kind }
+{
     let why = match kind {
         ErrorKind::OutOfMemory => return Unopened::Memory,
         ErrorKind::NotFound => Why::Missing,

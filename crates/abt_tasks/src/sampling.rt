@@ -2,12 +2,13 @@
 ghost use Rattle.std.specs.Prelude.{◌≡◌, ◌⊎◌};
 ghost use Rattle.std.specs.Io.KnownBytes.{Keeps};
 ghost use Rattle.abt_tasks.specs.Sampling.{IsSampledHere, IsUnsampledHere};
+ghost use Rattle.abt_tasks.specs.Audits.{TakesToAudit};
 
 use crate::auditing::show_texts;
 use abt_audit::SamplePlan;
 use abt_perform::tell_text;
 use abt_progress::Progress;
-use abt_scenario_text::save_events;
+use abt_scenario::save_events;
 use std::alloc::AllocGlobal;
 use std::io::{Read, Write};
 use std::rt::Files;
@@ -23,9 +24,12 @@ pub(crate) fn sample<T: Files + AllocGlobal, R: Read, W: Write, E: Write, P: Wri
     errors: &mut E,
 ) -> u8
     ensures status { (result ≡ 0) ⊎ (result ≡ 1) }
-    ensures ok { result ≡ 0 → IsSampledHere plan.now (R.remaining input.old) (W.contents out.old) (W.contents out.new) }
+    ensures reads { TakesToAudit plan.now.texts (R.remaining input.old) (R.remaining input.new) }
+    ensures ok { result ≡ 0 →
+        IsSampledHere plan.now (R.remaining input.old) (W.contents out.old) (W.contents out.new) }
     ensures quiet { result ≡ 0 → Keeps (E.contents errors.old) (E.contents errors.new) }
-    ensures err { result ≡ 1 → IsUnsampledHere plan.now (R.remaining input.old) (W.contents out.old) (W.contents out.new)
+    ensures err { result ≡ 1 →
+        IsUnsampledHere plan.now (R.remaining input.old) (W.contents out.old) (W.contents out.new)
         (E.contents errors.old) (E.contents errors.new) }
 {
     let Some(run) = show_texts(rt, progress, &plan.texts, input, out, errors) else {

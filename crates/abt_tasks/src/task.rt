@@ -1,4 +1,5 @@
 //! What the words of a command line ask for.
+use crate::run_drawing::DrawRunPlan;
 use abt_audit::{AuditPlan, SamplePlan};
 use abt_check::CheckPlan;
 use abt_codes::CodesPlan;
@@ -36,4 +37,6 @@ pub enum Task {
     Codes(CodesPlan),
     /// Draw a scenario.
     Draw(DrawPlan),
+    /// Run a scenario in threads, and draw the events that were woven.
+    DrawRun(DrawRunPlan),
 }

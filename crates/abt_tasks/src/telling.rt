@@ -11,11 +11,11 @@ ghost use Rattle.abt_tasks.specs.Telling as spec;
 use crate::checked::{tell_check, unread};
 use crate::opening::{open_named, tell_unopened};
 use abt_commands::{EVENTS, EXPLAIN, FILE, workers_of};
+use abt_explain::tell_events;
 use abt_perform::{WordsFault, tell_fault, tell_text};
 use abt_perform_threads::{JudgedRun, TellPlan, show_scenario};
 use abt_progress::{Progress, Watched};
-use abt_scenario_text::save_events;
-use abt_telling::tell_events;
+use abt_scenario::save_events;
 use abt_text::octets_of;
 use clap::ArgMatches;
 use std::alloc::{AllocError, AllocGlobal, Global};
@@ -68,9 +68,11 @@ where
     T: Files + AllocGlobal + Threads + Wait + Sync,
     ensures status { (result ≡ 0) ⊎ (result ≡ 1) }
     ensures reads { TakesToTell plan.now (R.remaining input.old) (R.remaining input.new) }
-    ensures ok { result ≡ 0 → IsToldHere plan.now (R.remaining input.old) (W.contents out.old) (W.contents out.new)
+    ensures ok { result ≡ 0 →
+        IsToldHere plan.now (R.remaining input.old) (W.contents out.old) (W.contents out.new)
         (E.contents errors.old) (E.contents errors.new) }
-    ensures err { result ≡ 1 → IsUntoldHere plan.now (R.remaining input.old) (W.contents out.old) (W.contents out.new)
+    ensures err { result ≡ 1 →
+        IsUntoldHere plan.now (R.remaining input.old) (W.contents out.old) (W.contents out.new)
         (E.contents errors.old) (E.contents errors.new) }
 {
     let Some(name) = file_of(plan) else {
@@ -100,9 +102,11 @@ where
     T: Files + AllocGlobal + Threads + Wait + Sync,
     ensures status { (result ≡ 0) ⊎ (result ≡ 1) }
     ensures reads { ConsumesAtMost (R.remaining reader.old) (R.remaining reader.new) (text_max + 1) }
-    ensures ok { result ≡ 0 → IsToldOver plan.now (R.remaining reader.old) (W.contents out.old) (W.contents out.new)
+    ensures ok { result ≡ 0 →
+        IsToldOver plan.now (R.remaining reader.old) (W.contents out.old) (W.contents out.new)
         (E.contents errors.old) (E.contents errors.new) }
-    ensures err { result ≡ 1 → IsUntoldOver plan.now (R.remaining reader.old) (W.contents out.old) (W.contents out.new)
+    ensures err { result ≡ 1 →
+        IsUntoldOver plan.now (R.remaining reader.old) (W.contents out.old) (W.contents out.new)
         (E.contents errors.old) (E.contents errors.new) }
 {
     match octets_of(rt.alloc(), reader) {

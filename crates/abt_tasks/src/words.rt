@@ -1,10 +1,11 @@
 //! The command line of the whole program, and the tasks that its words ask for.
-ghost use Rattle.std.specs.Prelude.{IfOk};
+ghost use Rattle.std.specs.Prelude.{IfOk, IfSome};
 ghost use Rattle.abt_tasks.specs.Tasks.{IsAllowed};
 
 use crate::asked::Asked;
 use crate::json::json_plan_of;
 use crate::keeping::keep_plan_of;
+use crate::run_drawing::draw_run_plan_of;
 use crate::streams::stream_of;
 use crate::task::Task;
 use crate::telling::tell_plan_of;
@@ -74,6 +75,9 @@ fn task_of(alloc: Global, name: &str, found: &ArgMatches<'_>) -> Result<Task, Wo
     if let Some(plan) = abt_check::plan_of(alloc, name, found)? {
         return Ok(Task::Check(plan));
     }
+    if let Some(task) = drawing_task_of(alloc, name, found)? {
+        return Ok(task);
+    }
     if let Some(plan) = abt_audit::sample_plan_of(alloc, name, found)? {
         return Ok(Task::Sample(plan));
     }
@@ -86,10 +90,24 @@ fn task_of(alloc: Global, name: &str, found: &ArgMatches<'_>) -> Result<Task, Wo
     if let Some(plan) = abt_codes::plan_of(alloc, name, found)? {
         return Ok(Task::Codes(plan));
     }
-    if let Some(plan) = abt_draw::plan_of(alloc, name, found)? {
-        return Ok(Task::Draw(plan));
-    }
     no_task(alloc)
+}
+
+// The task of a command that draws; None if it is another one.
+fn drawing_task_of(
+    alloc: Global,
+    name: &str,
+    found: &ArgMatches<'_>,
+) -> Result<Option<Task>, WordsFault>
+    ensures { IfOk result (λ task. IfSome task IsAllowed) }
+{
+    if let Some(plan) = draw_run_plan_of(alloc, name, found)? {
+        return Ok(Some(Task::DrawRun(plan)));
+    }
+    match abt_draw::plan_of(alloc, name, found)? {
+        Some(plan) => Ok(Some(Task::Draw(plan))),
+        None => Ok(None),
+    }
 }
 
 fn no_task(alloc: Global) -> Result<Task, WordsFault>

@@ -1,3 +1,4 @@
 pub mod Text
 pub mod Streams
 pub mod Words
+pub mod FirstFault

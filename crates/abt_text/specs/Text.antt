@@ -10,9 +10,12 @@ infixr 10 ◌⋅◌
 abbrev pub ◌⋅◌ : Text → Text → Text
 a ⋅ b = a ++ b
 
--- the line feed that ends each line
+-- the octet that ends each line, and a text of it alone
+abbrev pub line_feed : ℕ
+line_feed = 10
+
 abbrev pub newline : Text
-newline = 10 ∷ []
+newline = line_feed ∷ []
 
 -- a number in decimal digits, without leading zeros
 abbrev pub decimal : ℕ → Text

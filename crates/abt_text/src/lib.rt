@@ -9,7 +9,7 @@ mod writing;
 
 pub use code::HexCode;
 pub use numeral::{u16_of, u32_of, u64_of};
-pub use reading::{TEXT_MAX, TextFault, octets_of};
+pub use reading::{TEXT_MAX, TextFault, Unread, octets_of, read_some};
 pub use spaced::words_of;
 pub use writing::{Unwritten, put};
 

@@ -1,5 +1,5 @@
 //! All octets of a reader, up to a limit.
-ghost use Rattle.std.specs.Prelude.{◌≡◌, ◌<◌, ◌≤◌, ◌+◌, length, take, vec_len, IfOk, IfErr, IfSome, IsErrOf, OnErr};
+ghost use Rattle.std.specs.Prelude.{◌≡◌, ◌<◌, ◌≤◌, ◌+◌, length, take, vec_len, IfOk, IfSome, IsErrOf, OnErr};
 ghost use Rattle.std.specs.Io.KnownBytes.{Consumes, IsAtEnd, Keeps};
 ghost use Rattle.abt_text.specs.Streams.{ConsumesAtMost, text_max};
 
@@ -27,6 +27,11 @@ pub enum TextFault {
     Memory,
 }
 
+/// The reader failed.
+#[derive(Clone, Copy, Debug, PartialEq, Eq, Error)]
+#[error("the input can't be read")]
+pub struct Unread;
+
 /// All octets that a reader has left, at most [`TEXT_MAX`].
 ///
 /// One octet past the limit shows that the text is too long, and nothing is read behind it: a reader that
@@ -44,7 +49,9 @@ pub fn octets_of<R: Read>(alloc: Global, reader: &mut R) -> Result<Vec<u8>, Text
     let mut piece = [0; 4096];
     while text.len() <= TEXT_MAX {
         let room = (TEXT_MAX + 1 - text.len()).min(4096);
-        let count = read_some(reader, &mut piece[..room])?;
+        let Ok(count) = read_some(reader, &mut piece[..room]) else {
+            return Err(TextFault::Read);
+        };
         if count == 0 {
             return Ok(text);
         }
@@ -55,21 +62,22 @@ pub fn octets_of<R: Read>(alloc: Global, reader: &mut R) -> Result<Vec<u8>, Text
     Err(TextFault::TooLong)
 }
 
-// Reads the next octets, none only at the end or where there is no room.
-fn read_some<R: Read>(reader: &mut R, room: &mut [u8]) -> Result<usize, TextFault>
+/// Reads the next octets into some room, and gives how many they are: none only at the end. A read that was interrupted is tried again.
+pub fn read_some<R: Read>(reader: &mut R, room: &mut [u8]) -> Result<usize, Unread>
+    requires { 0 < length room.old }
     ensures within { IfOk result (λ count. count ≤ length room.new) }
     ensures same_room { length room.new ≡ length room.old }
-    ensures ok { IfOk result (λ count. Consumes (R.remaining reader.old) (R.remaining reader.new) (take count room.new)) }
-    ensures end { IfOk result (λ count. count ≡ 0 → 0 < length room.new → IsAtEnd (R.remaining reader.new)) }
+    ensures ok { IfOk result
+        (λ count. Consumes (R.remaining reader.old) (R.remaining reader.new) (take count room.new)) }
+    ensures end { IfOk result (λ count. count ≡ 0 → IsAtEnd (R.remaining reader.new)) }
     ensures err { OnErr result (Keeps (R.remaining reader.old) (R.remaining reader.new)) }
-    ensures fault { IfErr result (λ fault. fault ≡ TextFault.Read) }
 {
     for _try in 0..TRIES {
         match reader.read(room) {
             Ok(count) => return Ok(count),
             Err(error) if error.kind() == ErrorKind::Interrupted => {}
-            Err(_) => return Err(TextFault::Read),
+            Err(_) => return Err(Unread),
         }
     }
-    Err(TextFault::Read)
+    Err(Unread)
 }

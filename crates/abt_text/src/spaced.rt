@@ -8,8 +8,10 @@ ghost use Rattle.abt_text.specs.Words.{space, spaced, words_of, Lacks};
 /// The text is cut at each space. So where two spaces meet, or one stands at an end, there is an empty word, and a text without
 /// spaces is one word.
 pub fn words_of<'a>(text: &'a str, room: &mut [&'a str]) -> Option<usize>
-    ensures value { IfSome result (λ count. map (λ word. word.now) (take count room.new) ≡ words_of text.entry.now) }
-    ensures whole { IfSome result (λ count. spaced (map (λ word. word.now) (take count room.new)) ≡ text.entry.now) }
+    ensures value { IfSome result
+        (λ count. map (λ word. word.now) (take count room.new) ≡ words_of text.entry.now) }
+    ensures whole { IfSome result
+        (λ count. spaced (map (λ word. word.now) (take count room.new)) ≡ text.entry.now) }
     ensures within { IfSome result (λ count. count ≤ length room.new) }
     ensures len { length room.new ≡ length room.old }
     ensures none { IsNone result ↔ (length room.old < length (words_of text.entry.now)) }
@@ -33,7 +35,8 @@ pub fn words_of<'a>(text: &'a str, room: &mut [&'a str]) -> Option<usize>
 
 // The first word of a text and what stands behind the space after it, or `None` where the text has no space.
 fn first_word(text: &str) -> Option<(&str, &str)>
-    ensures some { IfSome result (λ cut. (text.now ≡ cut.0.now ++ (space ∷ cut.1.now)) × Lacks space cut.0.now) }
+    ensures some { IfSome result
+        (λ cut. (text.now ≡ cut.0.now ++ (space ∷ cut.1.now)) × Lacks space cut.0.now) }
     ensures none { IsNone result → Lacks space text.now }
 {
     for (place, octet) in text.as_bytes().iter().enumerate() {

@@ -30,7 +30,8 @@ pub fn put<W: Write>(writer: &mut W, text: &[u8]) -> Result<(), Unwritten>
 fn write_some<W: Write>(writer: &mut W, text: &[u8]) -> Result<usize, Unwritten>
     ensures some { IfOk result (λ count. 0 < count) }
     ensures within { IfOk result (λ count. count ≤ length text.now) }
-    ensures ok { IfOk result (λ count. Appends (W.contents writer.old) (W.contents writer.new) (take count text.now)) }
+    ensures ok { IfOk result
+        (λ count. Appends (W.contents writer.old) (W.contents writer.new) (take count text.now)) }
     ensures err { OnErr result (Keeps (W.contents writer.old) (W.contents writer.new)) }
 {
     for _try in 0..TRIES {

@@ -29,7 +29,7 @@ use Rattle.abt_model.proofs.Worlds.{outcome_of-known}
 use Rattle.abt_source.specs.declared.fault.StartFault.TheVariants.{TimeRange as StartTimeRange}
 use Rattle.abt_model.specs.declared.outcome.Outcome.TheVariants.{Started, StartRefused}
 use Rattle.abt_model.proofs.Served.{conn_within}
-use Rattle.abt_woven.specs.Projections.{is_enabled, past_of, entries_on}
+use Rattle.abt_weave.specs.Projections.{is_enabled, past_of, entries_on}
 use Rattle.abt_weave.specs.Candidates.{is_own_of, is_told}
 use Rattle.abt_weave.specs.Leaving.{facts_done}
 use Rattle.abt_weave.proofs.OwnReplays.{own_replayed}

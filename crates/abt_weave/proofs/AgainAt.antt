@@ -21,9 +21,9 @@ use Rattle.abt_model.proofs.Served.{conn_within}
 use Rattle.abt_model.proofs.Steps.{is_hop_tells}
 use Rattle.abt_model.proofs.Worlds.{outcome_of-known, lawful_at, facts_of-own}
 use Rattle.abt_model.specs.PortTable.{hop_visited}
-use Rattle.abt_woven.specs.Projections.{Visit, past_of, visit, steps_on, entries_on}
-use Rattle.abt_woven.specs.Stuck.{AreTurns, IsBeginning}
-use Rattle.abt_woven.proofs.Turns.{steps_turns, entries_turns}
+use Rattle.abt_weave.specs.Projections.{Visit, past_of, visit, steps_on, entries_on}
+use Rattle.abt_weave.specs.Stuck.{AreTurns, IsBeginning}
+use Rattle.abt_weave.proofs.Turns.{steps_turns, entries_turns}
 use Rattle.abt_weave.proofs.Alike.{AreRuns}
 use Rattle.abt_weave.proofs.Asks.{asked_below, told_alike}
 use Rattle.abt_weave.proofs.Candidates.{and_both}

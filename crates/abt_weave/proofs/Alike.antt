@@ -21,7 +21,7 @@ use Rattle.abt_model.proofs.Worlds.{cases_option, outcome_of-known, outcome_of-u
 use Rattle.abt_source.specs.SourceFacts.{request_of}
 use Rattle.abt_journal.specs.declared.input.PortInput.{PortInput}
 use Rattle.abt_journal.specs.declared.input.PortInput.TheVariants.{Request as RequestIn}
-use Rattle.abt_woven.specs.Projections.{input_of, past_of, steps_on}
+use Rattle.abt_weave.specs.Projections.{input_of, past_of, steps_on}
 use Rattle.abt_weave.proofs.Replays.{replayed, past_lawful, tables_replayed}
 
 -- two lists of events over a net, each of whose rates a code can name

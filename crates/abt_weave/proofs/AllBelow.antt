@@ -13,17 +13,17 @@ use Rattle.abt_model.specs.Outcomes.{conn_of, outcome_of}
 use Rattle.abt_model.proofs.Worlds.{cases_option, others_ask}
 use Rattle.abt_journal.specs.declared.entry.Entry.{Entry}
 use Rattle.abt_journal.specs.declared.input.PortInput.{PortInput}
-use Rattle.abt_source_journal.specs.declared.entry.SourceEntry.{SourceEntry}
-use Rattle.abt_source_journal.specs.declared.entry.SourceEntry.TheVariants.{Did, Sent, Arrived as ArrivedAt}
-use Rattle.abt_source_journal.specs.declared.journal.SourceJournal.{SourceJournal}
-use Rattle.abt_woven.specs.Projections.{Step, Visit, is_enabled, input_of, place_at_first, past_of, visit, steps_on, entry_made, entries_on}
-use Rattle.abt_woven.specs.Stuck.{Journaled, steps_in, entries_in, port_journal, source_journal, step_next, next_entry, IsBeginning, SourceMismatches, PortMismatches}
-use Rattle.abt_woven.specs.Woven.{IsWoven}
-use Rattle.abt_woven.specs.declared.actor.Actor.{Actor}
-use Rattle.abt_woven.specs.declared.actor.Actor.TheVariants.{Source, Port}
-use Rattle.abt_woven.specs.declared.actor.Stuck.{Stuck}
-use Rattle.abt_woven.proofs.Turns.{steps_turns, entries_turns}
-use Rattle.abt_weave.specs.Board.{IsActorSettled}
+use Rattle.abt_model.specs.declared.entry.SourceEntry.{SourceEntry}
+use Rattle.abt_model.specs.declared.entry.SourceEntry.TheVariants.{Did, Sent, Arrived as ArrivedAt}
+use Rattle.abt_model.specs.declared.journal.SourceJournal.{SourceJournal}
+use Rattle.abt_weave.specs.Projections.{Step, Visit, is_enabled, input_of, place_at_first, past_of, visit, steps_on, entry_made, entries_on}
+use Rattle.abt_weave.specs.Stuck.{RunJournals, steps_in, entries_in, port_journal, source_journal, step_next, next_entry, IsBeginning, SourceMismatches, PortMismatches}
+use Rattle.abt_weave.specs.Woven.{IsWoven}
+use Rattle.abt_weave.specs.declared.actor.Actor.{Actor}
+use Rattle.abt_weave.specs.declared.actor.Actor.TheVariants.{Source, Port}
+use Rattle.abt_weave.specs.declared.actor.Stuck.{Stuck}
+use Rattle.abt_weave.proofs.Turns.{steps_turns, entries_turns}
+use Rattle.abt_weave.specs.Progress.{IsActorSettled}
 use Rattle.abt_weave.specs.Faults.{left_at, left_below, source_left, port_left, all_left, NoneIsWoven}
 use Rattle.abt_weave.specs.Candidates.{is_told}
 use Rattle.abt_weave.proofs.Again.{own_again}
@@ -44,13 +44,13 @@ use Rattle.abt_weave.proofs.Prefixes.{get_beginning}
 use Rattle.abt_weave.proofs.SentBelow.{IsBelow}
 
 -- a list that goes further has the next step, and the next entry
-step_had : (net : Topology) (js : Journaled) (ended earlier : List Event) (event : Event) (v : Visit) → HaveEnded net js ended → AreBegun net js (event ∷ earlier) → visit net (past_of net earlier) event ≡ Some v →
+step_had : (net : Topology) (js : RunJournals) (ended earlier : List Event) (event : Event) (v : Visit) → HaveEnded net js ended → AreBegun net js (event ∷ earlier) → visit net (past_of net earlier) event ≡ Some v →
     length (steps_on net v.port earlier) < length (steps_on net v.port ended) → slice_get (steps_on net v.port ended) (length (steps_on net v.port earlier)) ≡ Some (step_next net earlier v)
 step_had net js ended earlier event v end begun is less =
     get_beginning (steps_on net v.port ended) (port_journal js v.port) (length (steps_on net v.port earlier)) (step_next net earlier v) (end.stands.placed.ports v.port) less
     (step_due net js event earlier v begun (visit_low net end.rules (past_of net earlier) event v is) is)
 
-entry_had : (net : Topology) (js : Journaled) (ended earlier : List Event) (event : Event) (c : ℕ) (x : SourceEntry) → HaveEnded net js ended → AreBegun net js (event ∷ earlier) → conn_of event ≡ Some c → c < length net.conns → entry_made net earlier event ≡ Some x →
+entry_had : (net : Topology) (js : RunJournals) (ended earlier : List Event) (event : Event) (c : ℕ) (x : SourceEntry) → HaveEnded net js ended → AreBegun net js (event ∷ earlier) → conn_of event ≡ Some c → c < length net.conns → entry_made net earlier event ≡ Some x →
     length (entries_on net c earlier) < length (entries_on net c ended) → slice_get (entries_on net c ended) (length (entries_on net c earlier)) ≡ Some x
 entry_had net js ended earlier event c x end begun whose low made less =
     get_beginning (entries_on net c ended) (source_journal js c) (length (entries_on net c earlier)) x (end.stands.placed.conns c) less
@@ -68,7 +68,7 @@ conn_there net c low = elim (cases_option (conn_at net c)) [
     some_there (k ∷ conns) (suc i) low none = some_there conns i (omega (arith, low)) none
 
 -- what a source did, where no port has a part in it
-own_has : (net : Topology) (js : Journaled) (ended earlier : List Event) (event : Event) → HaveEnded net js ended → All AsksRate earlier → AreBegun net js (event ∷ earlier) → IsBelow net earlier ended → visit net (past_of net earlier) event ≡ None →
+own_has : (net : Topology) (js : RunJournals) (ended earlier : List Event) (event : Event) → HaveEnded net js ended → All AsksRate earlier → AreBegun net js (event ∷ earlier) → IsBelow net earlier ended → visit net (past_of net earlier) event ≡ None →
     ConnHas net ended earlier event
 own_has net js ended earlier event end rates begun below nowhere c x whose made low =
     elim (cases_less (entries_on net c earlier) (entries_on net c ended) (below.conns c low)) [
@@ -135,14 +135,14 @@ alone_if net earlier ended (Arrive d cell at) c whose same = subst (λ n. entrie
 alone_if net earlier ended other c whose same = tt
 
 -- what comes to a port, by that port
-port_has : (net : Topology) (js : Journaled) (ended earlier : List Event) (event : Event) (v : Visit) → HaveEnded net js ended → AreBegun net js (event ∷ earlier) →
+port_has : (net : Topology) (js : RunJournals) (ended earlier : List Event) (event : Event) (v : Visit) → HaveEnded net js ended → AreBegun net js (event ∷ earlier) →
     visit net (past_of net earlier) event ≡ Some v → length (steps_on net v.port earlier) < length (steps_on net v.port ended) → PortHas net ended earlier event
 port_has net js ended earlier event v end begun is less w also =
     let here : v ≡ w = some_same (sym is ∙ also) in
     subst (λ (u : Visit). slice_get (steps_on net u.port ended) (length (steps_on net u.port earlier)) ≡ Some (step_next net earlier u)) here (step_had net js ended earlier event v end begun is less)
 
 -- what comes to a port alone, by that port
-alone_has : (net : Topology) (js : Journaled) (ended earlier : List Event) (event : Event) (v : Visit) → HaveEnded net js ended → All AsksRate earlier → AreBegun net js (event ∷ earlier) → IsBelow net earlier ended →
+alone_has : (net : Topology) (js : RunJournals) (ended earlier : List Event) (event : Event) (v : Visit) → HaveEnded net js ended → All AsksRate earlier → AreBegun net js (event ∷ earlier) → IsBelow net earlier ended →
     visit net (past_of net earlier) event ≡ Some v → entry_made net earlier event ≡ None → IsBelow net (event ∷ earlier) ended
 alone_has net js ended earlier event v end rates begun below is none =
     let p = v.port in
@@ -153,7 +153,7 @@ alone_has net js ended earlier event v end rates begun below is none =
     ]
 
 -- what comes to a port of a connection, by the port and by the source beside it
-beside_has : (net : Topology) (js : Journaled) (ended earlier : List Event) (event : Event) (v : Visit) (x : SourceEntry) → HaveEnded net js ended → All AsksRate earlier → AreBegun net js (event ∷ earlier) → IsBelow net earlier ended →
+beside_has : (net : Topology) (js : RunJournals) (ended earlier : List Event) (event : Event) (v : Visit) (x : SourceEntry) → HaveEnded net js ended → All AsksRate earlier → AreBegun net js (event ∷ earlier) → IsBelow net earlier ended →
     visit net (past_of net earlier) event ≡ Some v → entry_made net earlier event ≡ Some x → IsBelow net (event ∷ earlier) ended
 beside_has net js ended earlier event v x end rates begun below is made =
     let past = past_of net earlier in
@@ -193,7 +193,7 @@ beside_has net js ended earlier event v x end rates begun below is made =
       ])
     ]
 
-both_have : (net : Topology) (js : Journaled) (ended earlier : List Event) (event : Event) (v : Visit) → HaveEnded net js ended → All AsksRate earlier → AreBegun net js (event ∷ earlier) → IsBelow net earlier ended →
+both_have : (net : Topology) (js : RunJournals) (ended earlier : List Event) (event : Event) (v : Visit) → HaveEnded net js ended → All AsksRate earlier → AreBegun net js (event ∷ earlier) → IsBelow net earlier ended →
     visit net (past_of net earlier) event ≡ Some v → IsBelow net (event ∷ earlier) ended
 both_have net js ended earlier event v end rates begun below is = elim (cases_option (entry_made net earlier event)) [
   | inl none ↦ alone_has net js ended earlier event v end rates begun below is none
@@ -201,7 +201,7 @@ both_have net js ended earlier event v end rates begun below is = elim (cases_op
 ]
 
 -- all events that are beginnings of the journals are below those that have ended
-pub all_below : (net : Topology) (js : Journaled) (ended : List Event) → HaveEnded net js ended → (events : List Event) → All AsksRate events → AreBegun net js events → IsBelow net events ended
+pub all_below : (net : Topology) (js : RunJournals) (ended : List Event) → HaveEnded net js ended → (events : List Event) → All AsksRate events → AreBegun net js events → IsBelow net events ended
 all_below net js ended end [] rates begun = record { ports = λ p low. (steps_on net p ended, refl); conns = λ c low. (entries_on net c ended, refl) }
 all_below net js ended end (event ∷ earlier) rates begun =
     let before = others_ask event earlier rates in
@@ -220,7 +220,7 @@ journal_there (x ∷ xs) (suc i) low = journal_there xs i (omega (arith, low))
 same_begins : {A : Type 0} → (xs ys : List A) → xs ≡ ys → IsBeginning xs ys
 same_begins xs ys same = ([], sym same ∙ sym (append-nil xs))
 
-woven_begun : (net : Topology) (js : Journaled) → length js.ports ≡ length net.capacities → length js.sources ≡ length net.conns → (events : List Event) → IsWoven net js.ports js.sources events → AreBegun net js (reverse events)
+woven_begun : (net : Topology) (js : RunJournals) → length js.ports ≡ length net.capacities → length js.sources ≡ length net.conns → (events : List Event) → IsWoven net js.ports js.sources events → AreBegun net js (reverse events)
 woven_begun net js ports conns events woven = record {
   ports = λ p low.
       (let there = journal_there js.ports p (subst (λ n. p < n) (sym ports) low) in
@@ -231,7 +231,7 @@ woven_begun net js ports conns events woven = record {
 }
 
 -- a journal that is woven is all placed where events have ended
-pub source_whole : (net : Topology) (js : Journaled) (ended : List Event) → HaveEnded net js ended → length js.ports ≡ length net.capacities → length js.sources ≡ length net.conns → (events : List Event) → All AsksRate events →
+pub source_whole : (net : Topology) (js : RunJournals) (ended : List Event) → HaveEnded net js ended → length js.ports ≡ length net.capacities → length js.sources ≡ length net.conns → (events : List Event) → All AsksRate events →
     IsWoven net js.ports js.sources events → (c : ℕ) → c < length js.sources → length (entries_on net c ended) < length (source_journal js c) → ⊥
 source_whole net js ended end ports conns events rates woven c low left =
     let begun = woven_begun net js ports conns events woven in
@@ -244,7 +244,7 @@ source_whole net js ended end ports conns events rates woven c low left =
     let n = ap (λ l. length l) whole in
     omega (arith, e, n, left)
 
-pub port_whole : (net : Topology) (js : Journaled) (ended : List Event) → HaveEnded net js ended → length js.ports ≡ length net.capacities → length js.sources ≡ length net.conns → (events : List Event) → All AsksRate events →
+pub port_whole : (net : Topology) (js : RunJournals) (ended : List Event) → HaveEnded net js ended → length js.ports ≡ length net.capacities → length js.sources ≡ length net.conns → (events : List Event) → All AsksRate events →
     IsWoven net js.ports js.sources events → (p : ℕ) → p < length js.ports → length (steps_on net p ended) < length (port_journal js p) → ⊥
 port_whole net js ended end ports conns events rates woven p low left =
     let begun = woven_begun net js ports conns events woven in
@@ -257,34 +257,34 @@ port_whole net js ended end ports conns events rates woven p low left =
     let n = ap (λ l. length l) whole in
     omega (arith, e, n, left)
 
-pub entries_there : (js : Journaled) (c n : ℕ) (x : SourceEntry) → slice_get (source_journal js c) n ≡ Some x → c < length js.sources
+pub entries_there : (js : RunJournals) (c n : ℕ) (x : SourceEntry) → slice_get (source_journal js c) n ≡ Some x → c < length js.sources
 entries_there js c n x h = elim (cases_option (slice_get js.sources c)) [
   | inl none ↦ (let clash = ap (λ (o : Option SourceJournal). slice_get (entries_in o) n) (sym none) ∙ h in absurd (cc))
   | inr some ↦ slice_get_within js.sources c some.0 some.1
 ]
 
-pub steps_there : (js : Journaled) (p n : ℕ) (s : Step) → slice_get (port_journal js p) n ≡ Some s → p < length js.ports
+pub steps_there : (js : RunJournals) (p n : ℕ) (s : Step) → slice_get (port_journal js p) n ≡ Some s → p < length js.ports
 steps_there js p n s h = elim (cases_option (slice_get js.ports p)) [
   | inl none ↦ (let clash = ap (λ (o : Option (List Entry)). slice_get (steps_in o) n) (sym none) ∙ h in absurd (cc))
   | inr some ↦ slice_get_within js.ports p some.0 some.1
 ]
 
 -- an entry that mismatches is left
-source_none : (net : Topology) (js : Journaled) (ended : List Event) (c : ℕ) → HaveEnded net js ended → AreJournalsOf net js → SourceMismatches net js ended c → NoneIsWoven net js
+source_none : (net : Topology) (js : RunJournals) (ended : List Event) (c : ℕ) → HaveEnded net js ended → AreJournalsOf net js → SourceMismatches net js ended c → NoneIsWoven net js
 source_none net js ended c end are m events rates woven =
     let place = length (entries_on net c (m.turns ++ ended)) in
     let same = ap (λ (l : List SourceEntry). length l) (entries_turns net ended m.turns m.turned c) in
     let left = slice_get_within (source_journal js c) place (Did m.event m.told) m.next in
     source_whole net js ended end are.ports are.conns events rates woven c (entries_there js c place (Did m.event m.told) m.next) (subst (λ n. n < length (source_journal js c)) same left)
 
-port_none : (net : Topology) (js : Journaled) (ended : List Event) (p : ℕ) → HaveEnded net js ended → AreJournalsOf net js → PortMismatches net js ended p → NoneIsWoven net js
+port_none : (net : Topology) (js : RunJournals) (ended : List Event) (p : ℕ) → HaveEnded net js ended → AreJournalsOf net js → PortMismatches net js ended p → NoneIsWoven net js
 port_none net js ended p end are m events rates woven =
     let place = length (steps_on net p (m.turns ++ ended)) in
     let same = ap (λ (l : List Step). length l) (steps_turns net ended m.turns m.turned p) in
     let left = slice_get_within (port_journal js p) place m.step m.next in
     port_whole net js ended end are.ports are.conns events rates woven p (steps_there js p place m.step m.next) (subst (λ n. n < length (port_journal js p)) same left)
 
-pub mismatch_none : (net : Topology) (js : Journaled) (ended : List Event) (actor : Actor) → HaveEnded net js ended → AreJournalsOf net js → IsActorSettled net js ended actor true → NoneIsWoven net js
+pub mismatch_none : (net : Topology) (js : RunJournals) (ended : List Event) (actor : Actor) → HaveEnded net js ended → AreJournalsOf net js → IsActorSettled net js ended actor true → NoneIsWoven net js
 mismatch_none net js ended (Source c) end are settled = source_none net js ended c end are settled.marks
 mismatch_none net js ended (Port p) end are settled = port_none net js ended p end are settled.marks
 
@@ -298,7 +298,7 @@ at_its_end actor place entries end = elim (cases_Bool (nat_lt place entries)) [
   | inr not_less ↦ cond-false _ _ _ not_less
 ]
 
-pub order_none : (net : Topology) (js : Journaled) (ended : List Event) (stuck : List Stuck) → HaveEnded net js ended → AreJournalsOf net js → stuck ≡ all_left net js ended → stuck ≢ [] → NoneIsWoven net js
+pub order_none : (net : Topology) (js : RunJournals) (ended : List Event) (stuck : List Stuck) → HaveEnded net js ended → AreJournalsOf net js → stuck ≡ all_left net js ended → stuck ≢ [] → NoneIsWoven net js
 order_none net js ended stuck end are is some events rates woven =
     some (is
     ∙ ap (λ l. l ++ left_below (port_left net js ended) (length js.ports)) (none_below (source_left net js ended) (length js.sources)

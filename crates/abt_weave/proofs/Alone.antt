@@ -17,7 +17,7 @@ use Rattle.abt_model.specs.Reserved.{reserved_on}
 use Rattle.abt_journal.specs.declared.input.PortInput.TheVariants.{Capacity as CapacityIn}
 use Rattle.abt_journal.specs.declared.input.PortReply.{PortReply}
 use Rattle.abt_journal.specs.declared.input.PortReply.TheVariants.{Capped as CappedOut}
-use Rattle.abt_woven.specs.Projections.{Visit, reply_of, visit_alone, visit_of, visit}
+use Rattle.abt_weave.specs.Projections.{Visit, reply_of, visit_alone, visit_of, visit}
 use Rattle.abt_weave.proofs.PortEvents.{some_same, IsVisitAlone, visit_cases}
 
 pub reply_capped : (answer : Result (Unit {0}) CapacityFault) → reply_of (capped answer) ≡ Some (CappedOut answer)

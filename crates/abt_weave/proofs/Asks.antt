@@ -15,12 +15,12 @@ use Rattle.abt_model.specs.Outcomes.{facts_added}
 use Rattle.abt_model.specs.Past.{facts_of}
 use Rattle.abt_model.proofs.Chain.{asked_last, floor_more, ask_more}
 use Rattle.abt_model.proofs.Lawful.{Route, route_of, IsLawful}
-use Rattle.abt_source_journal.specs.declared.entry.SourceEntry.{SourceEntry}
-use Rattle.abt_source_journal.specs.declared.entry.SourceEntry.TheVariants.{Did, Sent, Arrived as ArrivedAt}
-use Rattle.abt_woven.specs.Projections.{past_of, entries_on}
-use Rattle.abt_woven.specs.Stuck.{IsBeginning}
-use Rattle.abt_woven.specs.Asked.{floor_in, ask_in}
-use Rattle.abt_woven.proofs.Asked.{floor_told, ask_told}
+use Rattle.abt_model.specs.declared.entry.SourceEntry.{SourceEntry}
+use Rattle.abt_model.specs.declared.entry.SourceEntry.TheVariants.{Did, Sent, Arrived as ArrivedAt}
+use Rattle.abt_weave.specs.Projections.{past_of, entries_on}
+use Rattle.abt_weave.specs.Stuck.{IsBeginning}
+use Rattle.abt_weave.specs.Asked.{floor_in, ask_in}
+use Rattle.abt_weave.proofs.AskedRates.{floor_told, ask_told}
 use Rattle.abt_weave.specs.Leaving.{facts_done}
 use Rattle.abt_weave.proofs.OwnFacts.{own, floor_of-own, ask_of-own}
 use Rattle.abt_weave.proofs.OwnReplays.{done-append, own_replayed}

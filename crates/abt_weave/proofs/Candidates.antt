@@ -9,9 +9,9 @@ use Rattle.abt_model.specs.Outcomes.{conn_of}
 use Rattle.abt_model.specs.PortTable.{hop_visited}
 use Rattle.abt_journal.specs.declared.input.PortInput.{PortInput}
 use Rattle.abt_journal.specs.declared.input.PortInput.TheVariants.{Request as RequestIn, Answer as AnswerIn, Arrive as ArriveIn, Capacity as CapacityIn}
-use Rattle.abt_source_journal.specs.declared.entry.SourceEntry.{SourceEntry}
-use Rattle.abt_source_journal.specs.declared.entry.SourceEntry.TheVariants.{Did, Sent, Arrived as ArrivedAt}
-use Rattle.abt_woven.specs.Asked.{floor_in, ask_in}
+use Rattle.abt_model.specs.declared.entry.SourceEntry.{SourceEntry}
+use Rattle.abt_model.specs.declared.entry.SourceEntry.TheVariants.{Did, Sent, Arrived as ArrivedAt}
+use Rattle.abt_weave.specs.Asked.{floor_in, ask_in}
 use Rattle.abt_weave.specs.Candidates.{is_sent_at, cell_arrived_at, event_by, channel_of}
 use Rattle.abt_weave.specs.Comes.{input_told, entry_beside}
 use Rattle.abt_weave.proofs.PortEvents.{some_same}

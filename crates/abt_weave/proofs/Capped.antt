@@ -19,13 +19,13 @@ use Rattle.abt_journal.specs.declared.input.PortInput.{PortInput}
 use Rattle.abt_journal.specs.declared.input.PortInput.TheVariants.{Request as RequestIn, Answer as AnswerIn, Arrive as ArriveIn, Capacity as CapacityIn}
 use Rattle.abt_journal.specs.declared.input.PortReply.{PortReply}
 use Rattle.abt_journal.specs.declared.input.PortReply.TheVariants.{Capped as CappedOut}
-use Rattle.abt_source_journal.specs.declared.entry.SourceEntry.{SourceEntry}
+use Rattle.abt_model.specs.declared.entry.SourceEntry.{SourceEntry}
 use Rattle.abt_world.specs.Standing.{WorldView, StandsFor}
-use Rattle.abt_woven.specs.Projections.{Step, Visit, reply_of, is_enabled, input_of, past_of, visit, steps_on, entries_on}
-use Rattle.abt_woven.specs.Stuck.{Journaled, next_step, step_next, Fits, AreTurns, ArePlaced}
-use Rattle.abt_woven.proofs.Placing.{fits_placed}
-use Rattle.abt_woven.proofs.Turns.{outcome_turns, steps_turns}
-use Rattle.abt_weave.specs.Board.{total, IsPlacing, IsPortSettled}
+use Rattle.abt_weave.specs.Projections.{Step, Visit, reply_of, is_enabled, input_of, past_of, visit, steps_on, entries_on}
+use Rattle.abt_weave.specs.Stuck.{RunJournals, next_step, step_next, Fits, AreTurns, ArePlaced}
+use Rattle.abt_weave.proofs.Placing.{fits_placed}
+use Rattle.abt_weave.proofs.Turns.{outcome_turns, steps_turns}
+use Rattle.abt_weave.specs.Progress.{total, IsPlacing, IsPortSettled}
 use Rattle.abt_weave.specs.Shown.{AreShown}
 use Rattle.abt_weave.proofs.Pasts.{past-is, pushed}
 use Rattle.abt_weave.proofs.Growth.{ArePlaces, entries_none, steps_other, steps_one, places_same, places_set}
@@ -56,7 +56,7 @@ enabled_reply net past p u =
     (λ high h. absurd (false≢true h))
 
 -- an entry that doesn't name its own place
-pub misplaced : (net : Topology) (js : Journaled) (earlier : List Event) (p : ℕ) (step : Step) → next_step net js earlier p ≡ Some step → step.place ≢ length (steps_on net p earlier) → IsPortSettled net js earlier p false
+pub misplaced : (net : Topology) (js : RunJournals) (earlier : List Event) (p : ℕ) (step : Step) → next_step net js earlier p ≡ Some step → step.place ≢ length (steps_on net p earlier) → IsPortSettled net js earlier p false
 misplaced net js earlier p step next differ = record {
   stuck = λ turns event v all is here fits.
       (let same : step ≡ step_next net (turns ++ earlier) v = some_same (sym next ∙ sym (steps_next net js earlier turns all p) ∙ ap (next_step net js (turns ++ earlier)) (sym here) ∙ fits.step v is) in
@@ -88,14 +88,14 @@ capacity_only net earlier turns all p u event v is here input = elim (visit_case
 ]
 
 -- a capacity that would be the next entry has the reply that this says
-capacity_fits : (net : Topology) (js : Journaled) (earlier turns : List Event) → AreTurns net earlier turns → (p u : ℕ) (step : Step) → next_step net js earlier p ≡ Some step → step.input ≡ CapacityIn u → (event : Event) (v : Visit) →
+capacity_fits : (net : Topology) (js : RunJournals) (earlier turns : List Event) → AreTurns net earlier turns → (p u : ℕ) (step : Step) → next_step net js earlier p ≡ Some step → step.input ≡ CapacityIn u → (event : Event) (v : Visit) →
     visit net (past_of net (turns ++ earlier)) event ≡ Some v → v.port ≡ p → Fits net js (turns ++ earlier) event → reply_of (outcome_of net (past_of net earlier) (Capacity p u)) ≡ Some step.reply
 capacity_fits net js earlier turns all p u step next input event v is here fits =
     let same : step ≡ step_next net (turns ++ earlier) v = some_same (sym next ∙ sym (steps_next net js earlier turns all p) ∙ ap (next_step net js (turns ++ earlier)) (sym here) ∙ fits.step v is) in
     capacity_only net earlier turns all p u event v is here (sym (ap (λ (s : Step). s.input) same) ∙ input) ∙ ap (λ (s : Step). Some s.reply) (sym same)
 
 -- a port that isn't in the net is given none
-pub capacity_absent : (net : Topology) (js : Journaled) (earlier : List Event) (p u : ℕ) (step : Step) → next_step net js earlier p ≡ Some step → step.input ≡ CapacityIn u →
+pub capacity_absent : (net : Topology) (js : RunJournals) (earlier : List Event) (p u : ℕ) (step : Step) → next_step net js earlier p ≡ Some step → step.input ≡ CapacityIn u →
     is_enabled (outcome_of net (past_of net earlier) (Capacity p u)) ≡ false → IsPortSettled net js earlier p false
 capacity_absent net js earlier p u step next input off = record {
   stuck = λ turns event v all is here fits.
@@ -107,7 +107,7 @@ capacity_absent net js earlier p u step next input off = record {
 }
 
 -- one that is answered otherwise than the entry says
-pub capacity_differs : (net : Topology) (js : Journaled) (earlier : List Event) (p u : ℕ) (step : Step) → next_step net js earlier p ≡ Some step → step.place ≡ length (steps_on net p earlier) → step.input ≡ CapacityIn u →
+pub capacity_differs : (net : Topology) (js : RunJournals) (earlier : List Event) (p u : ℕ) (step : Step) → next_step net js earlier p ≡ Some step → step.place ≡ length (steps_on net p earlier) → step.input ≡ CapacityIn u →
     is_enabled (outcome_of net (past_of net earlier) (Capacity p u)) ≡ true → reply_of (outcome_of net (past_of net earlier) (Capacity p u)) ≢ Some step.reply → IsPortSettled net js earlier p true
 capacity_differs net js earlier p u step next place input on differ =
     let past = past_of net earlier in
@@ -130,11 +130,11 @@ capacity_differs net js earlier p u step next place input on differ =
     }
 
 -- one that is answered as the entry says
-pub capacity_placed : (net : Topology) (js : Journaled) (events : List Event) (world new : WorldView) (sp pp : List ℕ) (p u : ℕ) (step : Step) →
+pub capacity_placed : (net : Topology) (js : RunJournals) (events : List Event) (world new : WorldView) (sp pp : List ℕ) (p u : ℕ) (step : Step) →
     IsPlacing net js events world sp pp → p < length pp → next_step net js (reverse events) p ≡ Some step → step.place ≡ length (steps_on net p (reverse events)) → step.input ≡ CapacityIn u →
     reply_of (outcome_of net (facts_after net events) (Capacity p u)) ≡ Some step.reply → StandsFor net (events ++ Capacity p u ∷ []) new →
     IsPlacing net js (events ++ Capacity p u ∷ []) new sp (set pp p (slice_index pp p + 1)) × (total sp + total pp < total sp + total (set pp p (slice_index pp p + 1)))
-capacity_placed net js events world new sp pp p u step board low next place input replies stands =
+capacity_placed net js events world new sp pp p u step progress low next place input replies stands =
     let earlier = reverse events in
     let event = Capacity p u in
     let answers : reply_of (outcome_of net (past_of net earlier) event) ≡ Some step.reply = subst (λ w. reply_of (outcome_of net w event) ≡ Some step.reply) (past-is net events) replies in
@@ -149,28 +149,28 @@ capacity_placed net js events world new sp pp p u step board low next place inpu
     } in (
       record {
         stands = stands;
-        placed = subst (ArePlaced net js) now (fits_placed net js earlier event board.placed fits);
-        shown = subst (AreShown net js) now (inl fits, board.shown);
-        source_count = board.source_count;
-        port_count = length-set pp p (slice_index pp p + 1) ∙ board.port_count;
+        placed = subst (ArePlaced net js) now (fits_placed net js earlier event progress.placed fits);
+        shown = subst (AreShown net js) now (inl fits, progress.shown);
+        source_count = progress.source_count;
+        port_count = length-set pp p (slice_index pp p + 1) ∙ progress.port_count;
         source_places = subst (λ l. ArePlaces sp (λ d. length (entries_on net d l))) now
-            (places_same sp (λ d. length (entries_on net d earlier)) (λ d. length (entries_on net d (event ∷ earlier))) (λ d. ap (λ (l : List SourceEntry). length l) (entries_none net earlier event d refl)) board.source_places);
+            (places_same sp (λ d. length (entries_on net d earlier)) (λ d. length (entries_on net d (event ∷ earlier))) (λ d. ap (λ (l : List SourceEntry). length l) (entries_none net earlier event d refl)) progress.source_places);
         port_places = subst (λ l. ArePlaces (set pp p (slice_index pp p + 1)) (λ q. length (steps_on net q l))) now
             (places_set pp p (λ q. length (steps_on net q earlier)) (λ q. length (steps_on net q (event ∷ earlier))) low
             (steps_one net earlier event p v is refl)
             (λ q differ. ap (λ (l : List Step). length l) (steps_other net earlier event q v is differ))
-            board.port_places);
+            progress.port_places);
       },
       (let b = sum-set_up pp p (slice_index pp p) low refl in omega (arith, b)),
     )
 
 -- the same of a board whose values are equal to these
-pub capacity_board : (net : Topology) (js : Journaled) (events more : List Event) (world new : WorldView) (sp pp : List ℕ) (p kp at u : ℕ) (step : Step) →
+pub capacity_progress : (net : Topology) (js : RunJournals) (events more : List Event) (world new : WorldView) (sp pp : List ℕ) (p kp at u : ℕ) (step : Step) →
     IsPlacing net js events world sp pp → p < length pp → next_step net js (reverse events) p ≡ Some step → step.place ≡ length (steps_on net p (reverse events)) → step.input ≡ CapacityIn u →
     reply_of (outcome_of net (facts_after net events) (Capacity p u)) ≡ Some step.reply → StandsFor net (events ++ Capacity p u ∷ []) new → more ≡ events ++ Capacity p u ∷ [] → kp ≡ p → at ≡ slice_index pp p →
     IsPlacing net js more new sp (set pp kp (at + 1)) × (total sp + total pp < total sp + total (set pp kp (at + 1)))
-capacity_board net js events more world new sp pp p kp at u step board low next place input replies stands is port_is at_is =
+capacity_progress net js events more world new sp pp p kp at u step progress low next place input replies stands is port_is at_is =
     subst (λ l. IsPlacing net js l new sp (set pp kp (at + 1)) × (total sp + total pp < total sp + total (set pp kp (at + 1)))) (sym is)
     (subst (λ n. IsPlacing net js (events ++ Capacity p u ∷ []) new sp (set pp n (at + 1)) × (total sp + total pp < total sp + total (set pp n (at + 1)))) (sym port_is)
     (subst (λ n. IsPlacing net js (events ++ Capacity p u ∷ []) new sp (set pp p (n + 1)) × (total sp + total pp < total sp + total (set pp p (n + 1)))) (sym at_is)
-    (capacity_placed net js events world new sp pp p u step board low next place input replies stands)))
+    (capacity_placed net js events world new sp pp p u step progress low next place input replies stands)))

@@ -11,15 +11,15 @@ use Rattle.abt_model.specs.Answers.{is_hop}
 use Rattle.abt_model.specs.PortTable.{hop_visited}
 use Rattle.abt_journal.specs.declared.entry.Entry.{Entry}
 use Rattle.abt_journal.specs.declared.input.PortInput.{PortInput}
-use Rattle.abt_source_journal.specs.declared.entry.SourceEntry.{SourceEntry}
-use Rattle.abt_source_journal.specs.declared.journal.SourceJournal.{SourceJournal}
+use Rattle.abt_model.specs.declared.entry.SourceEntry.{SourceEntry}
+use Rattle.abt_model.specs.declared.journal.SourceJournal.{SourceJournal}
 use Rattle.abt_world.specs.Standing.{WorldView}
-use Rattle.abt_woven.specs.Projections.{steps_on, entries_on}
-use Rattle.abt_woven.specs.Stuck.{Journaled, source_journal, entries_in, next_entry, IsBeginning}
+use Rattle.abt_weave.specs.Projections.{steps_on, entries_on}
+use Rattle.abt_weave.specs.Stuck.{RunJournals, source_journal, entries_in, next_entry, IsBeginning}
 use Rattle.abt_weave.specs.Candidates.{event_by}
 use Rattle.abt_weave.specs.Stops.{IsStop}
 use Rattle.abt_weave.specs.Comes.{input_told, Comes, IsComing}
-use Rattle.abt_weave.specs.Board.{journaled, IsPlacing}
+use Rattle.abt_weave.specs.Progress.{journaled, IsPlacing}
 use Rattle.abt_weave.proofs.SourceLooks.{place_read, source_read, next_read}
 use Rattle.abt_weave.proofs.Candidates.{found, only}
 
@@ -27,7 +27,7 @@ pub stop_low : (net : Topology) (input : PortInput) (p c hop : ℕ) → IsStop n
 stop_low net input p c hop stop = slice_get_within net.conns c stop.conn stop.known
 
 -- how far a source has come
-pub record IsBeside (net : Topology) (js : Journaled) (earlier : List Event) (c : ℕ) (entries : List SourceEntry) (come : ℕ) : Type 0 where
+pub record IsBeside (net : Topology) (js : RunJournals) (earlier : List Event) (c : ℕ) (entries : List SourceEntry) (come : ℕ) : Type 0 where
   pub within : come ≤ length entries
   pub placed : take come entries ≡ entries_on net c earlier
   pub next : slice_get entries come ≡ next_entry net js earlier c
@@ -41,20 +41,20 @@ taken_low xs ys n begins is = let e = ap (λ l. length l) begins.1 ∙ length-ap
 pub beside_read : (net : Topology) (ports : List (Vec Entry Global)) (sources : List SourceJournal) (events : List Event) (world : WorldView) (sp pp : List ℕ) (k : ℕ) (j : SourceJournal) (entries : List SourceEntry) (come : ℕ) →
     IsPlacing net (journaled ports sources) events world sp pp → k < length sources → j ≡ get_or sources k j → entries ≡ (get_or sources k j).entries → come ≡ get_or sp k come →
     IsBeside net (journaled ports sources) (reverse events) k entries come
-beside_read net ports sources events world sp pp k j entries come board low read are at =
+beside_read net ports sources events world sp pp k j entries come progress low read are at =
     let js = journaled ports sources in
-    let lowp : k < length sp = subst (λ n. k < n) (sym board.source_count) low in
-    let here : come ≡ length (entries_on net k (reverse events)) = place_read sp (λ d. length (entries_on net d (reverse events))) k come board.source_places lowp at in
+    let lowp : k < length sp = subst (λ n. k < n) (sym progress.source_count) low in
+    let here : come ≡ length (entries_on net k (reverse events)) = place_read sp (λ d. length (entries_on net d (reverse events))) k come progress.source_places lowp at in
     let journal : source_journal js k ≡ entries = ap entries_in (source_read ports sources k j low read) ∙ ap (λ (x : SourceJournal). x.entries) read ∙ sym are in
-    let begins : IsBeginning (entries_on net k (reverse events)) entries = subst (IsBeginning (entries_on net k (reverse events))) journal (board.placed.conns k) in
+    let begins : IsBeginning (entries_on net k (reverse events)) entries = subst (IsBeginning (entries_on net k (reverse events))) journal (progress.placed.conns k) in
     record {
       within = taken_low (entries_on net k (reverse events)) entries come begins here;
       placed = taken (entries_on net k (reverse events)) entries come begins here;
-      next = sym (next_read net ports sources events world sp pp k k j entries come board refl low read are at);
+      next = sym (next_read net ports sources events world sp pp k k j entries come progress refl low read are at);
     }
 
 -- the candidate that is found comes
-pub coming_found : (net : Topology) (js : Journaled) (earlier : List Event) (p c hop k place : ℕ) (input : PortInput) (entries : List SourceEntry) (come : ℕ) (event : Event) →
+pub coming_found : (net : Topology) (js : RunJournals) (earlier : List Event) (p c hop k place : ℕ) (input : PortInput) (entries : List SourceEntry) (come : ℕ) (event : Event) →
     IsStop net input p c hop → k ≡ c → IsBeside net js earlier k entries come → place ≡ length (steps_on net p earlier) →
     Some event ≡ event_by c hop place input (reverse (take come entries)) (slice_get entries come) → IsComing net js earlier p place input c event
 coming_found net js earlier p c hop k place input entries come event stop same beside at is =
@@ -76,14 +76,14 @@ coming_found net js earlier p c hop k place input entries come event stop same b
     }
 
 -- what comes stops at the port
-pub comes_stop : (net : Topology) (js : Journaled) (earlier : List Event) (p place : ℕ) (input : PortInput) (event : Event) → (comes : Comes net js earlier p place input event) →
+pub comes_stop : (net : Topology) (js : RunJournals) (earlier : List Event) (p place : ℕ) (input : PortInput) (event : Event) → (comes : Comes net js earlier p place input event) →
     IsStop net input p comes.c (hop_visited event)
 comes_stop net js earlier p place input event comes =
     let its = only place comes.c comes.conn.vc input (reverse (entries_on net comes.c earlier)) (next_entry net js earlier comes.c) event comes.whose comes.brings comes.beside in
     record { conn = comes.conn; known = comes.known; channel = its.channel; within = comes.within; port = comes.port }
 
 -- and is the candidate
-pub coming_only : (net : Topology) (js : Journaled) (earlier : List Event) (p c hop k place : ℕ) (input : PortInput) (entries : List SourceEntry) (come : ℕ) (event : Event) →
+pub coming_only : (net : Topology) (js : RunJournals) (earlier : List Event) (p c hop k place : ℕ) (input : PortInput) (entries : List SourceEntry) (come : ℕ) (event : Event) →
     (comes : Comes net js earlier p place input event) → c ≡ comes.c → hop ≡ hop_visited event → k ≡ c → IsBeside net js earlier k entries come →
     event_by c hop place input (reverse (take come entries)) (slice_get entries come) ≡ Some event
 coming_only net js earlier p c hop k place input entries come event comes whose hops same beside =
@@ -98,5 +98,5 @@ coming_only net js earlier p c hop k place input entries come event comes whose 
 -- the place of a port is how many steps it has had
 pub port_at : (net : Topology) (ports : List (Vec Entry Global)) (sources : List SourceJournal) (events : List Event) (world : WorldView) (sp pp : List ℕ) (p : ℕ) →
     IsPlacing net (journaled ports sources) events world sp pp → p < length ports → slice_index pp p ≡ length (steps_on net p (reverse events))
-port_at net ports sources events world sp pp p board low =
-    board.port_places p (subst (λ n. p < n) (sym (board.port_count ∙ length-map ports (λ (entries : Vec Entry Global). entries.items))) low)
+port_at net ports sources events world sp pp p progress low =
+    progress.port_places p (subst (λ n. p < n) (sym (progress.port_count ∙ length-map ports (λ (entries : Vec Entry Global). entries.items))) low)

@@ -14,13 +14,13 @@ use Rattle.abt_model.specs.Past.{Past, facts_of}
 use Rattle.abt_model.proofs.Worlds.{outcome_of-unknown, cases_option}
 use Rattle.abt_journal.specs.declared.entry.Entry.{Entry}
 use Rattle.abt_journal.specs.declared.input.PortInput.{PortInput}
-use Rattle.abt_source_journal.specs.declared.entry.SourceEntry.{SourceEntry}
-use Rattle.abt_source_journal.specs.declared.entry.SourceEntry.TheVariants.{Did, Sent, Arrived as ArrivedAt}
-use Rattle.abt_source_journal.specs.declared.journal.SourceJournal.{SourceJournal}
-use Rattle.abt_woven.specs.Projections.{Step, Visit, is_enabled, input_of, entry_of, place_at_first, past_of, visit, entry_made, steps_on, entries_on}
-use Rattle.abt_woven.specs.Stuck.{Journaled, steps_in, entries_in, port_journal, source_journal, step_next, ArePlaced, IsBeginning, StandsStill, PortMismatches, SourceMismatches}
+use Rattle.abt_model.specs.declared.entry.SourceEntry.{SourceEntry}
+use Rattle.abt_model.specs.declared.entry.SourceEntry.TheVariants.{Did, Sent, Arrived as ArrivedAt}
+use Rattle.abt_model.specs.declared.journal.SourceJournal.{SourceJournal}
+use Rattle.abt_weave.specs.Projections.{Step, Visit, is_enabled, input_of, entry_of, place_at_first, past_of, visit, entry_made, steps_on, entries_on}
+use Rattle.abt_weave.specs.Stuck.{RunJournals, steps_in, entries_in, port_journal, source_journal, step_next, ArePlaced, IsBeginning, StandsStill, PortMismatches, SourceMismatches}
 use Rattle.abt_weave.specs.Actors.{actor_count}
-use Rattle.abt_weave.specs.Board.{AreSettled}
+use Rattle.abt_weave.specs.Progress.{AreSettled}
 use Rattle.abt_weave.proofs.Candidates.{cond_some, and_both}
 use Rattle.abt_weave.specs.OneFault.{AreJournalsOf}
 use Rattle.abt_weave.proofs.OwnEvents.{own_conn, made_own}
@@ -65,19 +65,19 @@ own_or_visit net rules earlier other x none h = (outcome_of net (past_of net ear
 mark_at : (marks : List Bool) (i : ℕ) → i < length marks → (b : Bool) × (slice_get marks i ≡ Some b)
 mark_at marks i low = (get_or marks i false, slice_get-get_or marks i false low)
 
-entries_low : (js : Journaled) (c n : ℕ) (x : SourceEntry) → slice_get (source_journal js c) n ≡ Some x → c < length js.sources
+entries_low : (js : RunJournals) (c n : ℕ) (x : SourceEntry) → slice_get (source_journal js c) n ≡ Some x → c < length js.sources
 entries_low js c n x h = elim (cases_option (slice_get js.sources c)) [
   | inl none ↦ (let clash = ap (λ (o : Option SourceJournal). slice_get (entries_in o) n) (sym none) ∙ h in absurd (cc))
   | inr some ↦ slice_get_within js.sources c some.0 some.1
 ]
 
-steps_low : (js : Journaled) (p n : ℕ) (s : Step) → slice_get (port_journal js p) n ≡ Some s → p < length js.ports
+steps_low : (js : RunJournals) (p n : ℕ) (s : Step) → slice_get (port_journal js p) n ≡ Some s → p < length js.ports
 steps_low js p n s h = elim (cases_option (slice_get js.ports p)) [
   | inl none ↦ (let clash = ap (λ (o : Option (List Entry)). slice_get (steps_in o) n) (sym none) ∙ h in absurd (cc))
   | inr some ↦ slice_get_within js.ports p some.0 some.1
 ]
 
-pub all_still : (net : Topology) (js : Journaled) → AreJournalsOf net js → IsWithinRules net → (earlier : List Event) (marks : List Bool) → ArePlaced net js earlier →
+pub all_still : (net : Topology) (js : RunJournals) → AreJournalsOf net js → IsWithinRules net → (earlier : List Event) (marks : List Bool) → ArePlaced net js earlier →
     AreSettled net js earlier (actor_count net) marks → StandsStill net js earlier
 all_still net js are rules earlier marks placed settled = record {
   placed = placed;
@@ -105,13 +105,13 @@ all_still net js are rules earlier marks placed settled = record {
 }
 
 -- an actor without entries left doesn't mismatch
-pub beyond_source : (net : Topology) (js : Journaled) → AreJournalsOf net js → (earlier : List Event) (marks : List Bool) → AreSettled net js earlier (actor_count net) marks →
+pub beyond_source : (net : Topology) (js : RunJournals) → AreJournalsOf net js → (earlier : List Event) (marks : List Bool) → AreSettled net js earlier (actor_count net) marks →
     (c : ℕ) → (c < length net.conns → slice_get marks c ≡ Some false) → SourceMismatches net js earlier c → ⊥
 beyond_source net js are earlier marks settled c unmarked m =
     let low : c < length net.conns = subst (λ n. c < n) are.conns (entries_low js c (length (entries_on net c (m.turns ++ earlier))) (Did m.event m.told) m.next) in
     (source_settled net js earlier marks c false settled low (unmarked low)).marks m
 
-pub beyond_port : (net : Topology) (js : Journaled) → AreJournalsOf net js → (earlier : List Event) (marks : List Bool) → AreSettled net js earlier (actor_count net) marks →
+pub beyond_port : (net : Topology) (js : RunJournals) → AreJournalsOf net js → (earlier : List Event) (marks : List Bool) → AreSettled net js earlier (actor_count net) marks →
     (p : ℕ) → (p < length net.capacities → slice_get marks (length net.conns + p) ≡ Some false) → PortMismatches net js earlier p → ⊥
 beyond_port net js are earlier marks settled p unmarked m =
     let low : p < length net.capacities = subst (λ n. p < n) are.ports (steps_low js p (length (steps_on net p (m.turns ++ earlier))) m.step m.next) in

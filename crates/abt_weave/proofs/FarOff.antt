@@ -10,11 +10,11 @@ use Rattle.abt_model.specs.Events.{AsksRate}
 use Rattle.abt_model.specs.Outcomes.{conn_of, outcome_of}
 use Rattle.abt_model.specs.PortTable.{hop_visited}
 use Rattle.abt_model.proofs.Worlds.{lawful_at}
-use Rattle.abt_source_journal.specs.declared.entry.SourceEntry.{SourceEntry}
-use Rattle.abt_source_journal.specs.declared.entry.SourceEntry.TheVariants.{Sent}
-use Rattle.abt_woven.specs.Projections.{is_enabled, place_at_first, past_of, visit, steps_on, entry_made, entry_at, entries_on}
-use Rattle.abt_woven.specs.Stuck.{Journaled, AreTurns, IsBeginning, PortMismatches, SourceMismatches}
-use Rattle.abt_woven.proofs.Turns.{steps_turns, entries_turns}
+use Rattle.abt_model.specs.declared.entry.SourceEntry.{SourceEntry}
+use Rattle.abt_model.specs.declared.entry.SourceEntry.TheVariants.{Sent}
+use Rattle.abt_weave.specs.Projections.{is_enabled, place_at_first, past_of, visit, steps_on, entry_made, entry_at, entries_on}
+use Rattle.abt_weave.specs.Stuck.{RunJournals, AreTurns, IsBeginning, PortMismatches, SourceMismatches}
+use Rattle.abt_weave.proofs.Turns.{steps_turns, entries_turns}
 use Rattle.abt_weave.specs.Waking.{AreNear}
 use Rattle.abt_weave.proofs.Again.{hop_one, own_repeats}
 use Rattle.abt_weave.proofs.AgainAt.{turns_ask, ArrivesAlone, sent_again}
@@ -104,7 +104,7 @@ arrives_first net less more (Arrive d cell at) c whose same = subst (λ n. entri
 arrives_first net less more other c whose same = tt
 
 -- What comes to a port after such an event came before it.
-pub far_back : (net : Topology) (js : Journaled) (earlier : List Event) (last : Event) (p : ℕ) → steps_on net p (last ∷ earlier) ≡ steps_on net p earlier → (m : PortMismatches net js (last ∷ earlier) p) → (c : ℕ) → conn_of m.event ≡ Some c →
+pub far_back : (net : Topology) (js : RunJournals) (earlier : List Event) (last : Event) (p : ℕ) → steps_on net p (last ∷ earlier) ≡ steps_on net p earlier → (m : PortMismatches net js (last ∷ earlier) p) → (c : ℕ) → conn_of m.event ≡ Some c →
     IsFar net earlier last c (hop_visited m.event) → PortMismatches net js earlier p
 far_back net js earlier last p steps m c whose it =
     let later = last ∷ earlier in
@@ -127,7 +127,7 @@ far_back net js earlier last p steps m c whose it =
     ]
 
 -- What a source does after such an event it did before it.
-pub source_far : (net : Topology) (js : Journaled) (earlier : List Event) (last : Event) → AreRuns net (last ∷ earlier) earlier → (c : ℕ) → c < length net.conns → conn_of last ≡ Some c → 2 ≤ hop_visited last →
+pub source_far : (net : Topology) (js : RunJournals) (earlier : List Event) (last : Event) → AreRuns net (last ∷ earlier) earlier → (c : ℕ) → c < length net.conns → conn_of last ≡ Some c → 2 ≤ hop_visited last →
     SourceMismatches net js (last ∷ earlier) c → SourceMismatches net js earlier c
 source_far net js earlier last runs c low own high m =
     let later = last ∷ earlier in

@@ -8,9 +8,9 @@ use Rattle.std.proofs.lemmas.List.{append-nil, length-append}
 use Rattle.abt_net.specs.Topology.{Topology}
 use Rattle.abt_model.specs.declared.event.Event.{Event}
 use Rattle.abt_model.specs.Outcomes.{conn_of}
-use Rattle.abt_source_journal.specs.declared.entry.SourceEntry.{SourceEntry}
-use Rattle.abt_woven.specs.Projections.{Step, Visit, past_of, visit, step_at, steps_on, entry_made, entry_at, entries_on}
-use Rattle.abt_woven.proofs.Asked.{other_same}
+use Rattle.abt_model.specs.declared.entry.SourceEntry.{SourceEntry}
+use Rattle.abt_weave.specs.Projections.{Step, Visit, past_of, visit, step_at, steps_on, entry_made, entry_at, entries_on}
+use Rattle.abt_weave.proofs.AskedRates.{other_same}
 
 pub entries_other : (net : Topology) (earlier : List Event) (event : Event) (d : ℕ) → conn_of event ≢ Some d → entries_on net d (event ∷ earlier) ≡ entries_on net d earlier
 entries_other net earlier event d differ = other_same (conn_of event) d (entries_on net d earlier) differ (entry_made net earlier event)

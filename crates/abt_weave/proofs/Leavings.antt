@@ -14,10 +14,10 @@ use Rattle.abt_model.specs.PortTable.{port_table}
 use Rattle.abt_model.specs.Run.{facts_after}
 use Rattle.abt_journal.specs.declared.entry.Entry.{Entry}
 use Rattle.abt_journal.specs.Replay.{replay}
-use Rattle.abt_source_journal.specs.declared.entry.SourceEntry.{SourceEntry}
-use Rattle.abt_source_journal.specs.declared.journal.SourceJournal.{SourceJournal}
-use Rattle.abt_woven.specs.Projections.{Step, step_of, past_of, steps_on, entries_on}
-use Rattle.abt_woven.specs.Woven.{IsWoven}
+use Rattle.abt_model.specs.declared.entry.SourceEntry.{SourceEntry}
+use Rattle.abt_model.specs.declared.journal.SourceJournal.{SourceJournal}
+use Rattle.abt_weave.specs.Projections.{Step, step_of, past_of, steps_on, entries_on}
+use Rattle.abt_weave.specs.Woven.{IsWoven}
 use Rattle.abt_weave.specs.Leaving.{facts_done, LeavesAsJournaled}
 use Rattle.abt_weave.proofs.OwnFacts.{own, actor_of-own}
 use Rattle.abt_weave.proofs.OwnReplays.{own_replayed}

@@ -6,16 +6,16 @@ use Rattle.std.proofs.lemmas.Bool.Decides.{nat_tests}
 use Rattle.std.proofs.lemmas.List.{append_assoc, append-nil}
 use Rattle.abt_net.specs.Topology.{Topology}
 use Rattle.abt_model.specs.declared.event.Event.{Event}
-use Rattle.abt_woven.specs.declared.actor.Actor.{Actor}
-use Rattle.abt_woven.specs.declared.actor.Stuck.{Stuck}
-use Rattle.abt_woven.specs.Stuck.{Journaled}
+use Rattle.abt_weave.specs.declared.actor.Actor.{Actor}
+use Rattle.abt_weave.specs.declared.actor.Stuck.{Stuck}
+use Rattle.abt_weave.specs.Stuck.{RunJournals}
 use Rattle.abt_weave.specs.Actors.{actor_count, actor_at, placed_on, entry_count}
 use Rattle.abt_weave.specs.Faults.{left_at, left_below, source_left, port_left, all_left}
 use Rattle.abt_weave.specs.OneFault.{AreJournalsOf}
 use Rattle.abt_weave.proofs.Numbers.{source_at, port_at}
 
 -- what the actor of a number has left
-abbrev pub left_of : Topology → Journaled → List Event → ℕ → List Stuck
+abbrev pub left_of : Topology → RunJournals → List Event → ℕ → List Stuck
 left_of net js earlier number = left_at (actor_at net number) (placed_on net earlier (actor_at net number)) (entry_count js (actor_at net number))
 
 below_same : (one other : ℕ → List Stuck) (n : ℕ) → ((i : ℕ) → i < n → one i ≡ other i) → left_below one n ≡ left_below other n
@@ -30,7 +30,7 @@ below_sum left n (suc m) =
     ap (λ k. left_below left k) same ∙ ap (λ l. l ++ left (n + m)) (below_sum left n m) ∙ append_assoc (left_below left n) (left_below (λ i. left (n + i)) m) (left (n + m))
 
 -- what all have left by their numbers is what sources and then ports have
-pub lefts_all : (net : Topology) (js : Journaled) (earlier : List Event) → AreJournalsOf net js → left_below (left_of net js earlier) (actor_count net) ≡ all_left net js earlier
+pub lefts_all : (net : Topology) (js : RunJournals) (earlier : List Event) → AreJournalsOf net js → left_below (left_of net js earlier) (actor_count net) ≡ all_left net js earlier
 lefts_all net js earlier are =
     let left = λ (actor : Actor). left_at actor (placed_on net earlier actor) (entry_count js actor) in
     let n = length net.conns in

@@ -1,3 +1,7 @@
+pub mod Beginnings
+pub mod Placing
+pub mod Turns
+pub mod AskedRates
 pub mod Tries
 pub mod Numbers
 pub mod Pasts

@@ -27,9 +27,9 @@ use Rattle.abt_model.specs.Past.{facts_of}
 use Rattle.abt_model.proofs.Worlds.{conn_cases, cases_option, facts_of-own, facts_of-other}
 use Rattle.abt_journal.specs.declared.input.PortInput.{PortInput}
 use Rattle.abt_journal.specs.declared.input.PortInput.TheVariants.{Request as RequestIn, Arrive as ArriveIn}
-use Rattle.abt_source_journal.specs.declared.entry.SourceEntry.{SourceEntry}
-use Rattle.abt_source_journal.specs.declared.entry.SourceEntry.TheVariants.{Did, Sent, Arrived as ArrivedAt}
-use Rattle.abt_woven.specs.Projections.{Step, Visit, is_enabled, entry_of, place_at_first, past_of, visit, step_at, steps_on, entry_made, entries_on}
+use Rattle.abt_model.specs.declared.entry.SourceEntry.{SourceEntry}
+use Rattle.abt_model.specs.declared.entry.SourceEntry.TheVariants.{Did, Sent, Arrived as ArrivedAt}
+use Rattle.abt_weave.specs.Projections.{Step, Visit, is_enabled, entry_of, place_at_first, past_of, visit, step_at, steps_on, entry_made, entries_on}
 use Rattle.abt_weave.proofs.Candidates.{cond_some, and_both}
 use Rattle.abt_weave.proofs.Growth.{entries_other, entries_none}
 use Rattle.abt_weave.proofs.LineFacts.{line, line-append, rate_of-line, stored_of-line, emitted_of-line, writes-line, written_for-line}

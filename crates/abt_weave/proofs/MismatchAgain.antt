@@ -5,19 +5,19 @@ use Rattle.abt_net.specs.Topology.{Topology}
 use Rattle.abt_model.specs.declared.event.Event.{Event}
 use Rattle.abt_model.specs.Outcomes.{conn_of}
 use Rattle.abt_journal.specs.declared.input.PortReply.{PortReply}
-use Rattle.abt_source_journal.specs.declared.entry.SourceEntry.{SourceEntry}
-use Rattle.abt_woven.specs.Projections.{Step, steps_on, entry_made, entries_on}
-use Rattle.abt_woven.specs.Stuck.{Journaled, port_journal, source_journal, PortMismatches}
-use Rattle.abt_woven.proofs.Turns.{steps_turns, entries_turns}
+use Rattle.abt_model.specs.declared.entry.SourceEntry.{SourceEntry}
+use Rattle.abt_weave.specs.Projections.{Step, steps_on, entry_made, entries_on}
+use Rattle.abt_weave.specs.Stuck.{RunJournals, port_journal, source_journal, PortMismatches}
+use Rattle.abt_weave.proofs.Turns.{steps_turns, entries_turns}
 use Rattle.abt_weave.proofs.AgainAt.{AgainAt}
 
 -- The next entry of a port that mismatched does so, with the same step and reply.
-pub record MismatchesAs (net : Topology) (js : Journaled) (earlier : List Event) (p : ℕ) (step : Step) (reply : PortReply) : Type 0 where
+pub record MismatchesAs (net : Topology) (js : RunJournals) (earlier : List Event) (p : ℕ) (step : Step) (reply : PortReply) : Type 0 where
   pub mismatch : PortMismatches net js earlier p
   pub step_is : mismatch.step ≡ step
   pub reply_is : mismatch.visits.reply ≡ reply
 
-pub mismatch_again : (net : Topology) (js : Journaled) (less more : List Event) (p : ℕ) → (m : PortMismatches net js less p) → AgainAt net more (m.turns ++ less) m.event m.visits → steps_on net p less ≡ steps_on net p more →
+pub mismatch_again : (net : Topology) (js : RunJournals) (less more : List Event) (p : ℕ) → (m : PortMismatches net js less p) → AgainAt net more (m.turns ++ less) m.event m.visits → steps_on net p less ≡ steps_on net p more →
     ((c : ℕ) (x : SourceEntry) → conn_of m.event ≡ Some c → entry_made net (m.turns ++ less) m.event ≡ Some x → entries_on net c less ≡ entries_on net c more) → MismatchesAs net js more p m.step m.visits.reply
 mismatch_again net js less more p m at same beside =
     let before = m.turns ++ less in

@@ -7,8 +7,8 @@ use Rattle.abt_model.specs.Outcomes.{outcome_of}
 use Rattle.abt_model.specs.Run.{facts_after}
 use Rattle.abt_journal.specs.declared.input.PortInput.{PortInput}
 use Rattle.abt_journal.specs.declared.input.PortReply.{PortReply}
-use Rattle.abt_woven.specs.Projections.{is_enabled, reply_of, past_of}
-use Rattle.abt_woven.specs.Stuck.{Journaled, Fits}
+use Rattle.abt_weave.specs.Projections.{is_enabled, reply_of, past_of}
+use Rattle.abt_weave.specs.Stuck.{RunJournals, Fits}
 use Rattle.abt_weave.specs.Comes.{IsTurnOf, IsExpected}
 use Rattle.abt_weave.specs.Shown.{IsNeeded}
 use Rattle.abt_weave.proofs.Pasts.{past-is, pushed}
@@ -16,7 +16,7 @@ use Rattle.abt_weave.proofs.PortEvents.{comes_fits}
 use Rattle.abt_weave.proofs.PortLooks.{turn_turned, its_turn}
 
 -- a Turn that makes the expected event happen
-pub turn_needed : (net : Topology) (js : Journaled) (events : List Event) (sp : List ℕ) (p place : ℕ) (input : PortInput) (reply : PortReply) (c reached : ℕ) (event turn : Event) → IsTurnOf net event turn →
+pub turn_needed : (net : Topology) (js : RunJournals) (events : List Event) (sp : List ℕ) (p place : ℕ) (input : PortInput) (reply : PortReply) (c reached : ℕ) (event turn : Event) → IsTurnOf net event turn →
     is_enabled (outcome_of net (facts_after net events) turn) ≡ true → is_enabled (outcome_of net (facts_after net events) event) ≡ false →
     IsExpected net js (reverse (events ++ turn ∷ [])) sp p place input reply c reached event → reply_of (outcome_of net (facts_after net (events ++ turn ∷ [])) event) ≡ Some reply →
     IsNeeded net js (reverse events) turn

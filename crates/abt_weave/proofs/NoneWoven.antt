@@ -22,10 +22,10 @@ use Rattle.abt_model.proofs.Served.{conn_within}
 use Rattle.abt_model.proofs.Steps.{is_hop_tells}
 use Rattle.abt_model.proofs.Worlds.{conn_cases, cases_option, outcome_of-known, lawful_at, facts_of-own}
 use Rattle.abt_model.specs.PortTable.{hop_visited}
-use Rattle.abt_source_journal.specs.declared.entry.SourceEntry.{SourceEntry}
-use Rattle.abt_woven.specs.Projections.{Step, Visit, reply_of, past_of, visit, step_at, steps_on, entry_made, entry_at, entries_on}
-use Rattle.abt_woven.specs.Stuck.{Journaled, port_journal, source_journal, next_step, step_next, AreTurns, IsBeginning, StandsStill}
-use Rattle.abt_woven.proofs.Turns.{steps_turn, entries_turn, steps_turns, entries_turns}
+use Rattle.abt_model.specs.declared.entry.SourceEntry.{SourceEntry}
+use Rattle.abt_weave.specs.Projections.{Step, Visit, reply_of, past_of, visit, step_at, steps_on, entry_made, entry_at, entries_on}
+use Rattle.abt_weave.specs.Stuck.{RunJournals, port_journal, source_journal, next_step, step_next, AreTurns, IsBeginning, StandsStill}
+use Rattle.abt_weave.proofs.Turns.{steps_turn, entries_turn, steps_turns, entries_turns}
 use Rattle.abt_weave.proofs.Growth.{entries_other, entries_none, steps_none, steps_other}
 use Rattle.abt_weave.proofs.Places.{less_if, step_made, entries_made}
 use Rattle.abt_weave.proofs.PortEvents.{IsVisit, visit_cases, visit_is, has_reply, reply_enabled, some_same}
@@ -39,21 +39,21 @@ use Rattle.abt_weave.proofs.Replays.{no_visit, past_lawful}
 use Rattle.abt_weave.proofs.SentBelow.{IsBelow}
 
 -- events that are beginnings of the journals, as far as the net goes
-pub record AreBegun (net : Topology) (js : Journaled) (events : List Event) : Type 0 where
+pub record AreBegun (net : Topology) (js : RunJournals) (events : List Event) : Type 0 where
   pub ports : (p : ℕ) → p < length net.capacities → IsBeginning (steps_on net p events) (port_journal js p)
   pub conns : (c : ℕ) → c < length net.conns → IsBeginning (entries_on net c events) (source_journal js c)
 
 shorter : {A : Type 0} → (xs ys zs : List A) → IsBeginning (xs ++ ys) zs → IsBeginning xs zs
 shorter xs ys zs begins = (ys ++ begins.0, begins.1 ∙ append_assoc xs ys begins.0)
 
-pub begun_before : (net : Topology) (js : Journaled) (event : Event) (earlier : List Event) → AreBegun net js (event ∷ earlier) → AreBegun net js earlier
+pub begun_before : (net : Topology) (js : RunJournals) (event : Event) (earlier : List Event) → AreBegun net js (event ∷ earlier) → AreBegun net js earlier
 begun_before net js event earlier begun = record {
   ports = λ p low. shorter (steps_on net p earlier) (step_at p (length (steps_on net p earlier)) (visit net (past_of net earlier) event)) (port_journal js p) (begun.ports p low);
   conns = λ c low. shorter (entries_on net c earlier) (entry_at (conn_of event) c (entry_made net earlier event)) (source_journal js c) (begun.conns c low);
 }
 
 -- Events that stand still before journals.
-pub record HaveEnded (net : Topology) (js : Journaled) (ended : List Event) : Type 0 where
+pub record HaveEnded (net : Topology) (js : RunJournals) (ended : List Event) : Type 0 where
   pub rules : IsWithinRules net
   pub rates : All AsksRate ended
   pub stands : StandsStill net js ended
@@ -64,20 +64,20 @@ cases_less xs ys (([], is)) = inr (sym (is ∙ append-nil xs))
 cases_less xs ys ((y ∷ rest, is)) = inl (let e = ap (λ l. length l) is ∙ length-append xs (y ∷ rest) in omega (arith, e))
 
 -- the next step and the next entry by the journals
-pub step_due : (net : Topology) (js : Journaled) (event : Event) (earlier : List Event) (v : Visit) → AreBegun net js (event ∷ earlier) → v.port < length net.capacities → visit net (past_of net earlier) event ≡ Some v →
+pub step_due : (net : Topology) (js : RunJournals) (event : Event) (earlier : List Event) (v : Visit) → AreBegun net js (event ∷ earlier) → v.port < length net.capacities → visit net (past_of net earlier) event ≡ Some v →
     slice_get (port_journal js v.port) (length (steps_on net v.port earlier)) ≡ Some (step_next net earlier v)
 step_due net js event earlier v begun low is =
     get_whole (steps_on net v.port (event ∷ earlier)) (port_journal js v.port) (length (steps_on net v.port earlier)) (step_next net earlier v) (begun.ports v.port low)
     (ap (λ l. slice_get l (length (steps_on net v.port earlier))) (step_made net earlier event v is) ∙ get_last (steps_on net v.port earlier) (step_next net earlier v))
 
-pub entry_due : (net : Topology) (js : Journaled) (event : Event) (earlier : List Event) (c : ℕ) (x : SourceEntry) → AreBegun net js (event ∷ earlier) → conn_of event ≡ Some c → c < length net.conns → entry_made net earlier event ≡ Some x →
+pub entry_due : (net : Topology) (js : RunJournals) (event : Event) (earlier : List Event) (c : ℕ) (x : SourceEntry) → AreBegun net js (event ∷ earlier) → conn_of event ≡ Some c → c < length net.conns → entry_made net earlier event ≡ Some x →
     slice_get (source_journal js c) (length (entries_on net c earlier)) ≡ Some x
 entry_due net js event earlier c x begun whose low made =
     get_whole (entries_on net c (event ∷ earlier)) (source_journal js c) (length (entries_on net c earlier)) x (begun.conns c low)
     (ap (λ l. slice_get l (length (entries_on net c earlier))) (entries_made net earlier event c x made whose) ∙ get_last (entries_on net c earlier) x)
 
 -- a list below another stays so by an event whose entries the other has already
-port_on : (net : Topology) (js : Journaled) (ended earlier : List Event) (event : Event) (p : ℕ) → IsBeginning (steps_on net p earlier) (steps_on net p ended) →
+port_on : (net : Topology) (js : RunJournals) (ended earlier : List Event) (event : Event) (p : ℕ) → IsBeginning (steps_on net p earlier) (steps_on net p ended) →
     ((v : Visit) → visit net (past_of net earlier) event ≡ Some v → v.port ≡ p → slice_get (steps_on net p ended) (length (steps_on net p earlier)) ≡ Some (step_next net earlier v)) →
     IsBeginning (steps_on net p (event ∷ earlier)) (steps_on net p ended)
 port_on net js ended earlier event p begins has = elim (cases_option (visit net (past_of net earlier) event)) [
@@ -111,7 +111,7 @@ PortHas net ended earlier event = (v : Visit) → visit net (past_of net earlier
 abbrev pub ConnHas : Topology → List Event → List Event → Event → Type 0
 ConnHas net ended earlier event = (c : ℕ) (x : SourceEntry) → conn_of event ≡ Some c → entry_made net earlier event ≡ Some x → c < length net.conns → slice_get (entries_on net c ended) (length (entries_on net c earlier)) ≡ Some x
 
-pub below_on : (net : Topology) (js : Journaled) (ended earlier : List Event) (event : Event) → IsBelow net earlier ended → PortHas net ended earlier event → ConnHas net ended earlier event → IsBelow net (event ∷ earlier) ended
+pub below_on : (net : Topology) (js : RunJournals) (ended earlier : List Event) (event : Event) → IsBelow net earlier ended → PortHas net ended earlier event → ConnHas net ended earlier event → IsBelow net (event ∷ earlier) ended
 below_on net js ended earlier event below port conn = record {
   ports = λ p low. port_on net js ended earlier event p (below.ports p low) (λ v is here. subst (λ q. slice_get (steps_on net q ended) (length (steps_on net q earlier)) ≡ Some (step_next net earlier v)) here (port v is));
   conns = λ c low. conn_on net ended earlier event c (below.conns c low)
@@ -134,7 +134,7 @@ visit_low net rules past event v is = elim (visit_cases net past event v is) [
 ]
 
 -- what stands in the way of an end: an event that fits
-pub fits_again : (net : Topology) (js : Journaled) (ended earlier : List Event) (event : Event) (v : Visit) → HaveEnded net js ended → AreBegun net js (event ∷ earlier) → AgainAt net ended earlier event v → visit net (past_of net earlier) event ≡ Some v →
+pub fits_again : (net : Topology) (js : RunJournals) (ended earlier : List Event) (event : Event) (v : Visit) → HaveEnded net js ended → AreBegun net js (event ∷ earlier) → AgainAt net ended earlier event v → visit net (past_of net earlier) event ≡ Some v →
     steps_on net v.port earlier ≡ steps_on net v.port ended → ((c : ℕ) (x : SourceEntry) → conn_of event ≡ Some c → entry_made net earlier event ≡ Some x → entries_on net c earlier ≡ entries_on net c ended) → ⊥
 fits_again net js ended earlier event v end begun at is same beside =
     let more = at.turns ++ ended in
@@ -157,5 +157,5 @@ fits_again net js ended earlier event v end begun at is same beside =
           ∙ entry_due net js event earlier c x begun whose c_low made);
     })
 
-pub run_of : (net : Topology) (js : Journaled) (ended : List Event) → HaveEnded net js ended → IsRun net ended
+pub run_of : (net : Topology) (js : RunJournals) (ended : List Event) → HaveEnded net js ended → IsRun net ended
 run_of net js ended end = record { rules = end.rules; rates = end.rates }

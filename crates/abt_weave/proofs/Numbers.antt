@@ -8,12 +8,12 @@ use Rattle.std.proofs.lemmas.Bool.Decides.{nat_tests}
 use Rattle.abt_net.specs.Topology.{Topology}
 use Rattle.abt_model.specs.declared.event.Event.{Event}
 use Rattle.abt_journal.specs.declared.entry.Entry.{Entry}
-use Rattle.abt_source_journal.specs.declared.journal.SourceJournal.{SourceJournal}
-use Rattle.abt_woven.specs.declared.actor.Actor.TheVariants.{Source, Port}
-use Rattle.abt_woven.specs.Stuck.{Journaled}
+use Rattle.abt_model.specs.declared.journal.SourceJournal.{SourceJournal}
+use Rattle.abt_weave.specs.declared.actor.Actor.TheVariants.{Source, Port}
+use Rattle.abt_weave.specs.Stuck.{RunJournals}
 use Rattle.abt_weave.specs.Actors.{actor_count, actor_at}
 use Rattle.abt_weave.specs.OneFault.{AreJournalsOf}
-use Rattle.abt_weave.specs.Board.{journaled, IsSourceSettled, IsPortSettled, IsActorSettled, AreSettled}
+use Rattle.abt_weave.specs.Progress.{journaled, IsSourceSettled, IsPortSettled, IsActorSettled, AreSettled}
 
 pub are_journals : (net : Topology) (ports : List (Vec Entry Global)) (sources : List SourceJournal) → length sources ≡ length net.conns → length ports ≡ length net.capacities → AreJournalsOf net (journaled ports sources)
 are_journals net ports sources one other = record { ports = length-map ports (λ (entries : Vec Entry Global). entries.items) ∙ other; conns = one }
@@ -36,8 +36,8 @@ port_at net p = elim (cases_Bool (nat_lt (length net.conns + p) (length net.conn
   | inr not_less ↦ (let same : (length net.conns + p) - length net.conns ≡ p = omega arith in cond-false _ _ _ not_less ∙ ap (λ q. Port q) same)
 ]
 
-pub source_settled : (net : Topology) (js : Journaled) (earlier : List Event) (marks : List Bool) (c : ℕ) (b : Bool) → AreSettled net js earlier (actor_count net) marks → c < length net.conns → slice_get marks c ≡ Some b → IsSourceSettled net js earlier c b
+pub source_settled : (net : Topology) (js : RunJournals) (earlier : List Event) (marks : List Bool) (c : ℕ) (b : Bool) → AreSettled net js earlier (actor_count net) marks → c < length net.conns → slice_get marks c ≡ Some b → IsSourceSettled net js earlier c b
 source_settled net js earlier marks c b are low is = subst (λ a. IsActorSettled net js earlier a b) (source_at net c low) (are.each c b is)
 
-pub port_settled : (net : Topology) (js : Journaled) (earlier : List Event) (marks : List Bool) (p : ℕ) (b : Bool) → AreSettled net js earlier (actor_count net) marks → slice_get marks (length net.conns + p) ≡ Some b → IsPortSettled net js earlier p b
+pub port_settled : (net : Topology) (js : RunJournals) (earlier : List Event) (marks : List Bool) (p : ℕ) (b : Bool) → AreSettled net js earlier (actor_count net) marks → slice_get marks (length net.conns + p) ≡ Some b → IsPortSettled net js earlier p b
 port_settled net js earlier marks p b are is = subst (λ a. IsActorSettled net js earlier a b) (port_at net p) (are.each (length net.conns + p) b is)

@@ -9,14 +9,14 @@ use Rattle.abt_net.specs.declared.conn.Conn.{Conn}
 use Rattle.abt_model.specs.declared.event.Event.{Event}
 use Rattle.abt_model.specs.Events.{AsksRate}
 use Rattle.abt_model.specs.Outcomes.{outcome_of}
-use Rattle.abt_source_journal.specs.declared.entry.SourceEntry.{SourceEntry}
-use Rattle.abt_source_journal.specs.declared.entry.SourceEntry.TheVariants.{Did}
-use Rattle.abt_woven.specs.declared.actor.Actor.{Actor}
-use Rattle.abt_woven.specs.declared.actor.Actor.TheVariants.{Source, Port}
-use Rattle.abt_woven.specs.declared.actor.Stuck.{Stuck}
-use Rattle.abt_woven.specs.Projections.{Step, Visit, is_enabled, place_at_first, past_of, visit, steps_on, entries_on}
-use Rattle.abt_woven.specs.Stuck.{Journaled, port_journal, source_journal, AreTurns, IsBeginning, ArePlaced, StandsStill, PortMismatches, SourceMismatches}
-use Rattle.abt_woven.proofs.Turns.{steps_turns, entries_turns}
+use Rattle.abt_model.specs.declared.entry.SourceEntry.{SourceEntry}
+use Rattle.abt_model.specs.declared.entry.SourceEntry.TheVariants.{Did}
+use Rattle.abt_weave.specs.declared.actor.Actor.{Actor}
+use Rattle.abt_weave.specs.declared.actor.Actor.TheVariants.{Source, Port}
+use Rattle.abt_weave.specs.declared.actor.Stuck.{Stuck}
+use Rattle.abt_weave.specs.Projections.{Step, Visit, is_enabled, place_at_first, past_of, visit, steps_on, entries_on}
+use Rattle.abt_weave.specs.Stuck.{RunJournals, port_journal, source_journal, AreTurns, IsBeginning, ArePlaced, StandsStill, PortMismatches, SourceMismatches}
+use Rattle.abt_weave.proofs.Turns.{steps_turns, entries_turns}
 use Rattle.abt_weave.specs.Actors.{IsAmong, placed_on}
 use Rattle.abt_weave.specs.Candidates.{is_told}
 use Rattle.abt_weave.specs.Faults.{left_at, left_below, source_left, port_left, all_left, IsFirstMismatch, NoneMismatches}
@@ -33,46 +33,46 @@ use Rattle.abt_weave.proofs.PortEvents.{some_same, visit_cases, visit_is}
 use Rattle.abt_weave.proofs.SentBelow.{IsBelow}
 
 -- two lists of events that stand still before the journals of a net
-record AreEnds (net : Topology) (js : Journaled) (one other : List Event) : Type 0 where
+record AreEnds (net : Topology) (js : RunJournals) (one other : List Event) : Type 0 where
   journals : AreJournalsOf net js
   here : HaveEnded net js one
   there : HaveEnded net js other
 
-swapped : (net : Topology) (js : Journaled) (one other : List Event) → AreEnds net js one other → AreEnds net js other one
+swapped : (net : Topology) (js : RunJournals) (one other : List Event) → AreEnds net js one other → AreEnds net js other one
 swapped net js one other ends = record { journals = ends.journals; here = ends.there; there = ends.here }
 
 begins_both : {A : Type 0} → (xs ys : List A) → IsBeginning xs ys → IsBeginning ys xs → xs ≡ ys
 begins_both xs ys a b = whole_beginning xs ys a (let e = ap (λ l. length l) b.1 ∙ length-append ys b.0 in omega (arith, e))
 
-turns_begun : (net : Topology) (js : Journaled) (earlier turns : List Event) → AreTurns net earlier turns → ArePlaced net js earlier → AreBegun net js (turns ++ earlier)
+turns_begun : (net : Topology) (js : RunJournals) (earlier turns : List Event) → AreTurns net earlier turns → ArePlaced net js earlier → AreBegun net js (turns ++ earlier)
 turns_begun net js earlier turns all placed = record {
   ports = λ p low. subst (λ l. IsBeginning l (port_journal js p)) (sym (steps_turns net earlier turns all p)) (placed.ports p);
   conns = λ c low. subst (λ l. IsBeginning l (source_journal js c)) (sym (entries_turns net earlier turns all c)) (placed.conns c);
 }
 
-ends_below : (net : Topology) (js : Journaled) (one other : List Event) → AreEnds net js one other → (turns : List Event) → AreTurns net one turns → IsBelow net (turns ++ one) other
+ends_below : (net : Topology) (js : RunJournals) (one other : List Event) → AreEnds net js one other → (turns : List Event) → AreTurns net one turns → IsBelow net (turns ++ one) other
 ends_below net js one other ends turns all =
     all_below net js other ends.there (turns ++ one) (turns_ask net one turns all ends.here.rates) (turns_begun net js one turns all ends.here.stands.placed)
 
-same_steps : (net : Topology) (js : Journaled) (one other : List Event) → AreEnds net js one other → (p : ℕ) → p < length net.capacities → steps_on net p one ≡ steps_on net p other
+same_steps : (net : Topology) (js : RunJournals) (one other : List Event) → AreEnds net js one other → (p : ℕ) → p < length net.capacities → steps_on net p one ≡ steps_on net p other
 same_steps net js one other ends p low =
     begins_both (steps_on net p one) (steps_on net p other) ((ends_below net js one other ends [] tt).ports p low) ((ends_below net js other one (swapped net js one other ends) [] tt).ports p low)
 
-same_entries : (net : Topology) (js : Journaled) (one other : List Event) → AreEnds net js one other → (c : ℕ) → c < length net.conns → entries_on net c one ≡ entries_on net c other
+same_entries : (net : Topology) (js : RunJournals) (one other : List Event) → AreEnds net js one other → (c : ℕ) → c < length net.conns → entries_on net c one ≡ entries_on net c other
 same_entries net js one other ends c low =
     begins_both (entries_on net c one) (entries_on net c other) ((ends_below net js one other ends [] tt).conns c low) ((ends_below net js other one (swapped net js one other ends) [] tt).conns c low)
 
 -- the next entries are the same, also after Turns
-steps_there_too : (net : Topology) (js : Journaled) (one other turns more : List Event) → AreEnds net js one other → AreTurns net one turns → AreTurns net other more → (p : ℕ) → p < length net.capacities →
+steps_there_too : (net : Topology) (js : RunJournals) (one other turns more : List Event) → AreEnds net js one other → AreTurns net one turns → AreTurns net other more → (p : ℕ) → p < length net.capacities →
     steps_on net p (turns ++ one) ≡ steps_on net p (more ++ other)
 steps_there_too net js one other turns more ends all also p low = steps_turns net one turns all p ∙ same_steps net js one other ends p low ∙ sym (steps_turns net other more also p)
 
-entries_there_too : (net : Topology) (js : Journaled) (one other turns more : List Event) → AreEnds net js one other → AreTurns net one turns → AreTurns net other more → (c : ℕ) → c < length net.conns →
+entries_there_too : (net : Topology) (js : RunJournals) (one other turns more : List Event) → AreEnds net js one other → AreTurns net one turns → AreTurns net other more → (c : ℕ) → c < length net.conns →
     entries_on net c (turns ++ one) ≡ entries_on net c (more ++ other)
 entries_there_too net js one other turns more ends all also c low = entries_turns net one turns all c ∙ same_entries net js one other ends c low ∙ sym (entries_turns net other more also c)
 
 -- what mismatches at one end does so at the other
-source_again : (net : Topology) (js : Journaled) (one other : List Event) → AreEnds net js one other → (c : ℕ) → SourceMismatches net js one c → (c < length net.conns) × SourceMismatches net js other c
+source_again : (net : Topology) (js : RunJournals) (one other : List Event) → AreEnds net js one other → (c : ℕ) → SourceMismatches net js one c → (c < length net.conns) × SourceMismatches net js other c
 source_again net js one other ends c m =
     let more = m.turns ++ one in
     let event = m.event in
@@ -100,7 +100,7 @@ conn_low : (net : Topology) (c d : ℕ) (conn : Conn) → conn_at net c ≡ Some
 conn_low net c d conn known same = subst (λ n. n < length net.conns) same (slice_get_within net.conns c conn known)
 
 -- what came at one end finds the entries of its source at the other
-alone_where : (net : Topology) (js : Journaled) (one other : List Event) → AreEnds net js one other → (turns : List Event) → AreTurns net one turns → (event : Event) (v : Visit) →
+alone_where : (net : Topology) (js : RunJournals) (one other : List Event) → AreEnds net js one other → (turns : List Event) → AreTurns net one turns → (event : Event) (v : Visit) →
     visit net (past_of net (turns ++ one)) event ≡ Some v → ArrivesAlone net (turns ++ one) other event
 alone_where net js one other ends turns turned event v comes = elim (visit_cases net (past_of net (turns ++ one)) event v comes) [
   | inl parts ↦ alone_if net (turns ++ one) other event parts.c parts.whose
@@ -108,7 +108,7 @@ alone_where net js one other ends turns turned event v comes = elim (visit_cases
   | inr alone ↦ subst (ArrivesAlone net (turns ++ one) other) (sym alone.event_is) tt
 ]
 
-port_again : (net : Topology) (js : Journaled) (one other : List Event) → AreEnds net js one other → (p : ℕ) → PortMismatches net js one p → PortMismatches net js other p
+port_again : (net : Topology) (js : RunJournals) (one other : List Event) → AreEnds net js one other → (p : ℕ) → PortMismatches net js one p → PortMismatches net js other p
 port_again net js one other ends p m =
     let more = m.turns ++ one in
     let event = m.event in
@@ -140,7 +140,7 @@ below_same : (f g : ℕ → List Stuck) (n : ℕ) → ((i : ℕ) → i < n → f
 below_same f g zero same = refl
 below_same f g (suc n) same = ap (λ (l : List Stuck). l ++ f n) (below_same f g n (λ i low. same i (omega (arith, low)))) ∙ ap (λ (l : List Stuck). left_below g n ++ l) (same n (omega arith))
 
-left_same : (net : Topology) (js : Journaled) (one other : List Event) → AreEnds net js one other → all_left net js one ≡ all_left net js other
+left_same : (net : Topology) (js : RunJournals) (one other : List Event) → AreEnds net js one other → all_left net js one ≡ all_left net js other
 left_same net js one other ends =
     let sources = below_same (source_left net js one) (source_left net js other) (length js.sources)
     (λ c low. ap (λ (l : List SourceEntry). left_at (Source c) (length l) (length (source_journal js c))) (same_entries net js one other ends c (subst (λ n. c < n) ends.journals.conns low))) in
@@ -154,10 +154,10 @@ first_only zero (suc m) a b = absurd (a (omega arith))
 first_only (suc n) zero a b = absurd (b (omega arith))
 first_only (suc n) (suc m) a b = ap suc (first_only n m (λ h. a (omega (arith, h))) (λ h. b (omega (arith, h))))
 
-port_low : (net : Topology) (js : Journaled) (one : List Event) (p : ℕ) → IsWithinRules net → PortMismatches net js one p → p < length net.capacities
+port_low : (net : Topology) (js : RunJournals) (one : List Event) (p : ℕ) → IsWithinRules net → PortMismatches net js one p → p < length net.capacities
 port_low net js one p rules m = subst (λ q. q < length net.capacities) m.here (visit_low net rules (past_of net (m.turns ++ one)) m.event m.visits m.comes)
 
-mismatch_same : (net : Topology) (js : Journaled) (one other : List Event) → AreEnds net js one other → (a b : Actor) (n m : ℕ) → IsFirstMismatch net js one a n → IsFirstMismatch net js other b m → Mismatch a n ≡ Mismatch b m
+mismatch_same : (net : Topology) (js : RunJournals) (one other : List Event) → AreEnds net js one other → (a b : Actor) (n m : ℕ) → IsFirstMismatch net js one a n → IsFirstMismatch net js other b m → Mismatch a n ≡ Mismatch b m
 mismatch_same net js one other ends (Source c) (Source d) n m h k =
     let back = swapped net js one other ends in
     let mine = source_again net js one other ends c h.1 in
@@ -172,14 +172,14 @@ mismatch_same net js one other ends (Port p) (Port q) n m h k =
     let place : n ≡ m = h.0 ∙ ap (λ (l : List Step). length l) (same_steps net js one other ends p (port_low net js one p ends.here.rules h.1)) ∙ ap (λ x. length (steps_on net x other)) same ∙ sym k.0 in
     ap (λ x. Mismatch (Port x) n) same ∙ ap (λ x. Mismatch (Port q) x) place
 
-none_mismatch : (net : Topology) (js : Journaled) (one other : List Event) → AreEnds net js one other → (a : Actor) (n : ℕ) → IsFirstMismatch net js one a n → NoneMismatches net js other → ⊥
+none_mismatch : (net : Topology) (js : RunJournals) (one other : List Event) → AreEnds net js one other → (a : Actor) (n : ℕ) → IsFirstMismatch net js one a n → NoneMismatches net js other → ⊥
 none_mismatch net js one other ends (Source c) n h none = none.sources c (source_again net js one other ends c h.1).1
 none_mismatch net js one other ends (Port p) n h none = none.ports p (port_again net js one other ends p h.1)
 
-ended : (net : Topology) (js : Journaled) → IsWithinRules net → (events : List Event) → All AsksRate events → StandsStill net js (reverse events) → HaveEnded net js (reverse events)
+ended : (net : Topology) (js : RunJournals) → IsWithinRules net → (events : List Event) → All AsksRate events → StandsStill net js (reverse events) → HaveEnded net js (reverse events)
 ended net js rules events rates stands = record { rules = rules; rates = all_reversed AsksRate events rates; stands = stands }
 
-pub one_end : (net : Topology) (js : Journaled) → IsWithinRules net → AreJournalsOf net js → HaveOneEnd net js
+pub one_end : (net : Topology) (js : RunJournals) → IsWithinRules net → AreJournalsOf net js → HaveOneEnd net js
 one_end net js rules are one other rates more stands still actor among =
     at actor among
   where
@@ -190,7 +190,7 @@ one_end net js rules are one other rates more stands still actor among =
     at (Source c) low = ap (λ (l : List SourceEntry). length l) (same_entries net js one other ends c low)
     at (Port p) low = ap (λ (l : List Step). length l) (same_steps net js one other ends p low)
 
-pub one_fault : (net : Topology) (js : Journaled) → IsWithinRules net → AreJournalsOf net js → HaveOneFault net js
+pub one_fault : (net : Topology) (js : RunJournals) → IsWithinRules net → AreJournalsOf net js → HaveOneFault net js
 one_fault net js rules are Memory other first second h k = absurd (first refl)
 one_fault net js rules are (Mismatch a n) Memory first second h k = absurd (second refl)
 one_fault net js rules are (NoOrder s) Memory first second h k = absurd (second refl)

@@ -6,8 +6,8 @@ use Rattle.abt_model.specs.declared.event.Event.{Event}
 use Rattle.abt_model.specs.declared.event.Event.TheVariants.{Arrive}
 use Rattle.abt_model.specs.Events.{AsksRate}
 use Rattle.abt_model.specs.Outcomes.{outcome_of}
-use Rattle.abt_source_journal.specs.declared.entry.SourceEntry.TheVariants.{Did}
-use Rattle.abt_woven.specs.Projections.{is_enabled, place_at_first, past_of}
+use Rattle.abt_model.specs.declared.entry.SourceEntry.TheVariants.{Did}
+use Rattle.abt_weave.specs.Projections.{is_enabled, place_at_first, past_of}
 use Rattle.abt_weave.specs.Candidates.{is_told}
 use Rattle.abt_weave.specs.OneLaw.{AreBegun, HasSameSource, PortsReplyAgain, SourcesAnswerAgain}
 use Rattle.abt_weave.proofs.Again.{own_again}

@@ -18,17 +18,17 @@ use Rattle.abt_model.specs.declared.outcome.Outcome.{Outcome}
 use Rattle.abt_model.specs.Outcomes.{conn_of, outcome_of}
 use Rattle.abt_journal.specs.declared.input.PortInput.{PortInput}
 use Rattle.abt_journal.specs.declared.input.PortReply.{PortReply}
-use Rattle.abt_source_journal.specs.declared.entry.SourceEntry.{SourceEntry}
-use Rattle.abt_source_journal.specs.declared.entry.SourceEntry.TheVariants.{Did, Sent}
+use Rattle.abt_model.specs.declared.entry.SourceEntry.{SourceEntry}
+use Rattle.abt_model.specs.declared.entry.SourceEntry.TheVariants.{Did, Sent}
 use Rattle.abt_model.specs.Past.{Past, facts_of}
 use Rattle.abt_model.specs.Targets.{target_of, event_at, event_at_source, conn_in}
 use Rattle.abt_model.proofs.Targets.{event_there}
 use Rattle.abt_model.specs.PortTable.{hop_visited}
-use Rattle.abt_woven.specs.Projections.{Visit, reply_of, is_enabled, is_told_by, input_in, input_of, visit_by, visit_of, visit, entry_by, entry_in, entry_of, place_at_first, past_of, entry_made}
-use Rattle.abt_woven.specs.Stuck.{Journaled, source_journal, next_entry, Fits, AreTurns}
-use Rattle.abt_woven.proofs.Turns.{outcome_turns, entries_turns}
+use Rattle.abt_weave.specs.Projections.{Visit, reply_of, is_enabled, is_told_by, input_in, input_of, visit_by, visit_of, visit, entry_by, entry_in, entry_of, place_at_first, past_of, entry_made}
+use Rattle.abt_weave.specs.Stuck.{RunJournals, source_journal, next_entry, Fits, AreTurns}
+use Rattle.abt_weave.proofs.Turns.{outcome_turns, entries_turns}
 use Rattle.abt_weave.specs.Candidates.{is_at_source, is_own_of, is_told_in, is_told}
-use Rattle.abt_weave.specs.Board.{IsSourceSettled}
+use Rattle.abt_weave.specs.Progress.{IsSourceSettled}
 
 -- an event of a connection that brings nothing to a port comes to none
 unvisited_at : (event : Event) → ((conn : Conn) (facts : List Fact) → input_of conn.vc facts event ≡ None) → (r : Option PortReply) (facts : List Fact) (o : Option Conn) → visit_by event r facts o ≡ None
@@ -127,10 +127,10 @@ own_turns net earlier turns all c event own = elim (outcome_turns net earlier tu
   | inr after ↦ absurd (false≢true (ap (is_own_of c) (sym after.own.its.is) ∙ own))
 ]
 
-pub next_turns : (net : Topology) (journals : Journaled) (earlier turns : List Event) → AreTurns net earlier turns → (c : ℕ) → next_entry net journals (turns ++ earlier) c ≡ next_entry net journals earlier c
+pub next_turns : (net : Topology) (journals : RunJournals) (earlier turns : List Event) → AreTurns net earlier turns → (c : ℕ) → next_entry net journals (turns ++ earlier) c ≡ next_entry net journals earlier c
 next_turns net journals earlier turns all c = ap (λ (l : List SourceEntry). slice_get (source_journal journals c) (length l)) (entries_turns net earlier turns all c)
 
-pub own_fits : (net : Topology) (journals : Journaled) (earlier : List Event) (c : ℕ) (event : Event) (told : Outcome) → is_own_of c event ≡ true →
+pub own_fits : (net : Topology) (journals : RunJournals) (earlier : List Event) (c : ℕ) (event : Event) (told : Outcome) → is_own_of c event ≡ true →
     outcome_of net (past_of net earlier) event ≡ told → is_told event && not (is_enabled (outcome_of net (past_of net earlier) event)) ≡ false →
     next_entry net journals earlier c ≡ Some (Did event told) → Fits net journals earlier event
 own_fits net journals earlier c event told own answers enabled next =
@@ -145,7 +145,7 @@ own_fits net journals earlier c event told own answers enabled next =
     }
 
 -- where the next entry of a source is nothing that it does
-pub settled_none : (net : Topology) (journals : Journaled) (earlier : List Event) (c : ℕ) →
+pub settled_none : (net : Topology) (journals : RunJournals) (earlier : List Event) (c : ℕ) →
     ((event : Event) (told : Outcome) → next_entry net journals earlier c ≡ Some (Did event told) → is_own_of c event ≡ true → ⊥) → IsSourceSettled net journals earlier c false
 settled_none net journals earlier c none = record {
   stuck = λ turns event done outcome all here made fits.
@@ -158,7 +158,7 @@ settled_none net journals earlier c none = record {
 }
 
 -- where it is an answer that can't be told
-pub settled_absent : (net : Topology) (journals : Journaled) (earlier : List Event) (c : ℕ) (event : Event) (told : Outcome) → next_entry net journals earlier c ≡ Some (Did event told) →
+pub settled_absent : (net : Topology) (journals : RunJournals) (earlier : List Event) (c : ℕ) (event : Event) (told : Outcome) → next_entry net journals earlier c ≡ Some (Did event told) →
     is_told event ≡ true → is_enabled (outcome_of net (past_of net earlier) event) ≡ false → IsSourceSettled net journals earlier c false
 settled_absent net journals earlier c event told next tells off =
     let never : (turns : List Event) (other : Event) (y : Outcome) → AreTurns net earlier turns → other ≡ event → entry_made net (turns ++ earlier) other ≡ Some (Did other y) → ⊥
@@ -181,7 +181,7 @@ settled_absent net journals earlier c event told next tells off =
     }
 
 -- where it has another outcome
-pub settled_differs : (net : Topology) (journals : Journaled) (earlier : List Event) (c : ℕ) (event : Event) (told : Outcome) → next_entry net journals earlier c ≡ Some (Did event told) →
+pub settled_differs : (net : Topology) (journals : RunJournals) (earlier : List Event) (c : ℕ) (event : Event) (told : Outcome) → next_entry net journals earlier c ≡ Some (Did event told) →
     is_own_of c event ≡ true → outcome_of net (past_of net earlier) event ≢ told → is_told event && not (is_enabled (outcome_of net (past_of net earlier) event)) ≡ false → IsSourceSettled net journals earlier c true
 settled_differs net journals earlier c event told next own differ enabled = record {
   stuck = λ turns other done outcome all here made fits.

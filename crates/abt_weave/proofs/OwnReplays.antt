@@ -23,10 +23,10 @@ use Rattle.abt_model.specs.declared.outcome.Outcome.TheVariants.{Started, Asked,
 use Rattle.abt_model.specs.Outcomes.{conn_of, outcome_of, facts_added, after_event, request_adds, answer_adds, write_adds}
 use Rattle.abt_model.specs.Past.{facts_of}
 use Rattle.abt_model.proofs.Worlds.{conn_cases, facts_of-own, facts_of-other}
-use Rattle.abt_source_journal.specs.declared.entry.SourceEntry.{SourceEntry}
-use Rattle.abt_source_journal.specs.declared.entry.SourceEntry.TheVariants.{Did, Sent, Arrived as ArrivedAt}
-use Rattle.abt_woven.specs.Projections.{is_enabled, past_of, entry_of, entry_made, place_at_first, entry_at, entries_on}
-use Rattle.abt_woven.proofs.Asked.{other_same}
+use Rattle.abt_model.specs.declared.entry.SourceEntry.{SourceEntry}
+use Rattle.abt_model.specs.declared.entry.SourceEntry.TheVariants.{Did, Sent, Arrived as ArrivedAt}
+use Rattle.abt_weave.specs.Projections.{is_enabled, past_of, entry_of, entry_made, place_at_first, entry_at, entries_on}
+use Rattle.abt_weave.proofs.AskedRates.{other_same}
 use Rattle.abt_weave.specs.Leaving.{facts_done}
 use Rattle.abt_weave.proofs.OwnFacts.{own, own-append, stored_of-own, rate_of-own, emitted_of-own, writes-own, written_for-own}
 

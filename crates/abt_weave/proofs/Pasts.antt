@@ -7,7 +7,7 @@ use Rattle.abt_model.specs.declared.event.Event.{Event}
 use Rattle.abt_model.specs.Outcomes.{after_event}
 use Rattle.abt_model.specs.Run.{facts_after}
 use Rattle.abt_model.proofs.Runs.{facts_from_push}
-use Rattle.abt_woven.specs.Projections.{past_of}
+use Rattle.abt_weave.specs.Projections.{past_of}
 
 past-reversed : (net : Topology) (earlier : List Event) → facts_after net (reverse earlier) ≡ past_of net earlier
 past-reversed net [] = refl

@@ -21,9 +21,9 @@ use Rattle.abt_model.proofs.Worlds.{cases_option, conn_cases}
 use Rattle.abt_model.specs.PortTable.{hop_visited}
 use Rattle.abt_journal.specs.declared.input.PortInput.{PortInput}
 use Rattle.abt_journal.specs.declared.input.PortInput.TheVariants.{Request as RequestIn, Answer as AnswerIn, Arrive as ArriveIn, Capacity as CapacityIn}
-use Rattle.abt_source_journal.specs.declared.entry.SourceEntry.{SourceEntry}
-use Rattle.abt_source_journal.specs.declared.entry.SourceEntry.TheVariants.{Did, Sent, Arrived as ArrivedAt}
-use Rattle.abt_woven.specs.Projections.{Step, Visit, is_enabled, input_of, first_port, place_at_first, past_of, visit, step_at, steps_on, entry_made, entry_at, entries_on}
+use Rattle.abt_model.specs.declared.entry.SourceEntry.{SourceEntry}
+use Rattle.abt_model.specs.declared.entry.SourceEntry.TheVariants.{Did, Sent, Arrived as ArrivedAt}
+use Rattle.abt_weave.specs.Projections.{Step, Visit, is_enabled, input_of, first_port, place_at_first, past_of, visit, step_at, steps_on, entry_made, entry_at, entries_on}
 use Rattle.abt_weave.proofs.Candidates.{cond_some, and_both}
 use Rattle.abt_weave.proofs.Growth.{entries_other, entries_none, steps_none, steps_other}
 use Rattle.abt_weave.proofs.PortEvents.{visit_by_input, visit_made, has_reply, reply_enabled, made_beside, some_same}

@@ -33,12 +33,12 @@ use Rattle.abt_journal.specs.declared.input.PortInput.{PortInput}
 use Rattle.abt_journal.specs.declared.input.PortInput.TheVariants.{Request as RequestIn, Answer as AnswerIn, Arrive as ArriveIn, Capacity as CapacityIn}
 use Rattle.abt_journal.specs.declared.input.PortReply.{PortReply}
 use Rattle.abt_journal.specs.declared.input.PortReply.TheVariants.{Arrived as ArrivedOut}
-use Rattle.abt_source_journal.specs.declared.entry.SourceEntry.{SourceEntry}
-use Rattle.abt_source_journal.specs.declared.entry.SourceEntry.TheVariants.{Sent, Arrived as ArrivedAt}
-use Rattle.abt_woven.specs.Asked.{floor_in}
-use Rattle.abt_woven.specs.Projections.{Visit, reply_of, is_enabled, input_of, visit_by, visit_alone, visit_of, visit, entry_of, first_port, place_at_first, past_of, entry_made, steps_on, entries_on}
-use Rattle.abt_woven.specs.Stuck.{Journaled, next_step, step_next, next_entry, Fits}
-use Rattle.abt_woven.proofs.Asked.{floor_told, ask_told}
+use Rattle.abt_model.specs.declared.entry.SourceEntry.{SourceEntry}
+use Rattle.abt_model.specs.declared.entry.SourceEntry.TheVariants.{Sent, Arrived as ArrivedAt}
+use Rattle.abt_weave.specs.Asked.{floor_in}
+use Rattle.abt_weave.specs.Projections.{Visit, reply_of, is_enabled, input_of, visit_by, visit_alone, visit_of, visit, entry_of, first_port, place_at_first, past_of, entry_made, steps_on, entries_on}
+use Rattle.abt_weave.specs.Stuck.{RunJournals, next_step, step_next, next_entry, Fits}
+use Rattle.abt_weave.proofs.AskedRates.{floor_told, ask_told}
 use Rattle.abt_weave.specs.Comes.{input_told, entry_beside, Comes}
 
 -- what the facts bring to a port is what the source's projection does
@@ -238,7 +238,7 @@ made_beside net earlier (Answer d hop seq granted) p place c conn outcome input 
 made_beside net earlier other p place c conn outcome input facts whose known port at brings h = absurd (cc)
 
 -- a visit of what is no capacity is of an event that comes
-pub visit_comes : (net : Topology) (journals : Journaled) (earlier : List Event) (event : Event) (v : Visit) (p place : ℕ) (input : PortInput) →
+pub visit_comes : (net : Topology) (journals : RunJournals) (earlier : List Event) (event : Event) (v : Visit) (p place : ℕ) (input : PortInput) →
     ((c : ℕ) (conn : Conn) → conn_at net c ≡ Some conn → is_hop (length conn.path) 1 ≡ true) → IsNoCapacity input → visit net (past_of net earlier) event ≡ Some v → v.port ≡ p →
     place ≡ length (steps_on net p earlier) → input ≡ v.input → ((c : ℕ) (x : SourceEntry) → conn_of event ≡ Some c → entry_made net earlier event ≡ Some x → next_entry net journals earlier c ≡ Some x) →
     Comes net journals earlier p place input event
@@ -260,7 +260,7 @@ visit_comes net journals earlier event v p place input one none is here at same 
     }
 
 -- what comes with the reply of the next step fits
-pub comes_fits : (net : Topology) (journals : Journaled) (earlier : List Event) (event : Event) (p place : ℕ) (input : PortInput) (reply : PortReply) → Comes net journals earlier p place input event →
+pub comes_fits : (net : Topology) (journals : RunJournals) (earlier : List Event) (event : Event) (p place : ℕ) (input : PortInput) (reply : PortReply) → Comes net journals earlier p place input event →
     reply_of (outcome_of net (past_of net earlier) event) ≡ Some reply → next_step net journals earlier p ≡ Some (record { place = place; input = input; reply = reply }) → Fits net journals earlier event
 comes_fits net journals earlier event p place input reply comes replies next =
     let past = past_of net earlier in

@@ -23,20 +23,20 @@ use Rattle.abt_model.specs.PortTable.{hop_visited}
 use Rattle.abt_journal.specs.declared.entry.Entry.{Entry}
 use Rattle.abt_journal.specs.declared.input.PortInput.{PortInput}
 use Rattle.abt_journal.specs.declared.input.PortReply.{PortReply}
-use Rattle.abt_source_journal.specs.declared.entry.SourceEntry.{SourceEntry}
-use Rattle.abt_source_journal.specs.declared.journal.SourceJournal.{SourceJournal}
+use Rattle.abt_model.specs.declared.entry.SourceEntry.{SourceEntry}
+use Rattle.abt_model.specs.declared.journal.SourceJournal.{SourceJournal}
 use Rattle.abt_world.specs.Standing.{WorldView}
-use Rattle.abt_woven.specs.Projections.{Step, step_of, Visit, reply_of, is_enabled, past_of, visit, steps_on, entries_on}
-use Rattle.abt_woven.specs.Stuck.{Journaled, steps_in, port_journal, next_step, step_next, next_entry, Fits, IsTurn, AreTurns, PortMismatches}
-use Rattle.abt_woven.proofs.Turns.{HasOwnTurn, outcome_turns, own_same, own_enabled, steps_turns, entries_turns}
+use Rattle.abt_weave.specs.Projections.{Step, step_of, Visit, reply_of, is_enabled, past_of, visit, steps_on, entries_on}
+use Rattle.abt_weave.specs.Stuck.{RunJournals, steps_in, port_journal, next_step, step_next, next_entry, Fits, IsTurn, AreTurns, PortMismatches}
+use Rattle.abt_weave.proofs.Turns.{HasOwnTurn, outcome_turns, own_same, own_enabled, steps_turns, entries_turns}
 use Rattle.abt_weave.specs.Comes.{input_told, Comes, IsYes, IsTurnOf, IsComing, IsExpected}
 use Rattle.abt_weave.specs.Candidates.{is_beside}
 use Rattle.abt_weave.proofs.Comings.{IsBeside}
 use Rattle.abt_weave.proofs.PortPlaces.{beside_some}
-use Rattle.abt_weave.specs.declared.board.Board.{Board}
+use Rattle.abt_weave.specs.declared.progress.Progress.{Progress}
 use Rattle.abt_weave.specs.declared.look.Look.{Look}
 use Rattle.abt_weave.specs.declared.look.Look.TheVariants.{Placed, Waits, Mismatches}
-use Rattle.abt_weave.specs.Board.{count, IsAfterLook, journaled, IsPlacing, IsPortSettled}
+use Rattle.abt_weave.specs.Progress.{count, IsAfterLook, journaled, IsPlacing, IsPortSettled}
 use Rattle.abt_weave.proofs.Pasts.{past-is, pushed}
 use Rattle.abt_weave.proofs.OwnEvents.{next_turns}
 use Rattle.abt_weave.proofs.SourceLooks.{place_read}
@@ -49,11 +49,11 @@ first_hop net rules c conn known =
     let low = within.has_hop in grind (arith, nat_tests)
 
 -- the next step of a port after Turns
-pub steps_next : (net : Topology) (js : Journaled) (earlier turns : List Event) → AreTurns net earlier turns → (p : ℕ) → next_step net js (turns ++ earlier) p ≡ next_step net js earlier p
+pub steps_next : (net : Topology) (js : RunJournals) (earlier turns : List Event) → AreTurns net earlier turns → (p : ℕ) → next_step net js (turns ++ earlier) p ≡ next_step net js earlier p
 steps_next net js earlier turns all p = ap (λ (l : List Step). slice_get (port_journal js p) (length l)) (steps_turns net earlier turns all p)
 
 -- what comes after Turns comes before them, and the other way round
-pub comes_before : (net : Topology) (js : Journaled) (earlier turns : List Event) → AreTurns net earlier turns → (p place : ℕ) (input : PortInput) (event : Event) → Comes net js (turns ++ earlier) p place input event → Comes net js earlier p place input event
+pub comes_before : (net : Topology) (js : RunJournals) (earlier turns : List Event) → AreTurns net earlier turns → (p place : ℕ) (input : PortInput) (event : Event) → Comes net js (turns ++ earlier) p place input event → Comes net js earlier p place input event
 comes_before net js earlier turns all p place input event comes = record {
   c = comes.c;
   whose = comes.whose;
@@ -66,7 +66,7 @@ comes_before net js earlier turns all p place input event comes = record {
   beside = λ x e. sym (next_turns net js earlier turns all comes.c) ∙ comes.beside x e;
 }
 
-pub comes_after : (net : Topology) (js : Journaled) (earlier turns : List Event) → AreTurns net earlier turns → (p place : ℕ) (input : PortInput) (event : Event) → Comes net js earlier p place input event → Comes net js (turns ++ earlier) p place input event
+pub comes_after : (net : Topology) (js : RunJournals) (earlier turns : List Event) → AreTurns net earlier turns → (p place : ℕ) (input : PortInput) (event : Event) → Comes net js earlier p place input event → Comes net js (turns ++ earlier) p place input event
 comes_after net js earlier turns all p place input event comes = record {
   c = comes.c;
   whose = comes.whose;
@@ -80,16 +80,16 @@ comes_after net js earlier turns all p place input event comes = record {
 }
 
 -- what comes is no capacity
-comes_none : (net : Topology) (js : Journaled) (earlier : List Event) (p place : ℕ) (input : PortInput) (event : Event) → Comes net js earlier p place input event → IsNoCapacity input
+comes_none : (net : Topology) (js : RunJournals) (earlier : List Event) (p place : ℕ) (input : PortInput) (event : Event) → Comes net js earlier p place input event → IsNoCapacity input
 comes_none net js earlier p place input event comes = brings_none comes.conn.vc (reverse (entries_on net comes.c earlier)) event input comes.brings
 
 -- An event that would be the next step, by what it replies.
-pub record Would (net : Topology) (js : Journaled) (earlier turns : List Event) (p : ℕ) (step : Step) (event : Event) (reply : PortReply) : Type 0 where
+pub record Would (net : Topology) (js : RunJournals) (earlier turns : List Event) (p : ℕ) (step : Step) (event : Event) (reply : PortReply) : Type 0 where
   pub turned : AreTurns net earlier turns
   pub comes : Comes net js earlier p step.place step.input event
   pub replies : reply_of (outcome_of net (past_of net (turns ++ earlier)) event) ≡ Some reply
 
-would_fit : (net : Topology) (js : Journaled) → IsWithinRules net → (earlier turns : List Event) (p : ℕ) (step : Step) (event : Event) (v : Visit) → next_step net js earlier p ≡ Some step → IsNoCapacity step.input → AreTurns net earlier turns →
+would_fit : (net : Topology) (js : RunJournals) → IsWithinRules net → (earlier turns : List Event) (p : ℕ) (step : Step) (event : Event) (v : Visit) → next_step net js earlier p ≡ Some step → IsNoCapacity step.input → AreTurns net earlier turns →
     visit net (past_of net (turns ++ earlier)) event ≡ Some v → v.port ≡ p → Fits net js (turns ++ earlier) event → Would net js earlier turns p step event v.reply × (v.reply ≡ step.reply)
 would_fit net js rules earlier turns p step event v next none all is here fits =
     let after = turns ++ earlier in
@@ -107,7 +107,7 @@ would_fit net js rules earlier turns p step event v next none all is here fits =
       sym (ap (λ (s : Step). s.reply) same),
     )
 
-pub would_mismatch : (net : Topology) (js : Journaled) → IsWithinRules net → (earlier : List Event) (p : ℕ) (step : Step) → next_step net js earlier p ≡ Some step → IsNoCapacity step.input → (m : PortMismatches net js earlier p) →
+pub would_mismatch : (net : Topology) (js : RunJournals) → IsWithinRules net → (earlier : List Event) (p : ℕ) (step : Step) → next_step net js earlier p ≡ Some step → IsNoCapacity step.input → (m : PortMismatches net js earlier p) →
     Would net js earlier m.turns p step m.event m.visits.reply
 would_mismatch net js rules earlier p step next none m =
     let after = m.turns ++ earlier in
@@ -121,14 +121,14 @@ would_mismatch net js rules earlier p step next none m =
     }
 
 -- no event at all would be the next step, which is no capacity
-pub port_waits : (net : Topology) (js : Journaled) → IsWithinRules net → (earlier : List Event) (p : ℕ) (step : Step) → next_step net js earlier p ≡ Some step → IsNoCapacity step.input →
+pub port_waits : (net : Topology) (js : RunJournals) → IsWithinRules net → (earlier : List Event) (p : ℕ) (step : Step) → next_step net js earlier p ≡ Some step → IsNoCapacity step.input →
     ((turns : List Event) (event : Event) (reply : PortReply) → Would net js earlier turns p step event reply → ⊥) → IsPortSettled net js earlier p false
 port_waits net js rules earlier p step next none never = record {
   stuck = λ turns event v all is here fits. never turns event v.reply (would_fit net js rules earlier turns p step event v next none all is here fits).0;
   marks = λ m. never m.turns m.event m.visits.reply (would_mismatch net js rules earlier p step next none m);
 }
 
-pub port_done : (net : Topology) (js : Journaled) (earlier : List Event) (p : ℕ) → next_step net js earlier p ≡ None → IsPortSettled net js earlier p false
+pub port_done : (net : Topology) (js : RunJournals) (earlier : List Event) (p : ℕ) → next_step net js earlier p ≡ None → IsPortSettled net js earlier p false
 port_done net js earlier p none = record {
   stuck = λ turns event v all is here fits.
       (let clash : None ≡ Some (step_next net (turns ++ earlier) v) = sym none ∙ sym (steps_next net js earlier turns all p) ∙ ap (next_step net js (turns ++ earlier)) (sym here) ∙ fits.step v is in cc);
@@ -136,11 +136,11 @@ port_done net js earlier p none = record {
 }
 
 -- the event of a Would is the one that comes
-abbrev pub IsOne : Topology → Journaled → List Event → ℕ → Step → Event → Type 0
+abbrev pub IsOne : Topology → RunJournals → List Event → ℕ → Step → Event → Type 0
 IsOne net js earlier p step event = (other : Event) → Comes net js earlier p step.place step.input other → other ≡ event
 
 -- it can't come at once, and it isn't a yes at the last hop
-pub port_absent : (net : Topology) (js : Journaled) → IsWithinRules net → (earlier : List Event) (p : ℕ) (step : Step) (event : Event) → next_step net js earlier p ≡ Some step → IsNoCapacity step.input → IsOne net js earlier p step event →
+pub port_absent : (net : Topology) (js : RunJournals) → IsWithinRules net → (earlier : List Event) (p : ℕ) (step : Step) (event : Event) → next_step net js earlier p ≡ Some step → IsNoCapacity step.input → IsOne net js earlier p step event →
     is_enabled (outcome_of net (past_of net earlier) event) ≡ false → ((c seq : ℕ) → IsYes net event c seq → outcome_of net (past_of net earlier) (Turn c seq) ≡ Turned → ⊥) → IsPortSettled net js earlier p false
 port_absent net js rules earlier p step event next none one off no_turn =
     port_waits net js rules earlier p step next none (λ turns other reply would.
@@ -154,7 +154,7 @@ port_absent net js rules earlier p step event next none one off no_turn =
     ]))
 
 -- an event that comes and answers something else than the next step says
-pub mismatch_at : (net : Topology) (js : Journaled) → IsWithinRules net → (earlier turns : List Event) (p : ℕ) (step : Step) (event : Event) → next_step net js earlier p ≡ Some step → AreTurns net earlier turns →
+pub mismatch_at : (net : Topology) (js : RunJournals) → IsWithinRules net → (earlier turns : List Event) (p : ℕ) (step : Step) (event : Event) → next_step net js earlier p ≡ Some step → AreTurns net earlier turns →
     Comes net js earlier p step.place step.input event → is_enabled (outcome_of net (past_of net (turns ++ earlier)) event) ≡ true → PortMismatches net js earlier p
 mismatch_at net js rules earlier turns p step event next all before on =
     let after = turns ++ earlier in
@@ -178,7 +178,7 @@ mismatch_at net js rules earlier turns p step event next all before on =
           ∙ comes.beside x (sym (made_beside net after event p step.place comes.c comes.conn (outcome_of net past event) step.input (facts_of comes.c past) comes.whose comes.known comes.port comes.at brings on) ∙ e);
     }
 
-pub port_differs : (net : Topology) (js : Journaled) → IsWithinRules net → (earlier : List Event) (p : ℕ) (step : Step) (event : Event) → next_step net js earlier p ≡ Some step → IsOne net js earlier p step event →
+pub port_differs : (net : Topology) (js : RunJournals) → IsWithinRules net → (earlier : List Event) (p : ℕ) (step : Step) (event : Event) → next_step net js earlier p ≡ Some step → IsOne net js earlier p step event →
     Comes net js earlier p step.place step.input event → is_enabled (outcome_of net (past_of net earlier) event) ≡ true → reply_of (outcome_of net (past_of net earlier) event) ≢ Some step.reply → IsPortSettled net js earlier p true
 port_differs net js rules earlier p step event next one comes on differ = record {
   stuck = λ turns other v all is here fits.
@@ -223,7 +223,7 @@ pub its_turn : (net : Topology) (earlier : List Event) (event turn : Event) → 
 its_turn net earlier event turn its happens = record { conn = its.c; seq = its.seq; is = its.turn_is; happens = happens }
 
 -- a yes that answers something else right after its Turn
-pub turn_differs : (net : Topology) (js : Journaled) → IsWithinRules net → (earlier : List Event) (p : ℕ) (step : Step) (event turn : Event) → next_step net js earlier p ≡ Some step → IsOne net js earlier p step event →
+pub turn_differs : (net : Topology) (js : RunJournals) → IsWithinRules net → (earlier : List Event) (p : ℕ) (step : Step) (event turn : Event) → next_step net js earlier p ≡ Some step → IsOne net js earlier p step event →
     Comes net js earlier p step.place step.input event → is_enabled (outcome_of net (past_of net earlier) event) ≡ false → IsTurnOf net event turn → outcome_of net (past_of net earlier) turn ≡ Turned →
     reply_of (outcome_of net (past_of net (turn ∷ earlier)) event) ≢ Some step.reply → IsPortSettled net js earlier p true
 turn_differs net js rules earlier p step event turn next one comes off its happens differ =
@@ -251,12 +251,12 @@ turn_differs net js rules earlier p step event turn next one comes off its happe
     }
 
 -- the connection of what comes is one of the net
-pub coming_low : (net : Topology) (js : Journaled) (earlier : List Event) (p place : ℕ) (input : PortInput) (c n : ℕ) (event : Event) → IsComing net js earlier p place input c event → n ≡ length net.conns → c < n
+pub coming_low : (net : Topology) (js : RunJournals) (earlier : List Event) (p place : ℕ) (input : PortInput) (c n : ℕ) (event : Event) → IsComing net js earlier p place input c event → n ≡ length net.conns → c < n
 coming_low net js earlier p place input c n event coming counts =
     subst (λ m. c < m) (sym counts) (subst (λ d. d < length net.conns) (some_same (sym coming.comes.whose ∙ coming.conn)) (slice_get_within net.conns coming.comes.c coming.comes.conn coming.comes.known))
 
 -- the entry that stands beside a step is the source's next
-pub come_low : (net : Topology) (js : Journaled) (earlier : List Event) (p place : ℕ) (input : PortInput) (c k : ℕ) (event : Event) (entries : List SourceEntry) (come : ℕ) → IsComing net js earlier p place input c event → k ≡ c →
+pub come_low : (net : Topology) (js : RunJournals) (earlier : List Event) (p place : ℕ) (input : PortInput) (c k : ℕ) (event : Event) (entries : List SourceEntry) (come : ℕ) → IsComing net js earlier p place input c event → k ≡ c →
     IsBeside net js earlier k entries come → is_beside event ≡ true → come < length entries
 come_low net js earlier p place input c k event entries come coming same beside b =
     let some = beside_some place event b in
@@ -267,11 +267,11 @@ come_low net js earlier p place input c k event entries come coming same beside 
 pub step_read : (net : Topology) (ports : List (Vec Entry Global)) (sources : List SourceJournal) (events : List Event) (world : WorldView) (sp pp : List ℕ) (p k : ℕ) (v : Vec Entry Global) (entries : List Entry) (place : ℕ) →
     IsPlacing net (journaled ports sources) events world sp pp → k ≡ p → p < length ports → v ≡ get_or ports k v → entries ≡ (get_or ports k v).items → place ≡ get_or pp k place →
     (next_step net (journaled ports sources) (reverse events) p ≡ option_map step_of (slice_get entries place)) × (place ≡ slice_index pp p)
-step_read net ports sources events world sp pp p k v entries place board same low read are at =
+step_read net ports sources events world sp pp p k v entries place progress same low read are at =
     let js = journaled ports sources in
     let lowk : k < length ports = subst (λ n. n < length ports) (sym same) low in
-    let lowp : k < length pp = subst (λ n. k < n) (sym (board.port_count ∙ length-map ports (λ (w : Vec Entry Global). w.items))) lowk in
-    let here : place ≡ length (steps_on net k (reverse events)) = place_read pp (λ q. length (steps_on net q (reverse events))) k place board.port_places lowp at in
+    let lowp : k < length pp = subst (λ n. k < n) (sym (progress.port_count ∙ length-map ports (λ (w : Vec Entry Global). w.items))) lowk in
+    let here : place ≡ length (steps_on net k (reverse events)) = place_read pp (λ q. length (steps_on net q (reverse events))) k place progress.port_places lowp at in
     let found : slice_get ports k ≡ Some v = slice_get_read ports (length ports) k v refl lowk read in
     let journal : port_journal js k ≡ map step_of entries =
     ap steps_in (slice_get-map (λ (w : Vec Entry Global). w.items) ports k ∙ ap (option_map (λ (w : Vec Entry Global). w.items)) found)
@@ -289,7 +289,7 @@ pub no_step : (entries : List Entry) (place : ℕ) → length entries ≤ place 
 no_step entries place past = ap (option_map step_of) (slice_get_past entries place past)
 
 -- where no event can be the next entry, which is no capacity
-pub none_settled : (net : Topology) (js : Journaled) → IsWithinRules net → (earlier : List Event) (p : ℕ) (entry : Entry) → next_step net js earlier p ≡ Some (step_of entry) → IsNoCapacity entry.input →
+pub none_settled : (net : Topology) (js : RunJournals) → IsWithinRules net → (earlier : List Event) (p : ℕ) (entry : Entry) → next_step net js earlier p ≡ Some (step_of entry) → IsNoCapacity entry.input →
     ((event : Event) → Comes net js earlier p entry.place entry.input event → ⊥) → IsPortSettled net js earlier p false
 none_settled net js rules earlier p entry next none never = port_waits net js rules earlier p (step_of entry) next none (λ turns event reply would. never event would.comes)
 
@@ -297,7 +297,7 @@ abbrev expected_step : (place : ℕ) → PortInput → PortReply → Step
 expected_step place input reply = record { place = place; input = input; reply = reply }
 
 -- where the event can't happen, and its Turn, if it has one, neither
-pub expected_absent : (net : Topology) (js : Journaled) (events : List Event) (sp : List ℕ) (p place : ℕ) (input : PortInput) (reply : PortReply) (c reached : ℕ) (event : Event) →
+pub expected_absent : (net : Topology) (js : RunJournals) (events : List Event) (sp : List ℕ) (p place : ℕ) (input : PortInput) (reply : PortReply) (c reached : ℕ) (event : Event) →
     IsExpected net js (reverse events) sp p place input reply c reached event → is_enabled (outcome_of net (facts_after net events) event) ≡ false →
     ((d seq : ℕ) → IsYes net event d seq → outcome_of net (facts_after net events) (Turn d seq) ≡ Turned → ⊥) → IsPortSettled net js (reverse events) p false
 expected_absent net js events sp p place input reply c reached event it off none =
@@ -306,7 +306,7 @@ expected_absent net js events sp p place input reply c reached event it off none
     (λ d seq yes_of happens. none d seq yes_of (subst (λ w. outcome_of net w (Turn d seq) ≡ Turned) (sym (past-is net events)) happens))
 
 -- where it answers something else
-pub expected_differs : (net : Topology) (js : Journaled) (events : List Event) (sp : List ℕ) (p place : ℕ) (input : PortInput) (reply : PortReply) (c reached : ℕ) (event : Event) →
+pub expected_differs : (net : Topology) (js : RunJournals) (events : List Event) (sp : List ℕ) (p place : ℕ) (input : PortInput) (reply : PortReply) (c reached : ℕ) (event : Event) →
     IsExpected net js (reverse events) sp p place input reply c reached event → is_enabled (outcome_of net (facts_after net events) event) ≡ true →
     reply_of (outcome_of net (facts_after net events) event) ≢ Some reply → IsPortSettled net js (reverse events) p true
 expected_differs net js events sp p place input reply c reached event it on differ =
@@ -321,7 +321,7 @@ turn_off net past event turn its off d seq also happens =
     false≢true (sym off ∙ ap (λ e. is_enabled (outcome_of net past e)) (sym (same_turn net event turn d seq its also)) ∙ ap is_enabled happens)
 
 -- where it answers something else after its Turn
-pub expected_turn_differs : (net : Topology) (js : Journaled) (events : List Event) (sp : List ℕ) (p place : ℕ) (input : PortInput) (reply : PortReply) (c reached : ℕ) (event turn : Event) →
+pub expected_turn_differs : (net : Topology) (js : RunJournals) (events : List Event) (sp : List ℕ) (p place : ℕ) (input : PortInput) (reply : PortReply) (c reached : ℕ) (event turn : Event) →
     IsExpected net js (reverse events) sp p place input reply c reached event → is_enabled (outcome_of net (facts_after net events) event) ≡ false → IsTurnOf net event turn →
     is_enabled (outcome_of net (facts_after net events) turn) ≡ true → reply_of (outcome_of net (facts_after net (events ++ turn ∷ [])) event) ≢ Some reply → IsPortSettled net js (reverse events) p true
 expected_turn_differs net js events sp p place input reply c reached event turn it off its on differ =
@@ -332,7 +332,7 @@ expected_turn_differs net js events sp p place input reply c reached event turn 
     (subst (λ w. reply_of (outcome_of net w event) ≢ Some reply) (past-is net (events ++ turn ∷ [])) differ))
 
 -- what is expected stays so after its Turn
-pub expected_after : (net : Topology) (js : Journaled) (events : List Event) (sp : List ℕ) (p place : ℕ) (input : PortInput) (reply : PortReply) (c reached : ℕ) (event turn : Event) →
+pub expected_after : (net : Topology) (js : RunJournals) (events : List Event) (sp : List ℕ) (p place : ℕ) (input : PortInput) (reply : PortReply) (c reached : ℕ) (event turn : Event) →
     IsExpected net js (reverse events) sp p place input reply c reached event → IsTurnOf net event turn → is_enabled (outcome_of net (facts_after net events) turn) ≡ true →
     IsExpected net js (reverse (events ++ turn ∷ [])) sp p place input reply c reached event
 expected_after net js events sp p place input reply c reached event turn it its on =

@@ -5,7 +5,7 @@ use Rattle.std.specs.List.{list_any}
 use Rattle.std.proofs.lemmas.Bool.{or_left}
 use Rattle.std.proofs.lemmas.List.{append_assoc, append-nil, length-append}
 use Rattle.std.proofs.lemmas.List.Folds.{list_any-append}
-use Rattle.abt_woven.specs.Stuck.{IsBeginning}
+use Rattle.abt_weave.specs.Stuck.{IsBeginning}
 
 pub begins_itself : {A : Type 0} → (xs : List A) → IsBeginning xs xs
 begins_itself xs = ([], sym (append-nil xs))

@@ -8,14 +8,14 @@ use Rattle.abt_net.specs.Topology.{Topology, conn_at}
 use Rattle.abt_facts.specs.declared.fact.Fact.{Fact}
 use Rattle.abt_facts.specs.declared.fact.Fact.TheVariants.{Asked}
 use Rattle.abt_facts.specs.Requests.{is_ask_of, was_asked, asked_under, floor_of, ask_of}
-use Rattle.abt_log.specs.Kept.{asked_in}
+use Rattle.abt_index.specs.Kept.{asked_in}
 use Rattle.abt_model.specs.declared.event.Event.{Event}
 use Rattle.abt_model.specs.Past.{facts_of}
 use Rattle.abt_model.specs.Run.{facts_after}
 use Rattle.abt_world.specs.Readings.{asked_for}
-use Rattle.abt_woven.specs.Asked.{floor_in, ask_in}
-use Rattle.abt_woven.specs.Projections.{past_of, entries_on}
-use Rattle.abt_woven.proofs.Asked.{floor_told, ask_told}
+use Rattle.abt_weave.specs.Asked.{floor_in, ask_in}
+use Rattle.abt_weave.specs.Projections.{past_of, entries_on}
+use Rattle.abt_weave.proofs.AskedRates.{floor_told, ask_told}
 use Rattle.abt_weave.proofs.AllBelow.{conn_there}
 use Rattle.abt_weave.proofs.Pasts.{past-is}
 use Rattle.abt_weave.proofs.PortEvents.{some_same}

@@ -19,14 +19,14 @@ use Rattle.abt_model.proofs.Worlds.{cases_option, conn_cases}
 use Rattle.abt_journal.specs.declared.input.PortInput.{PortInput}
 use Rattle.abt_journal.specs.declared.input.PortInput.TheVariants.{Request as RequestIn, Answer as AnswerIn, Arrive as ArriveIn, Capacity as CapacityIn}
 use Rattle.abt_journal.specs.declared.input.PortReply.{PortReply}
-use Rattle.abt_source_journal.specs.declared.entry.SourceEntry.{SourceEntry}
-use Rattle.abt_source_journal.specs.declared.entry.SourceEntry.TheVariants.{Did, Sent}
-use Rattle.abt_woven.specs.declared.actor.Actor.{Actor}
-use Rattle.abt_woven.specs.declared.actor.Actor.TheVariants.{Source, Port}
-use Rattle.abt_woven.specs.Projections.{Step, Visit, is_enabled, reply_of, place_at_first, past_of, visit, step_at, steps_on, entry_made, entry_at, entries_on}
-use Rattle.abt_woven.specs.Stuck.{Journaled, port_journal, source_journal, next_step, step_next, next_entry, Fits, IsTurn, AreTurns, IsBeginning, PortMismatches, SourceMismatches}
-use Rattle.abt_woven.proofs.Turns.{outcome_turns, own_same, steps_turns, entries_turns}
-use Rattle.abt_weave.specs.Board.{IsSourceSettled, IsPortSettled, IsActorSettled}
+use Rattle.abt_model.specs.declared.entry.SourceEntry.{SourceEntry}
+use Rattle.abt_model.specs.declared.entry.SourceEntry.TheVariants.{Did, Sent}
+use Rattle.abt_weave.specs.declared.actor.Actor.{Actor}
+use Rattle.abt_weave.specs.declared.actor.Actor.TheVariants.{Source, Port}
+use Rattle.abt_weave.specs.Projections.{Step, Visit, is_enabled, reply_of, place_at_first, past_of, visit, step_at, steps_on, entry_made, entry_at, entries_on}
+use Rattle.abt_weave.specs.Stuck.{RunJournals, port_journal, source_journal, next_step, step_next, next_entry, Fits, IsTurn, AreTurns, IsBeginning, PortMismatches, SourceMismatches}
+use Rattle.abt_weave.proofs.Turns.{outcome_turns, own_same, steps_turns, entries_turns}
+use Rattle.abt_weave.specs.Progress.{IsSourceSettled, IsPortSettled, IsActorSettled}
 use Rattle.abt_weave.specs.Candidates.{is_own_of, is_told, event_by}
 use Rattle.abt_weave.specs.Comes.{entry_beside, Comes}
 use Rattle.abt_weave.specs.Shown.{IsShown}
@@ -51,7 +51,7 @@ use Rattle.abt_weave.proofs.Stopping.{at_own_hop}
 use Rattle.abt_weave.proofs.Unmoved.{steps_still}
 
 -- An event that was placed behind earlier ones.
-pub record IsLast (net : Topology) (js : Journaled) (earlier : List Event) (last : Event) : Type 0 where
+pub record IsLast (net : Topology) (js : RunJournals) (earlier : List Event) (last : Event) : Type 0 where
   pub rules : IsWithinRules net
   pub rates : All AsksRate (last ∷ earlier)
   pub before : All AsksRate earlier
@@ -79,7 +79,7 @@ turn_silent : (net : Topology) (earlier : List Event) (event : Event) → IsTurn
 turn_silent net earlier event turn = ap (entry_made net earlier) turn.is
 
 -- nothing that is placed comes to a port whose next entry mismatches
-elsewhere : (net : Topology) (js : Journaled) (earlier : List Event) (last : Event) → IsLast net js earlier last → (p : ℕ) (b : Bool) → IsPortSettled net js earlier p b → (v : Visit) → visit net (past_of net earlier) last ≡ Some v → v.port ≢ p
+elsewhere : (net : Topology) (js : RunJournals) (earlier : List Event) (last : Event) → IsLast net js earlier last → (p : ℕ) (b : Bool) → IsPortSettled net js earlier p b → (v : Visit) → visit net (past_of net earlier) last ≡ Some v → v.port ≢ p
 elsewhere net js earlier last it p b settled v is here = elim it.shown [
   | inl fits ↦ settled.stuck [] last v tt is here fits
   | inr needed ↦ (let clash = sym (turn_nowhere net earlier last needed.turn) ∙ is in cc)
@@ -104,7 +104,7 @@ made_first net earlier event v x c conn whose known is made =
     sym parts.port ∙ ap (λ n. slice_index parts.conn.path (n - 1)) one ∙ ap (λ (k : Conn). slice_index k.path 0) (sym same)
 
 -- what comes to a port and isn't placed keeps the entry beside it from being placed by another event
-untouched : (net : Topology) (js : Journaled) (earlier : List Event) (last : Event) → IsLast net js earlier last → (p : ℕ) (b : Bool) → IsPortSettled net js earlier p b → (m : PortMismatches net js earlier p) → (c : ℕ) (x : SourceEntry) →
+untouched : (net : Topology) (js : RunJournals) (earlier : List Event) (last : Event) → IsLast net js earlier last → (p : ℕ) (b : Bool) → IsPortSettled net js earlier p b → (m : PortMismatches net js earlier p) → (c : ℕ) (x : SourceEntry) →
     conn_of m.event ≡ Some c → entry_made net (m.turns ++ earlier) m.event ≡ Some x → entries_on net c (last ∷ earlier) ≡ entries_on net c earlier
 untouched net js earlier last it p b settled m c x whose made = elim (conn_cases last c) [
   | inr differ ↦ entries_other net earlier last c differ
@@ -130,7 +130,7 @@ untouched net js earlier last it p b settled m c x whose made = elim (conn_cases
   ])
 ]
 
-alone_last : (net : Topology) (js : Journaled) (earlier : List Event) (last : Event) → IsLast net js earlier last → (p : ℕ) (b : Bool) → IsPortSettled net js earlier p b → (m : PortMismatches net js earlier p) → ArrivesAlone net (m.turns ++ earlier) (last ∷ earlier) m.event
+alone_last : (net : Topology) (js : RunJournals) (earlier : List Event) (last : Event) → IsLast net js earlier last → (p : ℕ) (b : Bool) → IsPortSettled net js earlier p b → (m : PortMismatches net js earlier p) → ArrivesAlone net (m.turns ++ earlier) (last ∷ earlier) m.event
 alone_last net js earlier last it p b settled m =
     let after = m.turns ++ earlier in
     elim (cases_option (entry_made net after m.event)) [
@@ -142,7 +142,7 @@ alone_last net js earlier last it p b settled m =
       ])
     ]
 
-port_on : (net : Topology) (js : Journaled) (earlier : List Event) (last : Event) → IsLast net js earlier last → (p : ℕ) (b : Bool) → IsPortSettled net js earlier p b → (m : PortMismatches net js earlier p) →
+port_on : (net : Topology) (js : RunJournals) (earlier : List Event) (last : Event) → IsLast net js earlier last → (p : ℕ) (b : Bool) → IsPortSettled net js earlier p b → (m : PortMismatches net js earlier p) →
     MismatchesAs net js (last ∷ earlier) p m.step m.visits.reply
 port_on net js earlier last it p b settled m =
     let before = m.turns ++ earlier in
@@ -154,7 +154,7 @@ port_on net js earlier last it p b settled m =
     mismatch_again net js earlier later p m at (sym still) (λ c x whose made. sym (untouched net js earlier last it p b settled m c x whose made))
 
 -- what mismatches has another reply than the entry, as it doesn't fit
-other_reply : (net : Topology) (js : Journaled) (earlier : List Event) (p : ℕ) (b : Bool) → IsPortSettled net js earlier p b → (m : PortMismatches net js earlier p) → m.visits.reply ≢ m.step.reply
+other_reply : (net : Topology) (js : RunJournals) (earlier : List Event) (p : ℕ) (b : Bool) → IsPortSettled net js earlier p b → (m : PortMismatches net js earlier p) → m.visits.reply ≢ m.step.reply
 other_reply net js earlier p b settled m same =
     let after = m.turns ++ earlier in
     let made : m.step ≡ step_next net after m.visits = step_parts m.step (length (steps_on net m.visits.port after)) m.visits.input m.visits.reply (m.place ∙ ap (λ q. length (steps_on net q after)) (sym m.here)) m.input (sym same) in
@@ -186,7 +186,7 @@ stop_same net rules input p c hop d at one other =
     option_channel o = option_map (λ (conn : Conn). conn.vc) o
 
 -- so one event can be a port's next entry
-pub comes_one : (net : Topology) → IsWithinRules net → (js : Journaled) (earlier : List Event) (p place : ℕ) (input : PortInput) (one other : Event) → Comes net js earlier p place input one → Comes net js earlier p place input other → one ≡ other
+pub comes_one : (net : Topology) → IsWithinRules net → (js : RunJournals) (earlier : List Event) (p place : ℕ) (input : PortInput) (one other : Event) → Comes net js earlier p place input one → Comes net js earlier p place input other → one ≡ other
 comes_one net rules js earlier p place input one other here there =
     let stops = stop_same net rules input p here.c (hop_visited one) there.c (hop_visited other) (comes_stop net js earlier p place input one here) (comes_stop net js earlier p place input other there) in
     let a = only place here.c here.conn.vc input (reverse (entries_on net here.c earlier)) (next_entry net js earlier here.c) one here.whose here.brings here.beside in
@@ -199,7 +199,7 @@ comes_one net rules js earlier p place input one other here there =
     )
 
 -- a port is settled where its next entry mismatches with another reply
-visit_marked : (net : Topology) (js : Journaled) → IsWithinRules net → (earlier : List Event) (p : ℕ) → (m : PortMismatches net js earlier p) → m.visits.reply ≢ m.step.reply → IsNoCapacity m.step.input → IsPortSettled net js earlier p true
+visit_marked : (net : Topology) (js : RunJournals) → IsWithinRules net → (earlier : List Event) (p : ℕ) → (m : PortMismatches net js earlier p) → m.visits.reply ≢ m.step.reply → IsNoCapacity m.step.input → IsPortSettled net js earlier p true
 visit_marked net js rules earlier p m differ none =
     let step = m.step in
     let event = m.event in
@@ -223,7 +223,7 @@ visit_marked net js rules earlier p m differ none =
           ])
     ]
 
-capacity_marked : (net : Topology) (js : Journaled) (earlier : List Event) (p u : ℕ) → (m : PortMismatches net js earlier p) → m.visits.reply ≢ m.step.reply → m.step.input ≡ CapacityIn u → IsPortSettled net js earlier p true
+capacity_marked : (net : Topology) (js : RunJournals) (earlier : List Event) (p u : ℕ) → (m : PortMismatches net js earlier p) → m.visits.reply ≢ m.step.reply → m.step.input ≡ CapacityIn u → IsPortSettled net js earlier p true
 capacity_marked net js earlier p u m differ input =
     let outcome = outcome_of net (past_of net earlier) (Capacity p u) in
     let next : next_step net js earlier p ≡ Some m.step = sym (steps_next net js earlier m.turns m.turned p) ∙ m.next in
@@ -231,7 +231,7 @@ capacity_marked net js earlier p u m differ input =
     capacity_differs net js earlier p u m.step next (m.place ∙ ap (λ (l : List Step). length l) (steps_turns net earlier m.turns m.turned p)) input (reply_enabled outcome m.visits.reply replies)
     (λ also. differ (some_same (sym replies ∙ also)))
 
-port_marked : (net : Topology) (js : Journaled) → IsWithinRules net → (earlier : List Event) (p : ℕ) → (m : PortMismatches net js earlier p) → m.visits.reply ≢ m.step.reply → IsPortSettled net js earlier p true
+port_marked : (net : Topology) (js : RunJournals) → IsWithinRules net → (earlier : List Event) (p : ℕ) → (m : PortMismatches net js earlier p) → m.visits.reply ≢ m.step.reply → IsPortSettled net js earlier p true
 port_marked net js rules earlier p m differ =
     by_input m.step.input refl
   where
@@ -241,14 +241,14 @@ port_marked net js rules earlier p m differ =
     by_input (AnswerIn a) is = visit_marked net js rules earlier p m differ (λ u e. (let clash = sym is ∙ e in cc))
     by_input (ArriveIn vc at) is = visit_marked net js rules earlier p m differ (λ u e. (let clash = sym is ∙ e in cc))
 
-port_remains : (net : Topology) (js : Journaled) (earlier : List Event) (last : Event) → IsLast net js earlier last → (p : ℕ) → IsPortSettled net js earlier p true → IsPortSettled net js (last ∷ earlier) p true
+port_remains : (net : Topology) (js : RunJournals) (earlier : List Event) (last : Event) → IsLast net js earlier last → (p : ℕ) → IsPortSettled net js earlier p true → IsPortSettled net js (last ∷ earlier) p true
 port_remains net js earlier last it p settled =
     let m = settled.marks in
     let on = port_on net js earlier last it p true settled m in
     port_marked net js it.rules (last ∷ earlier) p on.mismatch (λ same. other_reply net js earlier p true settled m (sym on.reply_is ∙ same ∙ ap (λ (s : Step). s.reply) on.step_is))
 
 -- nothing that is placed is a source's next entry that mismatches
-source_still : (net : Topology) (js : Journaled) (earlier : List Event) (last : Event) → IsLast net js earlier last → (c : ℕ) → IsSourceSettled net js earlier c true → (m : SourceMismatches net js earlier c) → entries_on net c (last ∷ earlier) ≡ entries_on net c earlier
+source_still : (net : Topology) (js : RunJournals) (earlier : List Event) (last : Event) → IsLast net js earlier last → (c : ℕ) → IsSourceSettled net js earlier c true → (m : SourceMismatches net js earlier c) → entries_on net c (last ∷ earlier) ≡ entries_on net c earlier
 source_still net js earlier last it c settled m = elim (conn_cases last c) [
   | inr differ ↦ entries_other net earlier last c differ
   | inl own ↦ (elim (cases_option (entry_made net earlier last)) [
@@ -262,7 +262,7 @@ source_still net js earlier last it c settled m = elim (conn_cases last c) [
   ])
 ]
 
-source_remains : (net : Topology) (js : Journaled) (earlier : List Event) (last : Event) → IsLast net js earlier last → (c : ℕ) → c < length net.conns → IsSourceSettled net js earlier c true → IsSourceSettled net js (last ∷ earlier) c true
+source_remains : (net : Topology) (js : RunJournals) (earlier : List Event) (last : Event) → IsLast net js earlier last → (c : ℕ) → c < length net.conns → IsSourceSettled net js earlier c true → IsSourceSettled net js (last ∷ earlier) c true
 source_remains net js earlier last it c low settled =
     let m = settled.marks in
     let before = m.turns ++ earlier in
@@ -282,7 +282,7 @@ source_remains net js earlier last it c low settled =
     enabled
 
 -- an actor whose next entry mismatches
-pub remains : (net : Topology) (js : Journaled) (earlier : List Event) (last : Event) → IsLast net js earlier last → (actor : Actor) → IsActorSettled net js earlier actor true →
+pub remains : (net : Topology) (js : RunJournals) (earlier : List Event) (last : Event) → IsLast net js earlier last → (actor : Actor) → IsActorSettled net js earlier actor true →
     ((c : ℕ) → actor ≡ Source c → c < length net.conns) → IsActorSettled net js (last ∷ earlier) actor true
 remains net js earlier last it (Source c) settled low = source_remains net js earlier last it c (low c refl) settled
 remains net js earlier last it (Port p) settled low = port_remains net js earlier last it p settled

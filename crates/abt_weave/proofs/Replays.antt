@@ -42,7 +42,7 @@ use Rattle.abt_journal.specs.declared.input.PortReply.{PortReply}
 use Rattle.abt_journal.specs.declared.input.PortReply.TheVariants.{Requested as RequestedOut, Answered as AnsweredOut, Arrived as ArrivedOut, Capped as CappedOut}
 use Rattle.abt_journal.specs.declared.input.PortInput.TheVariants.{Capacity as CapacityIn}
 use Rattle.abt_journal.specs.Replay.{reply_by, table_after, replay}
-use Rattle.abt_woven.specs.Projections.{Step, step_of, Visit, reply_of, input_of, visit, past_of, step_at, steps_on}
+use Rattle.abt_weave.specs.Projections.{Step, step_of, Visit, reply_of, input_of, visit, past_of, step_at, steps_on}
 use Rattle.abt_weave.proofs.Alone.{answer_told, capped_by, capacity_visits, capacity_silent}
 use Rattle.abt_weave.proofs.OwnEvents.{unvisited_by}
 use Rattle.abt_weave.proofs.PortEvents.{IsVisit, known_at, input_at, visit_cases, visit_is, visit_made, has_reply, reply_enabled, some_same}

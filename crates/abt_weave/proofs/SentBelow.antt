@@ -37,8 +37,8 @@ use Rattle.abt_journal.specs.declared.input.PortInput.{PortInput}
 use Rattle.abt_journal.specs.declared.input.PortInput.TheVariants.{Request as RequestIn, Answer as AnswerIn}
 use Rattle.abt_journal.specs.declared.input.PortReply.{PortReply}
 use Rattle.abt_journal.specs.declared.input.PortReply.TheVariants.{Requested as RequestedOut, Answered as AnsweredOut}
-use Rattle.abt_woven.specs.Projections.{Step, Visit, reply_of, input_of, past_of, visit, step_at, steps_on, entries_on}
-use Rattle.abt_woven.specs.Stuck.{IsBeginning}
+use Rattle.abt_weave.specs.Projections.{Step, Visit, reply_of, input_of, past_of, visit, step_at, steps_on, entries_on}
+use Rattle.abt_weave.specs.Stuck.{IsBeginning}
 use Rattle.abt_weave.proofs.Candidates.{and_both}
 use Rattle.abt_weave.proofs.Growth.{steps_none, steps_other}
 use Rattle.abt_weave.proofs.PortEvents.{IsVisit, visit_by_input, visit_made, some_same}

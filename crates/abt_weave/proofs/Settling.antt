@@ -9,16 +9,16 @@ use Rattle.abt_model.specs.declared.event.Event.{Event}
 use Rattle.abt_model.specs.declared.event.Event.TheVariants.{Turn}
 use Rattle.abt_model.specs.declared.target.Target.TheVariants as target
 use Rattle.abt_model.specs.Events.{AsksRate}
-use Rattle.abt_woven.specs.declared.actor.Actor.{Actor}
-use Rattle.abt_woven.specs.declared.actor.Actor.TheVariants.{Source, Port}
-use Rattle.abt_woven.specs.Projections.{past_of, visit, entry_made}
-use Rattle.abt_woven.specs.Stuck.{Journaled, IsTurn}
-use Rattle.abt_weave.specs.declared.board.Board.{Board}
+use Rattle.abt_weave.specs.declared.actor.Actor.{Actor}
+use Rattle.abt_weave.specs.declared.actor.Actor.TheVariants.{Source, Port}
+use Rattle.abt_weave.specs.Projections.{past_of, visit, entry_made}
+use Rattle.abt_weave.specs.Stuck.{RunJournals, IsTurn}
+use Rattle.abt_weave.specs.declared.progress.Progress.{Progress}
 use Rattle.abt_weave.specs.declared.look.Look.{Look}
 use Rattle.abt_weave.specs.declared.look.Look.TheVariants.{Placed, Waits, Mismatches}
 use Rattle.abt_weave.specs.declared.queue.Queue.{Queue}
 use Rattle.abt_weave.specs.Actors.{actor_at, actor_count}
-use Rattle.abt_weave.specs.Board.{count, is_mismatch, IsBoard, IsActorSettled, IsAfterLook, AreSettled}
+use Rattle.abt_weave.specs.Progress.{count, is_mismatch, IsProgress, IsActorSettled, IsAfterLook, AreSettled}
 use Rattle.abt_weave.specs.Comes.{IsTurnOf}
 use Rattle.abt_weave.specs.Queue.{IsQueue, AreAllReady, IsEmpty, IsFirst, IsUp, Wakes, IsWaiting}
 use Rattle.abt_weave.specs.Rounds.{NoOne}
@@ -34,21 +34,21 @@ use Rattle.abt_weave.proofs.Waiting.{waits_on, turned_on}
 use Rattle.abt_weave.proofs.Remains.{remains}
 
 -- An event that was placed last, over a net within the rules.
-pub record IsNext (net : Topology) (js : Journaled) (earlier : List Event) (last : Event) : Type 0 where
+pub record IsNext (net : Topology) (js : RunJournals) (earlier : List Event) (last : Event) : Type 0 where
   pub rules : IsWithinRules net
   pub rates : All AsksRate (last ∷ earlier)
   pub before : All AsksRate earlier
   pub shown : IsShown net js earlier last
 
 -- an actor that the last event doesn't touch, or whose next entry mismatches
-stays_by : (net : Topology) (js : Journaled) (earlier : List Event) (last : Event) → IsNext net js earlier last → (actor : Actor) (b : Bool) → ((c : ℕ) → actor ≡ Source c → c < length net.conns) →
+stays_by : (net : Topology) (js : RunJournals) (earlier : List Event) (last : Event) → IsNext net js earlier last → (actor : Actor) (b : Bool) → ((c : ℕ) → actor ≡ Source c → c < length net.conns) →
     (b ≡ true) ⊎ (Touches net js (last ∷ earlier) last actor → ⊥) → IsActorSettled net js earlier actor b → IsActorSettled net js (last ∷ earlier) actor b
 stays_by net js earlier last it actor true low why settled = remains net js earlier last (record { rules = it.rules; rates = it.rates; before = it.before; shown = it.shown }) actor settled low
 stays_by net js earlier last it actor false low (inl clash) settled = absurd (false≢true clash)
 stays_by net js earlier last it actor false low (inr never) settled = waits_on net js earlier last (record { rules = it.rules; first = it.rates; second = it.before }) actor low never settled
 
 -- the same where a Turn comes first
-turn_is : (net : Topology) (js : Journaled) (earlier : List Event) (event turn : Event) → IsTurnOf net event turn → IsShown net js earlier turn → IsTurn net earlier turn
+turn_is : (net : Topology) (js : RunJournals) (earlier : List Event) (event turn : Event) → IsTurnOf net event turn → IsShown net js earlier turn → IsTurn net earlier turn
 turn_is net js earlier event turn its (inr needed) = needed.turn
 turn_is net js earlier event turn its (inl fits) =
     let past = past_of net earlier in
@@ -57,7 +57,7 @@ turn_is net js earlier event turn its (inl fits) =
       | inr made ↦ made (ap (entry_made net earlier) its.turn_is)
     ])
 
-turn_on : (net : Topology) (js : Journaled) (earlier : List Event) (event turn : Event) → IsNext net js earlier turn → IsTurnOf net event turn → (actor : Actor) (b : Bool) → ((c : ℕ) → actor ≡ Source c → c < length net.conns) →
+turn_on : (net : Topology) (js : RunJournals) (earlier : List Event) (event turn : Event) → IsNext net js earlier turn → IsTurnOf net event turn → (actor : Actor) (b : Bool) → ((c : ℕ) → actor ≡ Source c → c < length net.conns) →
     IsActorSettled net js earlier actor b → IsActorSettled net js (turn ∷ earlier) actor b
 turn_on net js earlier event turn first its actor true low settled = stays_by net js earlier turn first actor true low (inl refl) settled
 turn_on net js earlier event turn first its actor false low settled = turned_on net js earlier turn (turn_is net js earlier event turn its first.shown) actor settled
@@ -66,7 +66,7 @@ turn_on net js earlier event turn first its actor false low settled = turned_on 
 rates_rest : (event : Event) (earlier : List Event) → All AsksRate (event ∷ earlier) → All AsksRate earlier
 rates_rest event earlier all = λ k d low. all (suc k) d (omega (arith, low))
 
-placed_one : (net : Topology) (js : Journaled) (earlier later : List Event) (event : Event) → IsWithinRules net → All AsksRate later → AreShown net js later → later ≡ event ∷ earlier → (actor : Actor) (b : Bool) → ((c : ℕ) → actor ≡ Source c → c < length net.conns) →
+placed_one : (net : Topology) (js : RunJournals) (earlier later : List Event) (event : Event) → IsWithinRules net → All AsksRate later → AreShown net js later → later ≡ event ∷ earlier → (actor : Actor) (b : Bool) → ((c : ℕ) → actor ≡ Source c → c < length net.conns) →
     (b ≡ true) ⊎ (Touches net js later event actor → ⊥) → IsActorSettled net js earlier actor b → IsActorSettled net js later actor b
 placed_one net js earlier later event rules rates shown is actor b low why settled =
     let all : All AsksRate (event ∷ earlier) = subst (All AsksRate) is rates in
@@ -74,7 +74,7 @@ placed_one net js earlier later event rules rates shown is actor b low why settl
     subst (λ l. IsActorSettled net js l actor b) (sym is)
     (stays_by net js earlier event next actor b low (subst (λ l. (b ≡ true) ⊎ (Touches net js l event actor → ⊥)) is why) settled)
 
-placed_two : (net : Topology) (js : Journaled) (earlier later : List Event) (event turn : Event) → IsWithinRules net → All AsksRate later → AreShown net js later → later ≡ event ∷ turn ∷ earlier → IsTurnOf net event turn → (actor : Actor) (b : Bool) →
+placed_two : (net : Topology) (js : RunJournals) (earlier later : List Event) (event turn : Event) → IsWithinRules net → All AsksRate later → AreShown net js later → later ≡ event ∷ turn ∷ earlier → IsTurnOf net event turn → (actor : Actor) (b : Bool) →
     ((c : ℕ) → actor ≡ Source c → c < length net.conns) → (b ≡ true) ⊎ (Touches net js later event actor → ⊥) → IsActorSettled net js earlier actor b → IsActorSettled net js later actor b
 placed_two net js earlier later event turn rules rates shown is its actor b low why settled =
     let all : All AsksRate (event ∷ turn ∷ earlier) = subst (All AsksRate) is rates in
@@ -86,17 +86,17 @@ placed_two net js earlier later event turn rules rates shown is its actor b low 
     subst (λ l. IsActorSettled net js l actor b) (sym is)
     (stays_by net js (turn ∷ earlier) event next actor b low why2 (turn_on net js earlier event turn first its actor b low settled))
 
-pub stays_settled : (net : Topology) (js : Journaled) (old new : Board) (event : Event) → IsWithinRules net → IsBoard net js new → HasPlaced net event old.events.items new.events.items → (actor : Actor) (b : Bool) →
+pub stays_settled : (net : Topology) (js : RunJournals) (old new : Progress) (event : Event) → IsWithinRules net → IsProgress net js new → HasPlaced net event old.events.items new.events.items → (actor : Actor) (b : Bool) →
     ((c : ℕ) → actor ≡ Source c → c < length net.conns) → (b ≡ true) ⊎ (Touches net js (reverse new.events.items) event actor → ⊥) →
     IsActorSettled net js (reverse old.events.items) actor b → IsActorSettled net js (reverse new.events.items) actor b
-stays_settled net js old new event rules board (inl one) actor b low why settled =
+stays_settled net js old new event rules progress (inl one) actor b low why settled =
     let is : reverse new.events.items ≡ event ∷ reverse old.events.items = ap (λ l. reverse l) one ∙ pushed old.events.items event in
-    placed_one net js (reverse old.events.items) (reverse new.events.items) event rules (all_reversed AsksRate new.events.items board.stands.rates) board.shown is actor b low why settled
-stays_settled net js old new event rules board (inr two) actor b low why settled =
+    placed_one net js (reverse old.events.items) (reverse new.events.items) event rules (all_reversed AsksRate new.events.items progress.stands.rates) progress.shown is actor b low why settled
+stays_settled net js old new event rules progress (inr two) actor b low why settled =
     let turn = two.0 in
     let is : reverse new.events.items ≡ event ∷ turn ∷ reverse old.events.items =
     ap (λ l. reverse l) two.2 ∙ pushed (old.events.items ++ turn ∷ []) event ∙ ap (λ l. event ∷ l) (pushed old.events.items turn) in
-    placed_two net js (reverse old.events.items) (reverse new.events.items) event turn rules (all_reversed AsksRate new.events.items board.stands.rates) board.shown is two.1 actor b low why settled
+    placed_two net js (reverse old.events.items) (reverse new.events.items) event turn rules (all_reversed AsksRate new.events.items progress.stands.rates) progress.shown is two.1 actor b low why settled
 
 source_low : (net : Topology) (i c : ℕ) → actor_at net i ≡ Source c → c < length net.conns
 source_low net i c e = elim (cases_actor net i) [
@@ -123,7 +123,7 @@ noted_queue n number mark old new queue taken noted = record {
 }
 
 -- nothing was placed
-pub waited : (net : Topology) (js : Journaled) (earlier : List Event) (number : ℕ) (mark : Bool) (old new : Queue) → number < actor_count net → slice_get old.woken.items number ≡ Some false → IsWaiting net js earlier (λ i. i ≡ number) old →
+pub waited : (net : Topology) (js : RunJournals) (earlier : List Event) (number : ℕ) (mark : Bool) (old new : Queue) → number < actor_count net → slice_get old.woken.items number ≡ Some false → IsWaiting net js earlier (λ i. i ≡ number) old →
     IsNoted number mark old new → IsActorSettled net js earlier (actor_at net number) mark → IsWaiting net js earlier NoOne new
 waited net js earlier number mark old new low taken waiting noted settled = record {
   queue_is = noted_queue (actor_count net) number mark old new waiting.queue_is taken noted;
@@ -156,10 +156,10 @@ flag_down xs ys i same keeps off =
     ]
 
 -- an event was placed, and whom it touches was woken, with the actor whose entry it was
-pub woken_on : (net : Topology) (js : Journaled) (old new : Board) (event : Event) (number : ℕ) (queue noted also after : Queue) → IsWithinRules net → IsBoard net js new → HasPlaced net event old.events.items new.events.items → number < actor_count net →
+pub woken_on : (net : Topology) (js : RunJournals) (old new : Progress) (event : Event) (number : ℕ) (queue noted also after : Queue) → IsWithinRules net → IsProgress net js new → HasPlaced net event old.events.items new.events.items → number < actor_count net →
     slice_get queue.woken.items number ≡ Some false → IsWaiting net js (reverse old.events.items) (λ i. i ≡ number) queue → IsNoted number false queue noted → Wakes (λ i. i ≡ number) noted also →
     Wakes (AreTouched net js (reverse new.events.items) event) also after → IsQueue (actor_count net) after → IsWaiting net js (reverse new.events.items) NoOne after
-woken_on net js old new event number queue noted also after rules board placed low taken waiting is own others queue_is = record {
+woken_on net js old new event number queue noted also after rules progress placed low taken waiting is own others queue_is = record {
   queue_is = queue_is;
   settled = λ i b none off marked.
       (let marks : slice_get noted.marks.items i ≡ Some b = sym (ap (λ l. slice_get l i) (others.marks ∙ own.marks)) ∙ marked in
@@ -175,7 +175,7 @@ woken_on net js old new event number queue noted also after rules board placed l
         | inl up ↦ inl up
         | inr unmarked ↦ inr (λ touched. up_if after i off unmarked (others.wakes i (low_i, touched)))
       ] in
-      stays_settled net js old new event rules board placed (actor_at net i) b (source_low net i) why settled);
+      stays_settled net js old new event rules progress placed (actor_at net i) b (source_low net i) why settled);
 }
 
 pub noted_as : (number k : ℕ) (mark b : Bool) (old new : Queue) → new.ready.items ≡ old.ready.items → new.woken.items ≡ old.woken.items → new.marks.items ≡ set old.marks.items k b → k ≡ number → b ≡ mark → IsNoted number mark old new
@@ -185,13 +185,13 @@ pub noted_is : (n number : ℕ) (mark : Bool) (old new : Queue) → IsQueue n ol
 noted_is n number mark old new queue taken noted = sized n new (noted_queue n number mark old new queue taken noted)
 
 -- what a look that places nothing has done
-pub after_wait : (net : Topology) (js : Journaled) (settled : List Event → Bool → Type 0) (old new : Board) (look : Look) → ((event : Event) → look ≢ Placed event) → IsAfterLook net js settled old new look →
-    IsBoard net js new × (new.events.items ≡ old.events.items) × (count new ≡ count old) × settled (reverse old.events.items) (is_mismatch look)
+pub after_wait : (net : Topology) (js : RunJournals) (settled : List Event → Bool → Type 0) (old new : Progress) (look : Look) → ((event : Event) → look ≢ Placed event) → IsAfterLook net js settled old new look →
+    IsProgress net js new × (new.events.items ≡ old.events.items) × (count new ≡ count old) × settled (reverse old.events.items) (is_mismatch look)
 after_wait net js settled old new (Placed event) never h = absurd (never event refl)
 after_wait net js settled old new Waits never h = h
 after_wait net js settled old new Mismatches never h = h
 
-pub waits_still : (net : Topology) (js : Journaled) (but : ℕ → Type 0) (queue : Queue) (one other : List Event) → one ≡ other → IsWaiting net js (reverse one) but queue → IsWaiting net js (reverse other) but queue
+pub waits_still : (net : Topology) (js : RunJournals) (but : ℕ → Type 0) (queue : Queue) (one other : List Event) → one ≡ other → IsWaiting net js (reverse one) but queue → IsWaiting net js (reverse other) but queue
 waits_still net js but queue one other same is = subst (λ l. IsWaiting net js (reverse l) but queue) same is
 
 -- in an empty queue no flag is up
@@ -207,14 +207,14 @@ empty_down net queue is none i low =
     empty_none i (k, low, is) = omega (arith, low)
 
 -- an empty queue settles all
-pub none_left : (net : Topology) (js : Journaled) (earlier : List Event) (queue : Queue) → IsWaiting net js earlier NoOne queue → queue.ready.items ≡ [] → AreSettled net js earlier (actor_count net) queue.marks.items
+pub none_left : (net : Topology) (js : RunJournals) (earlier : List Event) (queue : Queue) → IsWaiting net js earlier NoOne queue → queue.ready.items ≡ [] → AreSettled net js earlier (actor_count net) queue.marks.items
 none_left net js earlier queue waiting none = record {
   count_is = waiting.queue_is.mark_count;
   each = λ i b marked. waiting.settled i b (λ never. never) (empty_down net queue waiting.queue_is none i (subst (λ n. i < n) waiting.queue_is.mark_count (slice_get_within queue.marks.items i b marked))) marked;
 }
 
 -- the first is taken out
-pub taken_on : (net : Topology) (js : Journaled) (earlier : List Event) (old new : Queue) (number : ℕ) → IsWaiting net js earlier NoOne old → IsFirst old new number → IsWaiting net js earlier (λ i. i ≡ number) new × (number < actor_count net)
+pub taken_on : (net : Topology) (js : RunJournals) (earlier : List Event) (old new : Queue) (number : ℕ) → IsWaiting net js earlier NoOne old → IsFirst old new number → IsWaiting net js earlier (λ i. i ≡ number) new × (number < actor_count net)
 taken_on net js earlier old new number waiting first = (
   record {
     queue_is = subst (λ n. IsQueue n new) waiting.queue_is.woken_count first.queue_is;
@@ -223,7 +223,7 @@ taken_on net js earlier old new number waiting first = (
   (let all : All (λ i. i < actor_count net) (number ∷ new.ready.items) = subst (All (λ i. i < actor_count net)) first.first waiting.queue_is.low in all 0 number (omega arith)),
 )
 
-pub empty_on : (net : Topology) (js : Journaled) (earlier : List Event) (old new : Queue) → IsWaiting net js earlier NoOne old → IsEmpty old new → IsWaiting net js earlier NoOne new
+pub empty_on : (net : Topology) (js : RunJournals) (earlier : List Event) (old new : Queue) → IsWaiting net js earlier NoOne old → IsEmpty old new → IsWaiting net js earlier NoOne new
 empty_on net js earlier old new waiting empty = record {
   queue_is = record {
     woken_count = ap (λ l. length l) empty.woken ∙ waiting.queue_is.woken_count;
@@ -236,7 +236,7 @@ empty_on net js earlier old new waiting empty = record {
 }
 
 -- all are to be looked at
-pub all_waiting : (net : Topology) (js : Journaled) (earlier : List Event) (queue : Queue) → AreAllReady (actor_count net) queue → IsWaiting net js earlier NoOne queue
+pub all_waiting : (net : Topology) (js : RunJournals) (earlier : List Event) (queue : Queue) → AreAllReady (actor_count net) queue → IsWaiting net js earlier NoOne queue
 all_waiting net js earlier queue all = record {
   queue_is = all.queue_is;
   settled = λ i b never off marked. absurd (not_both queue.woken.items i (all.all i (subst (λ n. i < n) all.queue_is.woken_count (slice_get_within queue.woken.items i false off))) off);

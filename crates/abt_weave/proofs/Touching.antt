@@ -13,11 +13,11 @@ use Rattle.abt_model.specs.Outcomes.{conn_of}
 use Rattle.abt_model.specs.PortTable.{hop_visited}
 use Rattle.abt_model.specs.Targets.{target_of, conn_in}
 use Rattle.abt_model.proofs.Steps.{is_hop_tells}
-use Rattle.abt_woven.specs.declared.actor.Actor.TheVariants.{Source, Port}
-use Rattle.abt_woven.specs.Stuck.{Journaled}
+use Rattle.abt_weave.specs.declared.actor.Actor.TheVariants.{Source, Port}
+use Rattle.abt_weave.specs.Stuck.{RunJournals}
 use Rattle.abt_weave.specs.declared.queue.Queue.{Queue}
 use Rattle.abt_weave.specs.Actors.{actor_at}
-use Rattle.abt_weave.specs.Board.{count}
+use Rattle.abt_weave.specs.Progress.{count}
 use Rattle.abt_weave.specs.Queue.{Wakes}
 use Rattle.abt_weave.specs.Waking.{AreNear, IsAbout, IsPassed, Touches, AreTouched, IsPortFor, AreOnPath, IsSourceFor, AreOfConn}
 use Rattle.abt_weave.proofs.Numbers.{below_if, below_else, source_at, port_at}
@@ -35,7 +35,7 @@ cases_actor net i = elim (cases_Bool (nat_lt i (length net.conns))) [
 ]
 
 -- those that an event of a connection touches are woken with the connection
-passed_on : (net : Topology) (js : Journaled) (later : List Event) (event : Event) (c p : ℕ) → conn_of event ≡ Some c → IsPassed net js later event p → AreOnPath net js later c (hop_visited event) (length net.conns + p)
+passed_on : (net : Topology) (js : RunJournals) (later : List Event) (event : Event) (c p : ℕ) → conn_of event ≡ Some c → IsPassed net js later event p → AreOnPath net js later c (hop_visited event) (length net.conns + p)
 passed_on net js later event c p whose passed =
     let same : passed.c ≡ c = some_same (sym passed.whose ∙ whose) in
     let hop = is_hop_tells (length passed.conn.path) passed.hop passed.within in
@@ -52,7 +52,7 @@ passed_on net js later event c p whose passed =
       ];
     }
 
-pub touched_of : (net : Topology) (js : Journaled) (later : List Event) (event : Event) (c i : ℕ) → conn_of event ≡ Some c → AreTouched net js later event i → AreOfConn net js later c (hop_visited event) i
+pub touched_of : (net : Topology) (js : RunJournals) (later : List Event) (event : Event) (c i : ℕ) → conn_of event ≡ Some c → AreTouched net js later event i → AreOfConn net js later c (hop_visited event) i
 touched_of net js later event c i whose touched = elim (cases_actor net i) [
   | inl source ↦ (
       let own : Touches net js later event (Source i) = subst (Touches net js later event) source.1 touched.1 in
@@ -70,7 +70,7 @@ touched_of net js later event c i whose touched = elim (cases_actor net i) [
 pub wakes_sub : (less more : ℕ → Type 0) (old new : Queue) → ((i : ℕ) → less i → more i) → Wakes more old new → Wakes less old new
 wakes_sub less more old new covers all = record { marks = all.marks; count = all.count; keeps = all.keeps; wakes = λ i w. all.wakes i (covers i w) }
 
-pub touched_wakes : {T E : Type 0} → (r : Result T E) (net : Topology) (js : Journaled) (later : List Event) (event : Event) (c hop : ℕ) (old new : Queue) → conn_of event ≡ Some c → hop ≡ hop_visited event →
+pub touched_wakes : {T E : Type 0} → (r : Result T E) (net : Topology) (js : RunJournals) (later : List Event) (event : Event) (c hop : ℕ) (old new : Queue) → conn_of event ≡ Some c → hop ≡ hop_visited event →
     OnOk r (Wakes (AreOfConn net js later c hop) old new) → OnOk r (Wakes (AreTouched net js later event) old new)
 touched_wakes r net js later event c hop old new whose is woken =
     on_ok_weaker r
@@ -81,7 +81,7 @@ target_port : (p u q w : ℕ) → target.Port p u ≡ target.Port q w → p ≡ 
 target_port p u q w e = cc
 
 -- what happens at a port alone touches it alone
-pub touched_alone : (net : Topology) (js : Journaled) (later : List Event) (event : Event) (p u i : ℕ) → target_of event ≡ target.Port p u → AreTouched net js later event i → i ≡ length net.conns + p
+pub touched_alone : (net : Topology) (js : RunJournals) (later : List Event) (event : Event) (p u i : ℕ) → target_of event ≡ target.Port p u → AreTouched net js later event i → i ≡ length net.conns + p
 touched_alone net js later event p u i is touched =
     let none : conn_of event ≡ None = ap conn_in is in
     elim (cases_actor net i) [
@@ -97,11 +97,11 @@ touched_alone net js later event p u i is touched =
     ]
 
 -- those of a path that are touched and stand below this place
-abbrev pub IsPassedPlace : Topology → Journaled → List Event → (c hop n i : ℕ) → Type 0
+abbrev pub IsPassedPlace : Topology → RunJournals → List Event → (c hop n i : ℕ) → Type 0
 IsPassedPlace net js later c hop n i = (on : AreOnPath net js later c hop i) × (on.place < n)
 
 -- one place more
-pub place_more : (net : Topology) (js : Journaled) (later : List Event) (c hop n port : ℕ) (conn : Conn) (came : Bool) (old now new : Queue) → conn_at net c ≡ Some conn → slice_index conn.path n ≡ port → (n + 1 ≡ hop → came ≡ true) →
+pub place_more : (net : Topology) (js : RunJournals) (later : List Event) (c hop n port : ℕ) (conn : Conn) (came : Bool) (old now new : Queue) → conn_at net c ≡ Some conn → slice_index conn.path n ≡ port → (n + 1 ≡ hop → came ≡ true) →
     Wakes (IsPassedPlace net js later c hop n) old now → Wakes (IsPortFor net js later port came conn.vc) now new → Wakes (IsPassedPlace net js later c hop (n + 1)) old new
 place_more net js later c hop n port conn came old now new known here came_is before after =
     wakes_both (IsPassedPlace net js later c hop n) (IsPortFor net js later port came conn.vc) (IsPassedPlace net js later c hop (n + 1)) old now new before after
@@ -120,7 +120,7 @@ place_more net js later c hop n port conn came old now new known here came_is be
     ])
 
 -- none stands below the hop before that of the event
-pub path_begun : (net : Topology) (js : Journaled) (later : List Event) (c hop n : ℕ) (queue : Queue) → n ≤ hop - 2 → Wakes (IsPassedPlace net js later c hop n) queue queue
+pub path_begun : (net : Topology) (js : RunJournals) (later : List Event) (c hop n : ℕ) (queue : Queue) → n ≤ hop - 2 → Wakes (IsPassedPlace net js later c hop n) queue queue
 path_begun net js later c hop n queue low = wakes_none (IsPassedPlace net js later c hop n) queue (λ i at. absurd (elim at.0.why [
   | inl here ↦ (let below = at.1 in omega (arith, low, below, here))
   | inr about ↦ (let below = at.1 in let near = about.0.1 in omega (arith, low, below, near))
@@ -133,7 +133,7 @@ min_either a b = elim (cases_Bool (nat_lt b a)) [
   | inr more ↦ inl (min-eq_left (below_else b a more))
 ]
 
-pub path_whole : (net : Topology) (js : Journaled) (later : List Event) (c hop n : ℕ) (conn : Conn) (old new : Queue) → conn_at net c ≡ Some conn → min (length conn.path) (hop + 1) ≤ n →
+pub path_whole : (net : Topology) (js : RunJournals) (later : List Event) (c hop n : ℕ) (conn : Conn) (old new : Queue) → conn_at net c ≡ Some conn → min (length conn.path) (hop + 1) ≤ n →
     Wakes (IsPassedPlace net js later c hop n) old new → Wakes (AreOnPath net js later c hop) old new
 path_whole net js later c hop n conn old new known high before = record {
   marks = before.marks;
@@ -152,7 +152,7 @@ path_whole net js later c hop n conn old new known high before = record {
 }
 
 -- a connection that the net doesn't have
-pub unknown_conn : (net : Topology) (js : Journaled) (later : List Event) (c hop i : ℕ) → length net.conns ≤ c → AreOfConn net js later c hop i → ⊥
+pub unknown_conn : (net : Topology) (js : RunJournals) (later : List Event) (c hop i : ℕ) → length net.conns ≤ c → AreOfConn net js later c hop i → ⊥
 unknown_conn net js later c hop i high (inl source) = (let low = source.1 in omega (arith, low, high))
 unknown_conn net js later c hop i high (inr on) = (let low = slice_get_within net.conns c on.conn on.known in omega (arith, low, high))
 
@@ -164,7 +164,7 @@ pub source_apart : (c hop : ℕ) (queue : Queue) → 1 < hop → Wakes (IsSource
 source_apart c hop queue high = wakes_none (IsSourceFor c hop) queue (λ i source. absurd (let low = source.1 in omega (arith, low, high)))
 
 -- both
-pub conn_whole : (net : Topology) (js : Journaled) (later : List Event) (c hop : ℕ) (old now new : Queue) → Wakes (IsSourceFor c hop) old now → Wakes (AreOnPath net js later c hop) now new → Wakes (AreOfConn net js later c hop) old new
+pub conn_whole : (net : Topology) (js : RunJournals) (later : List Event) (c hop : ℕ) (old now new : Queue) → Wakes (IsSourceFor c hop) old now → Wakes (AreOnPath net js later c hop) now new → Wakes (AreOfConn net js later c hop) old new
 conn_whole net js later c hop old now new first second =
     wakes_both (IsSourceFor c hop) (AreOnPath net js later c hop) (AreOfConn net js later c hop) old now new first second
     (λ i which. elim which [

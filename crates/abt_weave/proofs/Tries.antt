@@ -12,8 +12,8 @@ use Rattle.abt_model.specs.Run.{facts_after}
 use Rattle.abt_model.proofs.Runs.{facts_from_push}
 use Rattle.abt_journal.specs.declared.input.PortReply.{PortReply}
 use Rattle.abt_world.specs.Standing.{WorldView, StandsFor, IsOfPast}
-use Rattle.abt_woven.specs.Projections.{is_enabled, reply_of}
-use Rattle.abt_woven.proofs.Placing.{disabled_same}
+use Rattle.abt_weave.specs.Projections.{is_enabled, reply_of}
+use Rattle.abt_weave.proofs.Placing.{disabled_same}
 use Rattle.abt_weave.specs.declared.trying.Tried.{Tried}
 use Rattle.abt_weave.specs.declared.trying.Tried.TheVariants.{Agrees, Differs, Absent}
 use Rattle.abt_weave.specs.Tried.{IsOwnVerdict, IsVisitVerdict, IsOwnTried, IsVisitTried, IsTurnTried}

@@ -19,12 +19,12 @@ use Rattle.abt_model.proofs.Worlds.{cases_option, facts_of-own, facts_of-other}
 use Rattle.abt_source.specs.SourceFacts.{request_of}
 use Rattle.abt_journal.specs.declared.input.PortInput.{PortInput}
 use Rattle.abt_journal.specs.declared.input.PortInput.TheVariants.{Request as RequestIn, Answer as AnswerIn, Arrive as ArriveIn, Capacity as CapacityIn}
-use Rattle.abt_source_journal.specs.declared.entry.SourceEntry.{SourceEntry}
-use Rattle.abt_source_journal.specs.declared.entry.SourceEntry.TheVariants.{Did}
-use Rattle.abt_woven.specs.Projections.{Step, Visit, is_enabled, reply_of, place_at_first, past_of, visit, steps_on, entry_made, entries_on}
-use Rattle.abt_woven.specs.Stuck.{Journaled, port_journal, source_journal, next_step, step_next, next_entry, Fits, IsTurn, AreTurns, PortMismatches, SourceMismatches}
-use Rattle.abt_woven.proofs.Turns.{outcome_turns, steps_turn, steps_turns}
-use Rattle.abt_weave.specs.Board.{IsSourceSettled, IsPortSettled}
+use Rattle.abt_model.specs.declared.entry.SourceEntry.{SourceEntry}
+use Rattle.abt_model.specs.declared.entry.SourceEntry.TheVariants.{Did}
+use Rattle.abt_weave.specs.Projections.{Step, Visit, is_enabled, reply_of, place_at_first, past_of, visit, steps_on, entry_made, entries_on}
+use Rattle.abt_weave.specs.Stuck.{RunJournals, port_journal, source_journal, next_step, step_next, next_entry, Fits, IsTurn, AreTurns, PortMismatches, SourceMismatches}
+use Rattle.abt_weave.proofs.Turns.{outcome_turns, steps_turn, steps_turns}
+use Rattle.abt_weave.specs.Progress.{IsSourceSettled, IsPortSettled}
 use Rattle.abt_weave.specs.Candidates.{is_own_of, is_told}
 use Rattle.abt_weave.specs.Comes.{input_told, Comes}
 use Rattle.abt_weave.proofs.Alike.{AreRuns, outcome_alike, capacity_outcome}
@@ -36,7 +36,7 @@ use Rattle.abt_weave.proofs.PortEvents.{IsNoCapacity, some_same, reply_enabled}
 use Rattle.abt_weave.proofs.PortLooks.{steps_next, would_mismatch, mismatch_at}
 
 -- What fits would mismatch too, where it is not asked what the entry tells.
-source_fit : (net : Topology) (js : Journaled) (earlier turns : List Event) (c : ℕ) (event done : Event) (outcome : Outcome) → AreTurns net earlier turns → conn_of event ≡ Some c →
+source_fit : (net : Topology) (js : RunJournals) (earlier turns : List Event) (c : ℕ) (event done : Event) (outcome : Outcome) → AreTurns net earlier turns → conn_of event ≡ Some c →
     entry_made net (turns ++ earlier) event ≡ Some (Did done outcome) → Fits net js (turns ++ earlier) event → SourceMismatches net js earlier c
 source_fit net js earlier turns c event done outcome all here made fits =
     let after = turns ++ earlier in
@@ -44,13 +44,13 @@ source_fit net js earlier turns c event done outcome all here made fits =
     let does : entry_made net after event ≡ Some (Did event outcome) = made ∙ ap (λ e. Some (Did e outcome)) its.event_is in
     record { turns = turns; turned = all; event = event; here = here; outcome = outcome; does = does; told = outcome; next = fits.entry c (Did event outcome) here does }
 
-pub source_unmarked : (net : Topology) (js : Journaled) (earlier : List Event) (c : ℕ) → (SourceMismatches net js earlier c → ⊥) → IsSourceSettled net js earlier c false
+pub source_unmarked : (net : Topology) (js : RunJournals) (earlier : List Event) (c : ℕ) → (SourceMismatches net js earlier c → ⊥) → IsSourceSettled net js earlier c false
 source_unmarked net js earlier c never = record {
   stuck = λ turns event done outcome all here made fits. never (source_fit net js earlier turns c event done outcome all here made fits);
   marks = never;
 }
 
-port_fit : (net : Topology) (js : Journaled) (earlier turns : List Event) (p : ℕ) (event : Event) (v : Visit) → AreTurns net earlier turns → visit net (past_of net (turns ++ earlier)) event ≡ Some v → v.port ≡ p →
+port_fit : (net : Topology) (js : RunJournals) (earlier turns : List Event) (p : ℕ) (event : Event) (v : Visit) → AreTurns net earlier turns → visit net (past_of net (turns ++ earlier)) event ≡ Some v → v.port ≡ p →
     Fits net js (turns ++ earlier) event → PortMismatches net js earlier p
 port_fit net js earlier turns p event v all is here fits =
     let after = turns ++ earlier in
@@ -68,7 +68,7 @@ port_fit net js earlier turns p event v all is here fits =
       beside = fits.entry;
     }
 
-pub port_unmarked : (net : Topology) (js : Journaled) (earlier : List Event) (p : ℕ) → (PortMismatches net js earlier p → ⊥) → IsPortSettled net js earlier p false
+pub port_unmarked : (net : Topology) (js : RunJournals) (earlier : List Event) (p : ℕ) → (PortMismatches net js earlier p → ⊥) → IsPortSettled net js earlier p false
 port_unmarked net js earlier p never = record {
   stuck = λ turns event v all is here fits. never (port_fit net js earlier turns p event v all is here fits);
   marks = never;
@@ -82,7 +82,7 @@ own_alike net one other runs c event own same =
     (λ conn known input brings. (let clash = sym (own_input c (target_of event) own conn.vc (request_of conn.vc (facts_of c (past_of net one)))) ∙ brings in absurd (cc)))
 
 -- a source whose next entry mismatches after an event, and which would have answered the same before it
-pub source_same : (net : Topology) (js : Journaled) (earlier : List Event) (last : Event) (c : ℕ) → entries_on net c (last ∷ earlier) ≡ entries_on net c earlier → (m : SourceMismatches net js (last ∷ earlier) c) →
+pub source_same : (net : Topology) (js : RunJournals) (earlier : List Event) (last : Event) (c : ℕ) → entries_on net c (last ∷ earlier) ≡ entries_on net c earlier → (m : SourceMismatches net js (last ∷ earlier) c) →
     outcome_of net (past_of net (m.turns ++ last ∷ earlier)) m.event ≡ outcome_of net (past_of net earlier) m.event → SourceMismatches net js earlier c
 source_same net js earlier last c still m same =
     let later = last ∷ earlier in
@@ -102,7 +102,7 @@ source_same net js earlier last c still m same =
       next = ap (λ (l : List SourceEntry). slice_get (source_journal js c) (length l)) (sym still) ∙ sym (next_turns net js later m.turns m.turned c) ∙ m.next;
     }
 
-pub source_back : (net : Topology) (js : Journaled) (earlier : List Event) (last : Event) → AreRuns net (last ∷ earlier) earlier → (c : ℕ) → conn_of last ≢ Some c → SourceMismatches net js (last ∷ earlier) c → SourceMismatches net js earlier c
+pub source_back : (net : Topology) (js : RunJournals) (earlier : List Event) (last : Event) → AreRuns net (last ∷ earlier) earlier → (c : ℕ) → conn_of last ≢ Some c → SourceMismatches net js (last ∷ earlier) c → SourceMismatches net js earlier c
 source_back net js earlier last runs c apart m =
     let later = last ∷ earlier in
     let after = m.turns ++ later in
@@ -113,7 +113,7 @@ source_back net js earlier last runs c apart m =
     (own_turns net later m.turns m.turned c event own ∙ own_alike net later earlier runs c event own (facts_of-other net (past_of net earlier) last c apart))
 
 -- what comes after such an event came before it
-comes_apart : (net : Topology) (js : Journaled) (earlier : List Event) (last : Event) (p place : ℕ) (input : PortInput) (event : Event) → steps_on net p (last ∷ earlier) ≡ steps_on net p earlier →
+comes_apart : (net : Topology) (js : RunJournals) (earlier : List Event) (last : Event) (p place : ℕ) (input : PortInput) (event : Event) → steps_on net p (last ∷ earlier) ≡ steps_on net p earlier →
     (comes : Comes net js (last ∷ earlier) p place input event) → conn_of last ≢ Some comes.c → Comes net js earlier p place input event
 comes_apart net js earlier last p place input event steps comes apart =
     let entries = entries_other net earlier last comes.c apart in
@@ -136,11 +136,11 @@ facts_turned net earlier c seq happens =
     facts_of-own net past (Turn c seq) c refl ∙ ap (λ o. facts_added (facts_of c past) (Turn c seq) o ++ facts_of c past) happens
 
 -- the next step of the port, before such an event
-step_before : (net : Topology) (js : Journaled) (earlier : List Event) (last : Event) (p : ℕ) → steps_on net p (last ∷ earlier) ≡ steps_on net p earlier → (m : PortMismatches net js (last ∷ earlier) p) → next_step net js earlier p ≡ Some m.step
+step_before : (net : Topology) (js : RunJournals) (earlier : List Event) (last : Event) (p : ℕ) → steps_on net p (last ∷ earlier) ≡ steps_on net p earlier → (m : PortMismatches net js (last ∷ earlier) p) → next_step net js earlier p ≡ Some m.step
 step_before net js earlier last p steps m =
     ap (λ (l : List Step). slice_get (port_journal js p) (length l)) (sym steps) ∙ sym (steps_next net js (last ∷ earlier) m.turns m.turned p) ∙ m.next
 
-pub capacity_back : (net : Topology) (js : Journaled) (earlier : List Event) (last : Event) → AreRuns net (last ∷ earlier) earlier → (p u : ℕ) → steps_on net p (last ∷ earlier) ≡ steps_on net p earlier →
+pub capacity_back : (net : Topology) (js : RunJournals) (earlier : List Event) (last : Event) → AreRuns net (last ∷ earlier) earlier → (p u : ℕ) → steps_on net p (last ∷ earlier) ≡ steps_on net p earlier →
     (m : PortMismatches net js (last ∷ earlier) p) → m.step.input ≡ CapacityIn u → PortMismatches net js earlier p
 capacity_back net js earlier last runs p u steps m input =
     let later = last ∷ earlier in
@@ -161,13 +161,13 @@ capacity_back net js earlier last runs p u steps m input =
     }
 
 -- the port of what comes to it
-comes_here : (net : Topology) (js : Journaled) (earlier one other : List Event) (p place : ℕ) (input : PortInput) (event : Event) → (comes : Comes net js earlier p place input event) → steps_on net p one ≡ steps_on net p other →
+comes_here : (net : Topology) (js : RunJournals) (earlier one other : List Event) (p place : ℕ) (input : PortInput) (event : Event) → (comes : Comes net js earlier p place input event) → steps_on net p one ≡ steps_on net p other →
     (conn : Conn) → conn_at net comes.c ≡ Some conn → steps_on net (slice_index conn.path (hop_visited event - 1)) one ≡ steps_on net (slice_index conn.path (hop_visited event - 1)) other
 comes_here net js earlier one other p place input event comes steps conn known =
     let here : slice_index conn.path (hop_visited event - 1) ≡ p = ap (λ (k : Conn). slice_index k.path (hop_visited event - 1)) (some_same (sym known ∙ comes.known)) ∙ comes.port in
     subst (λ q. steps_on net q one ≡ steps_on net q other) (sym here) steps
 
-pub visit_back : (net : Topology) (js : Journaled) (earlier : List Event) (last : Event) → AreRuns net (last ∷ earlier) earlier → (p : ℕ) → steps_on net p (last ∷ earlier) ≡ steps_on net p earlier →
+pub visit_back : (net : Topology) (js : RunJournals) (earlier : List Event) (last : Event) → AreRuns net (last ∷ earlier) earlier → (p : ℕ) → steps_on net p (last ∷ earlier) ≡ steps_on net p earlier →
     (m : PortMismatches net js (last ∷ earlier) p) → IsNoCapacity m.step.input → ((c : ℕ) → conn_of m.event ≡ Some c → conn_of last ≢ Some c) → PortMismatches net js earlier p
 visit_back net js earlier last runs p steps m none apart =
     let later = last ∷ earlier in

@@ -36,8 +36,8 @@ use Rattle.abt_journal.specs.declared.input.PortInput.TheVariants.{Request as Re
 use Rattle.abt_journal.specs.declared.input.PortReply.TheVariants.{Capped as CappedOut}
 use Rattle.abt_journal.specs.declared.input.PortReply.{PortReply}
 use Rattle.abt_journal.specs.Replay.{reply_by}
-use Rattle.abt_woven.specs.Projections.{Visit, is_enabled, input_of, past_of, visit, steps_on, entry_made, entries_on}
-use Rattle.abt_woven.specs.Stuck.{IsBeginning}
+use Rattle.abt_weave.specs.Projections.{Visit, is_enabled, input_of, past_of, visit, steps_on, entry_made, entries_on}
+use Rattle.abt_weave.specs.Stuck.{IsBeginning}
 use Rattle.abt_weave.specs.Waking.{AreNear}
 use Rattle.abt_weave.proofs.Alike.{AreRuns, tables_alike}
 use Rattle.abt_weave.proofs.Asks.{AreTerms, asked_below, terms_below}

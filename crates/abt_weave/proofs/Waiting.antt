@@ -11,13 +11,13 @@ use Rattle.abt_model.specs.PortTable.{hop_visited}
 use Rattle.abt_model.proofs.Worlds.{conn_cases}
 use Rattle.abt_journal.specs.declared.input.PortInput.{PortInput}
 use Rattle.abt_journal.specs.declared.input.PortInput.TheVariants.{Request as RequestIn, Answer as AnswerIn, Arrive as ArriveIn, Capacity as CapacityIn}
-use Rattle.abt_source_journal.specs.declared.entry.SourceEntry.{SourceEntry}
-use Rattle.abt_source_journal.specs.declared.entry.SourceEntry.TheVariants.{Did}
-use Rattle.abt_woven.specs.declared.actor.Actor.{Actor}
-use Rattle.abt_woven.specs.declared.actor.Actor.TheVariants.{Source, Port}
-use Rattle.abt_woven.specs.Projections.{Visit, past_of, visit, steps_on, entry_made}
-use Rattle.abt_woven.specs.Stuck.{Journaled, next_step, next_entry, IsTurn, AreTurns, PortMismatches, SourceMismatches}
-use Rattle.abt_weave.specs.Board.{IsActorSettled}
+use Rattle.abt_model.specs.declared.entry.SourceEntry.{SourceEntry}
+use Rattle.abt_model.specs.declared.entry.SourceEntry.TheVariants.{Did}
+use Rattle.abt_weave.specs.declared.actor.Actor.{Actor}
+use Rattle.abt_weave.specs.declared.actor.Actor.TheVariants.{Source, Port}
+use Rattle.abt_weave.specs.Projections.{Visit, past_of, visit, steps_on, entry_made}
+use Rattle.abt_weave.specs.Stuck.{RunJournals, next_step, next_entry, IsTurn, AreTurns, PortMismatches, SourceMismatches}
+use Rattle.abt_weave.specs.Progress.{IsActorSettled}
 use Rattle.abt_weave.specs.Waking.{AreNear, IsAbout, IsPassed, Touches}
 use Rattle.abt_weave.proofs.Alike.{AreRuns}
 use Rattle.abt_weave.proofs.Comings.{comes_stop}
@@ -28,7 +28,7 @@ use Rattle.abt_weave.proofs.PortLooks.{first_hop, steps_next, would_mismatch}
 use Rattle.abt_weave.proofs.Unmoved.{steps_still, source_unmarked, port_unmarked, source_back, capacity_back, visit_back}
 
 -- a port to which an event comes is touched
-comes_touched : (net : Topology) → IsWithinRules net → (js : Journaled) (earlier later : List Event) (event : Event) (p : ℕ) (v : Visit) → visit net (past_of net earlier) event ≡ Some v → v.port ≡ p → Touches net js later event (Port p)
+comes_touched : (net : Topology) → IsWithinRules net → (js : RunJournals) (earlier later : List Event) (event : Event) (p : ℕ) (v : Visit) → visit net (past_of net earlier) event ≡ Some v → v.port ≡ p → Touches net js later event (Port p)
 comes_touched net rules js earlier later event p v is here = elim (visit_cases net (past_of net earlier) event v is) [
   | inl parts ↦ (
       let past = past_of net earlier in
@@ -39,7 +39,7 @@ comes_touched net rules js earlier later event p v is here = elim (visit_cases n
 ]
 
 -- what comes to a port after an event that doesn't touch it came before that
-visit_on : (net : Topology) (js : Journaled) (earlier : List Event) (last : Event) → AreRuns net (last ∷ earlier) earlier → (p : ℕ) → (Touches net js (last ∷ earlier) last (Port p) → ⊥) → steps_on net p (last ∷ earlier) ≡ steps_on net p earlier →
+visit_on : (net : Topology) (js : RunJournals) (earlier : List Event) (last : Event) → AreRuns net (last ∷ earlier) earlier → (p : ℕ) → (Touches net js (last ∷ earlier) last (Port p) → ⊥) → steps_on net p (last ∷ earlier) ≡ steps_on net p earlier →
     (m : PortMismatches net js (last ∷ earlier) p) → IsNoCapacity m.step.input → PortMismatches net js earlier p
 visit_on net js earlier last runs p never steps m none =
     let later = last ∷ earlier in
@@ -57,20 +57,20 @@ visit_on net js earlier last runs p never steps m none =
       | inr differ ↦ visit_back net js earlier last runs p steps m none (λ d whose own. differ (own ∙ sym whose ∙ comes.whose))
     ]
 
-port_by : (net : Topology) (js : Journaled) (earlier : List Event) (last : Event) → AreRuns net (last ∷ earlier) earlier → (p : ℕ) → (Touches net js (last ∷ earlier) last (Port p) → ⊥) → steps_on net p (last ∷ earlier) ≡ steps_on net p earlier →
+port_by : (net : Topology) (js : RunJournals) (earlier : List Event) (last : Event) → AreRuns net (last ∷ earlier) earlier → (p : ℕ) → (Touches net js (last ∷ earlier) last (Port p) → ⊥) → steps_on net p (last ∷ earlier) ≡ steps_on net p earlier →
     (m : PortMismatches net js (last ∷ earlier) p) (input : PortInput) → m.step.input ≡ input → PortMismatches net js earlier p
 port_by net js earlier last runs p never steps m (CapacityIn u) is = capacity_back net js earlier last runs p u steps m is
 port_by net js earlier last runs p never steps m (RequestIn r) is = visit_on net js earlier last runs p never steps m (λ u e. (let clash = sym is ∙ e in cc))
 port_by net js earlier last runs p never steps m (AnswerIn a) is = visit_on net js earlier last runs p never steps m (λ u e. (let clash = sym is ∙ e in cc))
 port_by net js earlier last runs p never steps m (ArriveIn vc at) is = visit_on net js earlier last runs p never steps m (λ u e. (let clash = sym is ∙ e in cc))
 
-port_on : (net : Topology) (js : Journaled) (earlier : List Event) (last : Event) → AreRuns net (last ∷ earlier) earlier → (p : ℕ) → (Touches net js (last ∷ earlier) last (Port p) → ⊥) → PortMismatches net js (last ∷ earlier) p → PortMismatches net js earlier p
+port_on : (net : Topology) (js : RunJournals) (earlier : List Event) (last : Event) → AreRuns net (last ∷ earlier) earlier → (p : ℕ) → (Touches net js (last ∷ earlier) last (Port p) → ⊥) → PortMismatches net js (last ∷ earlier) p → PortMismatches net js earlier p
 port_on net js earlier last runs p never m =
     let steps = steps_still net earlier last p (λ v is here. never (comes_touched net runs.rules js earlier (last ∷ earlier) last p v is here)) in
     port_by net js earlier last runs p never steps m m.step.input refl
 
 -- what a source does after an event that doesn't touch it, it did before that
-source_on : (net : Topology) (js : Journaled) (earlier : List Event) (last : Event) → AreRuns net (last ∷ earlier) earlier → (c : ℕ) → c < length net.conns → (Touches net js (last ∷ earlier) last (Source c) → ⊥) → SourceMismatches net js (last ∷ earlier) c →
+source_on : (net : Topology) (js : RunJournals) (earlier : List Event) (last : Event) → AreRuns net (last ∷ earlier) earlier → (c : ℕ) → c < length net.conns → (Touches net js (last ∷ earlier) last (Source c) → ⊥) → SourceMismatches net js (last ∷ earlier) c →
     SourceMismatches net js earlier c
 source_on net js earlier last runs c low never m = elim (conn_cases last c) [
   | inr differ ↦ source_back net js earlier last runs c differ m
@@ -80,7 +80,7 @@ source_on net js earlier last runs c low never m = elim (conn_cases last c) [
   ])
 ]
 
-pub waits_on : (net : Topology) (js : Journaled) (earlier : List Event) (last : Event) → AreRuns net (last ∷ earlier) earlier → (actor : Actor) → ((c : ℕ) → actor ≡ Source c → c < length net.conns) → (Touches net js (last ∷ earlier) last actor → ⊥) →
+pub waits_on : (net : Topology) (js : RunJournals) (earlier : List Event) (last : Event) → AreRuns net (last ∷ earlier) earlier → (actor : Actor) → ((c : ℕ) → actor ≡ Source c → c < length net.conns) → (Touches net js (last ∷ earlier) last actor → ⊥) →
     IsActorSettled net js earlier actor false → IsActorSettled net js (last ∷ earlier) actor false
 waits_on net js earlier last runs (Source d) low never settled = source_unmarked net js (last ∷ earlier) d (λ m. settled.marks (source_on net js earlier last runs d (low d refl) never m))
 waits_on net js earlier last runs (Port p) low never settled = port_unmarked net js (last ∷ earlier) p (λ m. settled.marks (port_on net js earlier last runs p never m))
@@ -90,7 +90,7 @@ turn_first : (net : Topology) (earlier turns : List Event) (turn : Event) → Is
 turn_first net earlier [] turn is all = (is, tt)
 turn_first net earlier (other ∷ turns) turn is all = (subst (λ l. IsTurn net l other) (sym (append_assoc turns (turn ∷ []) earlier)) all.0, turn_first net earlier turns turn is all.1)
 
-port_turned : (net : Topology) (js : Journaled) (earlier : List Event) (turn : Event) → IsTurn net earlier turn → (p : ℕ) → PortMismatches net js (turn ∷ earlier) p → PortMismatches net js earlier p
+port_turned : (net : Topology) (js : RunJournals) (earlier : List Event) (turn : Event) → IsTurn net earlier turn → (p : ℕ) → PortMismatches net js (turn ∷ earlier) p → PortMismatches net js earlier p
 port_turned net js earlier turn is p m =
     let same : m.turns ++ turn ∷ earlier ≡ (m.turns ++ turn ∷ []) ++ earlier = sym (append_assoc m.turns (turn ∷ []) earlier) in
     record {
@@ -107,7 +107,7 @@ port_turned net js earlier turn is p m =
       beside = subst (λ l. (c : ℕ) (x : SourceEntry) → conn_of m.event ≡ Some c → entry_made net l m.event ≡ Some x → next_entry net js l c ≡ Some x) same m.beside;
     }
 
-source_turned : (net : Topology) (js : Journaled) (earlier : List Event) (turn : Event) → IsTurn net earlier turn → (c : ℕ) → SourceMismatches net js (turn ∷ earlier) c → SourceMismatches net js earlier c
+source_turned : (net : Topology) (js : RunJournals) (earlier : List Event) (turn : Event) → IsTurn net earlier turn → (c : ℕ) → SourceMismatches net js (turn ∷ earlier) c → SourceMismatches net js earlier c
 source_turned net js earlier turn is c m =
     let same : m.turns ++ turn ∷ earlier ≡ (m.turns ++ turn ∷ []) ++ earlier = sym (append_assoc m.turns (turn ∷ []) earlier) in
     record {
@@ -121,6 +121,6 @@ source_turned net js earlier turn is c m =
       next = subst (λ l. next_entry net js l c ≡ Some (Did m.event m.told)) same m.next;
     }
 
-pub turned_on : (net : Topology) (js : Journaled) (earlier : List Event) (turn : Event) → IsTurn net earlier turn → (actor : Actor) → IsActorSettled net js earlier actor false → IsActorSettled net js (turn ∷ earlier) actor false
+pub turned_on : (net : Topology) (js : RunJournals) (earlier : List Event) (turn : Event) → IsTurn net earlier turn → (actor : Actor) → IsActorSettled net js earlier actor false → IsActorSettled net js (turn ∷ earlier) actor false
 turned_on net js earlier turn is (Source d) settled = source_unmarked net js (turn ∷ earlier) d (λ m. settled.marks (source_turned net js earlier turn is d m))
 turned_on net js earlier turn is (Port p) settled = port_unmarked net js (turn ∷ earlier) p (λ m. settled.marks (port_turned net js earlier turn is p m))

@@ -7,11 +7,11 @@ use Rattle.std.proofs.lemmas.List.Sums.{sum_by-cons}
 use Rattle.std.proofs.lemmas.Option.{slice_get_within, slice_get-map}
 use Rattle.abt_net.specs.Topology.{Topology}
 use Rattle.abt_journal.specs.declared.entry.Entry.{Entry}
-use Rattle.abt_source_journal.specs.declared.journal.SourceJournal.{SourceJournal}
-use Rattle.abt_woven.specs.Projections.{step_of, steps_on, entries_on}
-use Rattle.abt_woven.specs.Stuck.{IsBeginning, steps_in, entries_in, port_journal, source_journal}
-use Rattle.abt_weave.specs.declared.board.Board.{Board}
-use Rattle.abt_weave.specs.Board.{journaled, total, count, whole, IsBoard}
+use Rattle.abt_model.specs.declared.journal.SourceJournal.{SourceJournal}
+use Rattle.abt_weave.specs.Projections.{step_of, steps_on, entries_on}
+use Rattle.abt_weave.specs.Stuck.{IsBeginning, steps_in, entries_in, port_journal, source_journal}
+use Rattle.abt_weave.specs.declared.progress.Progress.{Progress}
+use Rattle.abt_weave.specs.Progress.{journaled, total, count, whole, IsProgress}
 
 total_low : {A : Type 0} → (size : A → ℕ) (xs : List A) (places : List ℕ) → length places ≡ length xs → ((i : ℕ) (x : A) → slice_get xs i ≡ Some x → slice_index places i ≤ size x) → total places ≤ sum_by size xs
 total_low size [] [] same low = omega arith
@@ -25,12 +25,12 @@ total_low size (x ∷ xs) (n ∷ places) same low =
 begun_low : {A : Type 0} → (xs ys : List A) → IsBeginning xs ys → length xs ≤ length ys
 begun_low xs ys begins = let e = ap (λ l. length l) begins.1 ∙ length-append xs begins.0 in omega (arith, e)
 
-pub count_low : (net : Topology) (ports : List (Vec Entry Global)) (sources : List SourceJournal) (board : Board) → IsBoard net (journaled ports sources) board → count board ≤ whole ports sources
-count_low net ports sources board is =
+pub count_low : (net : Topology) (ports : List (Vec Entry Global)) (sources : List SourceJournal) (progress : Progress) → IsProgress net (journaled ports sources) progress → count progress ≤ whole ports sources
+count_low net ports sources progress is =
     let js = journaled ports sources in
-    let earlier = reverse board.events.items in
-    let sp = board.source_places.items in
-    let pp = board.port_places.items in
+    let earlier = reverse progress.events.items in
+    let sp = progress.source_places.items in
+    let pp = progress.port_places.items in
     let a = total_low (λ (journal : SourceJournal). length journal.entries) sources sp is.source_count (λ i x e.
     (let low : i < length sp = subst (λ n. i < n) (sym is.source_count) (slice_get_within sources i x e) in
     let b = begun_low (entries_on net i earlier) (source_journal js i) (is.placed.conns i) in
@@ -45,7 +45,7 @@ count_low net ports sources board is =
     omega (arith, a, b)
 
 -- a measure falls
-pub falls : (ports : List (Vec Entry Global)) (sources : List SourceJournal) (old new : Board) → count old < count new → count new ≤ whole ports sources → whole ports sources - count new < whole ports sources - count old
+pub falls : (ports : List (Vec Entry Global)) (sources : List SourceJournal) (old new : Progress) → count old < count new → count new ≤ whole ports sources → whole ports sources - count new < whole ports sources - count old
 falls ports sources old new more low = omega (arith, more, low)
 
 pub not_not : (b : Bool) → not b ≡ false → b ≡ true

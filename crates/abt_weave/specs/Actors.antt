@@ -2,10 +2,10 @@
 use Rattle.std.specs.Prelude.{ℕ, ◌+◌, ◌-◌, ◌<◌, nat_lt, List, length, slice_index, if◌then◌else◌}
 use Rattle.abt_net.specs.Topology.{Topology}
 use Rattle.abt_model.specs.declared.event.Event.{Event}
-use Rattle.abt_woven.specs.declared.actor.Actor.{Actor}
-use Rattle.abt_woven.specs.declared.actor.Actor.TheVariants.{Source, Port}
-use Rattle.abt_woven.specs.Projections.{steps_on, entries_on}
-use Rattle.abt_woven.specs.Stuck.{Journaled, port_journal, source_journal}
+use Rattle.abt_weave.specs.declared.actor.Actor.{Actor}
+use Rattle.abt_weave.specs.declared.actor.Actor.TheVariants.{Source, Port}
+use Rattle.abt_weave.specs.Projections.{steps_on, entries_on}
+use Rattle.abt_weave.specs.Stuck.{RunJournals, port_journal, source_journal}
 
 -- sources come before ports
 abbrev pub actor_count : Topology → ℕ
@@ -29,6 +29,6 @@ abbrev pub placed_on : Topology → List Event → Actor → ℕ
 placed_on net earlier (Source c) = length (entries_on net c earlier)
 placed_on net earlier (Port p) = length (steps_on net p earlier)
 
-abbrev pub entry_count : Journaled → Actor → ℕ
+abbrev pub entry_count : RunJournals → Actor → ℕ
 entry_count journals (Source c) = length (source_journal journals c)
 entry_count journals (Port p) = length (port_journal journals p)

@@ -10,10 +10,10 @@ use Rattle.abt_model.specs.declared.target.Target.TheVariants.{Source, Hop}
 use Rattle.abt_model.specs.Targets.{target_of}
 use Rattle.abt_journal.specs.declared.input.PortInput.{PortInput}
 use Rattle.abt_journal.specs.declared.input.PortInput.TheVariants.{Request as RequestIn, Answer as AnswerIn, Arrive as ArriveIn, Capacity as CapacityIn}
-use Rattle.abt_source_journal.specs.declared.entry.SourceEntry.{SourceEntry}
-use Rattle.abt_source_journal.specs.declared.entry.SourceEntry.TheVariants.{Sent, Arrived as ArrivedAt}
-use Rattle.abt_woven.specs.Asked.{floor_in, ask_in}
-use Rattle.abt_woven.specs.Projections.{is_told_by}
+use Rattle.abt_model.specs.declared.entry.SourceEntry.{SourceEntry}
+use Rattle.abt_model.specs.declared.entry.SourceEntry.TheVariants.{Sent, Arrived as ArrivedAt}
+use Rattle.abt_weave.specs.Asked.{floor_in, ask_in}
+use Rattle.abt_weave.specs.Projections.{is_told_by}
 
 -- whether the entry says that this step was sent, and which cell it says arrived there
 abbrev pub is_sent_at : (place : ℕ) → Option SourceEntry → Bool

@@ -14,10 +14,10 @@ use Rattle.abt_model.specs.PortTable.{hop_visited}
 use Rattle.abt_model.specs.Targets.{target_of}
 use Rattle.abt_journal.specs.declared.input.PortInput.{PortInput}
 use Rattle.abt_journal.specs.declared.input.PortReply.{PortReply}
-use Rattle.abt_source_journal.specs.declared.entry.SourceEntry.{SourceEntry}
-use Rattle.abt_woven.specs.Asked.{floor_in, ask_in}
-use Rattle.abt_woven.specs.Projections.{input_in, entry_by, steps_on, entries_on}
-use Rattle.abt_woven.specs.Stuck.{Journaled, next_step, next_entry}
+use Rattle.abt_model.specs.declared.entry.SourceEntry.{SourceEntry}
+use Rattle.abt_weave.specs.Asked.{floor_in, ask_in}
+use Rattle.abt_weave.specs.Projections.{input_in, entry_by, steps_on, entries_on}
+use Rattle.abt_weave.specs.Stuck.{RunJournals, next_step, next_entry}
 use Rattle.abt_weave.specs.Candidates.{is_beside}
 
 -- the request of a number, where the source has done this, the newest first
@@ -37,7 +37,7 @@ abbrev pub entry_beside : (place : ℕ) → Event → Option SourceEntry
 entry_beside place event = entry_beside_in place (target_of event)
 
 -- An event of a connection comes to a port with this step, whatever it answers, and what it is to its source is the next entry there.
-pub record Comes (net : Topology) (journals : Journaled) (earlier : List Event) (p place : ℕ) (input : PortInput) (event : Event) : Type 0 where
+pub record Comes (net : Topology) (journals : RunJournals) (earlier : List Event) (p place : ℕ) (input : PortInput) (event : Event) : Type 0 where
   pub c : ℕ
   pub whose : conn_of event ≡ Some c
   pub conn : Conn
@@ -61,7 +61,7 @@ pub record IsTurnOf (net : Topology) (event turn : Event) : Type 0 where
   pub turn_is : turn ≡ Turn c seq
 
 -- an event of this connection comes to a port
-pub record IsComing (net : Topology) (journals : Journaled) (earlier : List Event) (p place : ℕ) (input : PortInput) (c : ℕ) (event : Event) : Type 0 where
+pub record IsComing (net : Topology) (journals : RunJournals) (earlier : List Event) (p place : ℕ) (input : PortInput) (c : ℕ) (event : Event) : Type 0 where
   pub conn : conn_of event ≡ Some c
   pub comes : Comes net journals earlier p place input event
 
@@ -70,7 +70,7 @@ abbrev pub reached_by : Event → ℕ → ℕ
 reached_by event come = if is_beside event then come + 1 else come
 
 -- The one event that can be a port's next entry, and how far the source of its connection comes by it.
-pub record IsExpected (net : Topology) (journals : Journaled) (earlier : List Event) (sources : List ℕ) (p place : ℕ) (input : PortInput) (reply : PortReply) (c reached : ℕ) (event : Event) : Type 0 where
+pub record IsExpected (net : Topology) (journals : RunJournals) (earlier : List Event) (sources : List ℕ) (p place : ℕ) (input : PortInput) (reply : PortReply) (c reached : ℕ) (event : Event) : Type 0 where
   pub rules : IsWithinRules net
   pub coming : IsComing net journals earlier p place input c event
   pub only : (other : Event) → Comes net journals earlier p place input other → other ≡ event

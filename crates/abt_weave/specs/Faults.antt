@@ -3,12 +3,12 @@ use Rattle.std.specs.Prelude.{◌≡◌, ◌≢◌, ℕ, zero, suc, ◌<◌, nat
 use Rattle.abt_net.specs.Topology.{Topology}
 use Rattle.abt_model.specs.declared.event.Event.{Event}
 use Rattle.abt_model.specs.Events.{AsksRate}
-use Rattle.abt_woven.specs.declared.actor.Actor.{Actor}
-use Rattle.abt_woven.specs.declared.actor.Actor.TheVariants.{Source, Port}
-use Rattle.abt_woven.specs.declared.actor.Stuck.{Stuck}
-use Rattle.abt_woven.specs.Projections.{steps_on, entries_on}
-use Rattle.abt_woven.specs.Stuck.{Journaled, port_journal, source_journal, StandsStill, PortMismatches, SourceMismatches}
-use Rattle.abt_woven.specs.Woven.{IsWoven}
+use Rattle.abt_weave.specs.declared.actor.Actor.{Actor}
+use Rattle.abt_weave.specs.declared.actor.Actor.TheVariants.{Source, Port}
+use Rattle.abt_weave.specs.declared.actor.Stuck.{Stuck}
+use Rattle.abt_weave.specs.Projections.{steps_on, entries_on}
+use Rattle.abt_weave.specs.Stuck.{RunJournals, port_journal, source_journal, StandsStill, PortMismatches, SourceMismatches}
+use Rattle.abt_weave.specs.Woven.{IsWoven}
 use Rattle.abt_weave.specs.declared.fault.WeaveFault.{WeaveFault}
 use Rattle.abt_weave.specs.declared.fault.WeaveFault.TheVariants.{Mismatch, NoOrder, Memory}
 
@@ -16,10 +16,10 @@ use Rattle.abt_weave.specs.declared.fault.WeaveFault.TheVariants.{Mismatch, NoOr
 abbrev pub left_at : Actor → (place entries : ℕ) → List Stuck
 left_at actor place entries = if nat_lt place entries then record { actor = actor; place = place } ∷ [] else []
 
-abbrev pub source_left : Topology → Journaled → List Event → ℕ → List Stuck
+abbrev pub source_left : Topology → RunJournals → List Event → ℕ → List Stuck
 source_left net journals earlier c = left_at (Source c) (length (entries_on net c earlier)) (length (source_journal journals c))
 
-abbrev pub port_left : Topology → Journaled → List Event → ℕ → List Stuck
+abbrev pub port_left : Topology → RunJournals → List Event → ℕ → List Stuck
 port_left net journals earlier p = left_at (Port p) (length (steps_on net p earlier)) (length (port_journal journals p))
 
 -- what the actors of the numbers below one have left, in order
@@ -28,12 +28,12 @@ left_below left zero = []
 left_below left (suc n) = left_below left n ++ left n
 
 -- all actors that have entries left, sources before ports
-abbrev pub all_left : Topology → Journaled → List Event → List Stuck
+abbrev pub all_left : Topology → RunJournals → List Event → List Stuck
 all_left net journals earlier =
     left_below (source_left net journals earlier) (length journals.sources) ++ left_below (port_left net journals earlier) (length journals.ports)
 
 -- The next entry of this actor mismatches, and that of none before it, sources before ports.
-abbrev pub IsFirstMismatch : Topology → Journaled → List Event → Actor → ℕ → Type 0
+abbrev pub IsFirstMismatch : Topology → RunJournals → List Event → Actor → ℕ → Type 0
 IsFirstMismatch net journals earlier (Source c) place =
     (place ≡ length (entries_on net c earlier)) × SourceMismatches net journals earlier c × ((d : ℕ) → d < c → SourceMismatches net journals earlier d → ⊥)
 IsFirstMismatch net journals earlier (Port p) place =
@@ -41,13 +41,13 @@ IsFirstMismatch net journals earlier (Port p) place =
     × ((q : ℕ) → q < p → PortMismatches net journals earlier q → ⊥)
 
 -- the next entry of no actor mismatches
-pub record NoneMismatches (net : Topology) (journals : Journaled) (earlier : List Event) : Type 0 where
+pub record NoneMismatches (net : Topology) (journals : RunJournals) (earlier : List Event) : Type 0 where
   pub sources : (c : ℕ) → SourceMismatches net journals earlier c → ⊥
   pub ports : (p : ℕ) → PortMismatches net journals earlier p → ⊥
 
 -- Some list of events, each of whose rates a code can name, stands still. A mismatch is the first of its stuck entries that does; where none does, all actors with
 -- entries left are named.
-abbrev pub IsWeaveFault : Topology → Journaled → WeaveFault → Type 0
+abbrev pub IsWeaveFault : Topology → RunJournals → WeaveFault → Type 0
 IsWeaveFault net journals (Mismatch actor place) =
     (events : List Event) × All AsksRate events × StandsStill net journals (reverse events) × IsFirstMismatch net journals (reverse events) actor place
 IsWeaveFault net journals (NoOrder stuck) =
@@ -55,11 +55,11 @@ IsWeaveFault net journals (NoOrder stuck) =
 IsWeaveFault net journals Memory = Unit {0}
 
 -- no list of events, each of whose rates a code can name, is woven from the journals
-abbrev pub NoneIsWoven : Topology → Journaled → Type 0
+abbrev pub NoneIsWoven : Topology → RunJournals → Type 0
 NoneIsWoven net journals = (events : List Event) → All AsksRate events → IsWoven net journals.ports journals.sources events → ⊥
 
 -- a fault but want of memory says so
-abbrev pub SaysNoneIsWoven : Topology → Journaled → WeaveFault → Type 0
+abbrev pub SaysNoneIsWoven : Topology → RunJournals → WeaveFault → Type 0
 SaysNoneIsWoven net journals (Mismatch actor place) = NoneIsWoven net journals
 SaysNoneIsWoven net journals (NoOrder stuck) = NoneIsWoven net journals
 SaysNoneIsWoven net journals Memory = Unit {0}

@@ -9,9 +9,9 @@ use Rattle.abt_model.specs.Past.{Past, facts_of}
 use Rattle.abt_model.specs.PortTable.{port_table}
 use Rattle.abt_journal.specs.declared.entry.Entry.{Entry}
 use Rattle.abt_journal.specs.Replay.{replay}
-use Rattle.abt_source_journal.specs.declared.entry.SourceEntry.{SourceEntry}
-use Rattle.abt_source_journal.specs.declared.entry.SourceEntry.TheVariants.{Did}
-use Rattle.abt_source_journal.specs.declared.journal.SourceJournal.{SourceJournal}
+use Rattle.abt_model.specs.declared.entry.SourceEntry.{SourceEntry}
+use Rattle.abt_model.specs.declared.entry.SourceEntry.TheVariants.{Did}
+use Rattle.abt_model.specs.declared.journal.SourceJournal.{SourceJournal}
 
 -- the facts of a source that did all this, one after the other, after these facts, the newest first
 abbrev pub facts_done : List Fact → List SourceEntry → List Fact

@@ -1,7 +1,11 @@
+pub mod Projections
+pub mod Woven
+pub mod Stuck
+pub mod Asked
 pub mod Candidates
 pub mod Stops
 pub mod Actors
-pub mod Board
+pub mod Progress
 pub mod Tried
 pub mod Comes
 pub mod Marks

@@ -1,7 +1,7 @@
 -- Marks of actors.
 use Rattle.std.specs.Prelude.{◌≡◌, ℕ, ◌<◌, Bool, true, false, List, slice_get, Some}
 use Rattle.abt_net.specs.Topology.{Topology}
-use Rattle.abt_woven.specs.declared.actor.Stuck.{Stuck}
+use Rattle.abt_weave.specs.declared.actor.Stuck.{Stuck}
 use Rattle.abt_weave.specs.Actors.{actor_at, place_in}
 
 -- the first so many have no mark

@@ -5,9 +5,9 @@ use Rattle.abt_model.specs.declared.event.Event.{Event}
 use Rattle.abt_model.specs.declared.event.Event.TheVariants.{Arrive}
 use Rattle.abt_model.specs.declared.outcome.Outcome.{Outcome}
 use Rattle.abt_model.specs.Outcomes.{conn_of}
-use Rattle.abt_source_journal.specs.declared.entry.SourceEntry.TheVariants.{Did}
-use Rattle.abt_woven.specs.Projections.{Visit, past_of, visit, steps_on, entry_made, entries_on}
-use Rattle.abt_woven.specs.Stuck.{AreTurns, IsBeginning}
+use Rattle.abt_model.specs.declared.entry.SourceEntry.TheVariants.{Did}
+use Rattle.abt_weave.specs.Projections.{Visit, past_of, visit, steps_on, entry_made, entries_on}
+use Rattle.abt_weave.specs.Stuck.{AreTurns, IsBeginning}
 
 -- To each port and to each source the entries that some events are begin those that others are.
 pub record AreBegun (net : Topology) (less more : List Event) : Type 0 where

@@ -2,9 +2,9 @@
 use Rattle.std.specs.Prelude.{◌≡◌, ℕ, ◌<◌, Bool, true, false, List, [], ◌∷◌, length, slice_get, Some, All, Contains, ◌⊎◌}
 use Rattle.abt_net.specs.Topology.{Topology}
 use Rattle.abt_model.specs.declared.event.Event.{Event}
-use Rattle.abt_woven.specs.Stuck.{Journaled}
+use Rattle.abt_weave.specs.Stuck.{RunJournals}
 use Rattle.abt_weave.specs.Actors.{actor_at, actor_count}
-use Rattle.abt_weave.specs.Board.{IsActorSettled}
+use Rattle.abt_weave.specs.Progress.{IsActorSettled}
 use Rattle.abt_weave.specs.declared.queue.Queue.{Queue}
 
 -- Of so many actors those that are to be looked at are listed, and the next entries of none of them mismatched.
@@ -47,7 +47,7 @@ pub record Wakes (whom : ℕ → Type 0) (old new : Queue) : Type 0 where
   pub wakes : (i : ℕ) → whom i → IsUp new i
 
 -- Each actor but these is to be looked at, or is settled, and its mark says whether its next entry mismatches.
-pub record IsWaiting (net : Topology) (journals : Journaled) (earlier : List Event) (but : ℕ → Type 0) (queue : Queue) : Type 0 where
+pub record IsWaiting (net : Topology) (journals : RunJournals) (earlier : List Event) (but : ℕ → Type 0) (queue : Queue) : Type 0 where
   pub queue_is : IsQueue (actor_count net) queue
   pub settled : (i : ℕ) (mismatches : Bool) → (but i → ⊥) → slice_get queue.woken.items i ≡ Some false → slice_get queue.marks.items i ≡ Some mismatches →
       IsActorSettled net journals earlier (actor_at net i) mismatches

@@ -7,7 +7,7 @@ use Rattle.abt_model.specs.Outcomes.{outcome_of}
 use Rattle.abt_model.specs.Run.{facts_after}
 use Rattle.abt_journal.specs.declared.input.PortReply.{PortReply}
 use Rattle.abt_world.specs.Standing.{WorldView, StandsFor}
-use Rattle.abt_woven.specs.Projections.{is_enabled, reply_of}
+use Rattle.abt_weave.specs.Projections.{is_enabled, reply_of}
 use Rattle.abt_weave.specs.Candidates.{is_told}
 use Rattle.abt_weave.specs.declared.trying.Tried.{Tried}
 use Rattle.abt_weave.specs.declared.trying.Tried.TheVariants.{Agrees, Differs, Absent}

@@ -8,10 +8,10 @@ use Rattle.abt_model.specs.declared.event.Event.TheVariants.{Capacity}
 use Rattle.abt_model.specs.Answers.{is_hop}
 use Rattle.abt_model.specs.Outcomes.{conn_of}
 use Rattle.abt_model.specs.PortTable.{hop_visited}
-use Rattle.abt_woven.specs.declared.actor.Actor.{Actor}
-use Rattle.abt_woven.specs.declared.actor.Actor.TheVariants.{Source, Port}
-use Rattle.abt_woven.specs.Projections.{Step}
-use Rattle.abt_woven.specs.Stuck.{Journaled, next_step}
+use Rattle.abt_weave.specs.declared.actor.Actor.{Actor}
+use Rattle.abt_weave.specs.declared.actor.Actor.TheVariants.{Source, Port}
+use Rattle.abt_weave.specs.Projections.{Step}
+use Rattle.abt_weave.specs.Stuck.{RunJournals, next_step}
 use Rattle.abt_weave.specs.Actors.{actor_at, actor_count}
 use Rattle.abt_weave.specs.Candidates.{channel_of}
 use Rattle.abt_weave.specs.Comes.{IsTurnOf}
@@ -25,13 +25,13 @@ abbrev pub AreNear : (hop other : ℕ) → Type 0
 AreNear hop other = (hop ≤ other + 1) × (other ≤ hop + 1)
 
 -- the next step of a port is about this channel
-pub record IsAbout (net : Topology) (js : Journaled) (earlier : List Event) (p : ℕ) (vc : Channel) : Type 0 where
+pub record IsAbout (net : Topology) (js : RunJournals) (earlier : List Event) (p : ℕ) (vc : Channel) : Type 0 where
   pub step : Step
   pub next : next_step net js earlier p ≡ Some step
   pub channel : channel_of step.input ≡ Some vc
 
 -- A port stands on the path of the connection of an event, which came to it, or whose channel its next step is about and which came to a hop beside it.
-pub record IsPassed (net : Topology) (js : Journaled) (earlier : List Event) (event : Event) (p : ℕ) : Type 0 where
+pub record IsPassed (net : Topology) (js : RunJournals) (earlier : List Event) (event : Event) (p : ℕ) : Type 0 where
   pub c : ℕ
   pub whose : conn_of event ≡ Some c
   pub conn : Conn
@@ -43,20 +43,20 @@ pub record IsPassed (net : Topology) (js : Journaled) (earlier : List Event) (ev
 
 -- An event, the last of these, is one that an actor can have waited for: for a source one of its connection that happened there or at the first hop; for a port one
 -- that came to it, or to a hop beside it of the connection that its next step is about.
-abbrev pub Touches : Topology → Journaled → List Event → Event → Actor → Type 0
+abbrev pub Touches : Topology → RunJournals → List Event → Event → Actor → Type 0
 Touches net js earlier event (Source d) = (conn_of event ≡ Some d) × (hop_visited event ≤ 1)
 Touches net js earlier event (Port p) = ((u : ℕ) × (event ≡ Capacity p u)) ⊎ IsPassed net js earlier event p
 
 -- the actors of these numbers
-abbrev pub AreTouched : Topology → Journaled → List Event → Event → ℕ → Type 0
+abbrev pub AreTouched : Topology → RunJournals → List Event → Event → ℕ → Type 0
 AreTouched net js earlier event i = (i < actor_count net) × Touches net js earlier event (actor_at net i)
 
 -- the number of this port, if an event came to it or its next step is about this channel
-abbrev pub IsPortFor : Topology → Journaled → List Event → (p : ℕ) (came : Bool) → Channel → (i : ℕ) → Type 0
+abbrev pub IsPortFor : Topology → RunJournals → List Event → (p : ℕ) (came : Bool) → Channel → (i : ℕ) → Type 0
 IsPortFor net js earlier p came vc i = (i ≡ length net.conns + p) × ((came ≡ true) ⊎ IsAbout net js earlier p vc)
 
 -- the port at the hop of a connection to which an event came, and those beside it whose next steps are about the connection, by their numbers
-pub record AreOnPath (net : Topology) (js : Journaled) (earlier : List Event) (c hop i : ℕ) : Type 0 where
+pub record AreOnPath (net : Topology) (js : RunJournals) (earlier : List Event) (c hop i : ℕ) : Type 0 where
   pub conn : Conn
   pub known : conn_at net c ≡ Some conn
   pub place : ℕ
@@ -69,5 +69,5 @@ abbrev pub IsSourceFor : (c hop i : ℕ) → Type 0
 IsSourceFor c hop i = (i ≡ c) × (hop ≤ 1)
 
 -- those, and that source
-abbrev pub AreOfConn : Topology → Journaled → List Event → (c hop i : ℕ) → Type 0
+abbrev pub AreOfConn : Topology → RunJournals → List Event → (c hop i : ℕ) → Type 0
 AreOfConn net js earlier c hop i = (IsSourceFor c hop i × (c < length net.conns)) ⊎ AreOnPath net js earlier c hop i

@@ -3,8 +3,8 @@ ghost use Rattle.std.specs.Prelude.{◌≡◌, ◌+◌, ◌<◌, length};
 ghost use Rattle.abt_net.specs.Topology.{IsWithinRules};
 ghost use Rattle.abt_weave.specs.Actors as actors;
 
+use crate::Actor;
 use abt_net::Net;
-use abt_woven::Actor;
 
 // How many sources and ports a net has.
 pub(crate) fn actor_count(net: &Net) -> u16

@@ -3,8 +3,8 @@ ghost use Rattle.std.specs.Prelude.{◌≡◌, ◌<◌, List, length, reverse};
 ghost use Rattle.abt_net.specs.Topology.{Topology};
 ghost use Rattle.abt_model.specs.declared.event.Event.{Event};
 ghost use Rattle.abt_world.specs.Standing.{StandsFor};
-ghost use Rattle.abt_woven.specs.Asked.{floor_in, ask_in};
-ghost use Rattle.abt_woven.specs.Projections.{entries_on};
+ghost use Rattle.abt_weave.specs.Asked.{floor_in, ask_in};
+ghost use Rattle.abt_weave.specs.Projections.{entries_on};
 ghost use Rattle.abt_weave.specs.Candidates.{AreTermsOf};
 
 use abt_journal::PortInput;

@@ -3,21 +3,20 @@ ghost use Rattle.std.specs.Prelude.{◌≡◌, ◌==◌, ◌&&◌, ℕ, List, So
 ghost use Rattle.abt_net.specs.Topology.{IsWithinRules};
 ghost use Rattle.abt_weave.specs.Comes.{IsYes, IsTurnOf};
 ghost use Rattle.abt_weave.specs.Candidates as candidates;
-ghost use Rattle.abt_source_journal.specs.declared.entry.SourceEntry.{SourceEntry as SourceEntrySpec};
+ghost use Rattle.abt_model.specs.declared.entry.SourceEntry.{SourceEntry as SourceEntrySpec};
 ghost use Rattle.abt_weave.specs.Candidates.{AreTermsOf, event_by, is_sent_at, cell_arrived_at};
 ghost use Rattle.abt_weave.specs.Stops.{IsStop};
 
 use crate::asked::Rates;
 use abt_cell::Vc;
 use abt_journal::PortInput;
-use abt_model::Event;
+use abt_model::{Event, SourceEntry};
 use abt_net::Net;
 use abt_rate::Rate;
-use abt_source_journal::SourceEntry;
 
 /// A port on the path of a connection.
 #[derive(Clone, Copy)]
-pub(crate) struct Stop {
+pub(crate) struct HopOnPath {
     pub conn: u16,
     pub hop: u16,
 }
@@ -35,16 +34,17 @@ pub(crate) fn channel_of(input: &PortInput) -> Option<Vc>
 }
 
 // Where a port stands on the path of the connection that an input is about, if it is about one.
-pub(crate) fn stop_of(net: &Net, input: &PortInput, port: u16) -> Option<Stop>
+pub(crate) fn stop_of(net: &Net, input: &PortInput, port: u16) -> Option<HopOnPath>
     ensures some { IfSome result (λ stop. IsStop net.now input.now port stop.conn stop.hop) }
     ensures rules { IsWithinRules net.now }
-    ensures only { (c hop : ℕ) → IsStop net.now input.now port c hop → result ≡ Some (record { conn = c; hop = hop }) }
+    ensures only { (c hop : ℕ) → IsStop net.now input.now port c hop →
+        result ≡ Some (record { conn = c; hop = hop }) }
 {
     let conns = net.conns();
     let vc = channel_of(input)?;
     let conn = net.find(vc)?;
     let hop = conns[usize::from(conn)].path.hop_of(port)?;
-    Some(Stop {
+    Some(HopOnPath {
         conn,
         hop: hop as u16,
     })
@@ -79,7 +79,7 @@ fn has_rates(rates: Rates, floor: Rate, ask: Rate) -> bool
 // The event of a connection that brings this to a port, where its step takes this place in the port's journal. The rates are
 // those that were asked for under the number of a message.
 pub(crate) fn event_of(
-    stop: Stop,
+    stop: HopOnPath,
     place: u64,
     input: &PortInput,
     rates: Rates,
@@ -88,7 +88,7 @@ pub(crate) fn event_of(
     ensures { (placed : List SourceEntrySpec) → AreTermsOf input.now rates.floor rates.ask placed →
         result ≡ event_by stop.conn stop.hop place input.now placed next }
 {
-    let Stop { conn, hop } = stop;
+    let HopOnPath { conn, hop } = stop;
     match input {
         PortInput::Request(request) => {
             let seq = request.seq();

@@ -1,6 +1,6 @@
 //! Why journals aren't woven.
-use abt_list::Sequence;
-use abt_woven::{Actor, Stuck};
+use crate::{Actor, Stuck};
+use abt_model::Sequence;
 use std::alloc::AllocError;
 use thiserror::Error;
 

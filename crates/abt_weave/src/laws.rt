@@ -3,7 +3,7 @@ ghost use Rattle.std.specs.Prelude.{List, All};
 ghost use Rattle.abt_model.specs.declared.event.Event.{Event};
 ghost use Rattle.abt_model.specs.Events.{AsksRate};
 ghost use Rattle.abt_net.specs.Topology.{Topology, IsWithinRules};
-ghost use Rattle.abt_woven.specs.Stuck.{Journaled};
+ghost use Rattle.abt_weave.specs.Stuck.{RunJournals};
 ghost use Rattle.abt_weave.specs.OneFault.{AreJournalsOf, HaveOneEnd, HaveOneFault};
 ghost use Rattle.abt_weave.specs.OneLaw.{AreBegun, PortsReplyAgain, SourcesAnswerAgain};
 
@@ -12,9 +12,11 @@ ghost use Rattle.abt_weave.specs.OneLaw.{AreBegun, PortsReplyAgain, SourcesAnswe
 ///
 /// This is a law and does nothing.
 pub fn own_entries_decide_what_happens()
-    ensures ports { (net : Topology) (less more : List Event) → IsWithinRules net → All AsksRate less → All AsksRate more →
+    ensures ports { (net : Topology) (less more : List Event) → IsWithinRules net → All AsksRate less →
+        All AsksRate more →
         AreBegun net less more → PortsReplyAgain net less more }
-    ensures sources { (net : Topology) (less more : List Event) → IsWithinRules net → All AsksRate less → All AsksRate more →
+    ensures sources { (net : Topology) (less more : List Event) → IsWithinRules net → All AsksRate less →
+        All AsksRate more →
         AreBegun net less more → SourcesAnswerAgain net less more }
 {}
 
@@ -22,6 +24,8 @@ pub fn own_entries_decide_what_happens()
 ///
 /// This is a law and does nothing.
 pub fn journals_have_one_fault()
-    ensures ends { (net : Topology) (journals : Journaled) → IsWithinRules net → AreJournalsOf net journals → HaveOneEnd net journals }
-    ensures fault { (net : Topology) (journals : Journaled) → IsWithinRules net → AreJournalsOf net journals → HaveOneFault net journals }
+    ensures ends { (net : Topology) (journals : RunJournals) → IsWithinRules net →
+        AreJournalsOf net journals → HaveOneEnd net journals }
+    ensures fault { (net : Topology) (journals : RunJournals) → IsWithinRules net →
+        AreJournalsOf net journals → HaveOneFault net journals }
 {}

@@ -1,15 +1,15 @@
 //! Looks at the next entries of actors.
 ghost use Rattle.std.specs.Prelude.{◌≡◌, length, IfOk};
 ghost use Rattle.abt_weave.specs.Actors as actors;
-ghost use Rattle.abt_weave.specs.Board as seen;
-ghost use Rattle.abt_weave.specs.Board.{journaled, IsBoard, IsActorSettled, IsAfterLook};
+ghost use Rattle.abt_weave.specs.Progress as seen;
+ghost use Rattle.abt_weave.specs.Progress.{IsActorSettled, IsAfterLook, run_journals, IsProgressOf};
 
-use crate::board::Board;
-use crate::given::Given;
+use crate::Actor;
 use crate::port::look_at_port;
+use crate::progress::Progress;
 use crate::source::look_at_source;
+use crate::weave_input::WeaveInput;
 use abt_model::Event;
-use abt_woven::Actor;
 use std::alloc::{AllocError, Global};
 
 /// What became of an actor's next entry.
@@ -35,20 +35,22 @@ pub(crate) fn is_mismatch(look: Look) -> bool
 /// Places the next entry of a source or a port, if it can have happened now.
 pub(crate) fn look_at<'run>(
     alloc: Global,
-    given: &Given<'run>,
-    board: &mut Board<'run>,
+    given: &WeaveInput<'run>,
+    progress: &mut Progress<'run>,
     actor: Actor,
 ) -> Result<Look, AllocError>
     requires conns { length given.now.sources.now ≡ length given.now.net.now.conns }
     requires ports { length given.now.ports.now ≡ length given.now.net.now.capacities }
-    requires actor { actors.IsAmong (length given.now.net.now.conns) (length given.now.net.now.capacities) actor }
-    requires board { IsBoard given.now.net.now (journaled given.now.ports.now given.now.sources.now) board.old }
-    ensures { let journals = journaled given.now.ports.now given.now.sources.now in
+    requires actor { actors.IsAmong (length given.now.net.now.conns) (length given.now.net.now.capacities)
+        actor }
+    requires progress { IsProgressOf given.now progress.old }
+    ensures { let journals = run_journals given.now in
         IfOk result (IsAfterLook given.now.net.now journals
-        (λ earlier mismatches. IsActorSettled given.now.net.now journals earlier actor mismatches) board.old board.new) }
+        (λ earlier mismatches. IsActorSettled given.now.net.now journals earlier actor mismatches)
+        progress.old progress.new) }
 {
     match actor {
-        Actor::Source(conn) => look_at_source(alloc, given, board, conn),
-        Actor::Port(port) => look_at_port(alloc, given, board, port),
+        Actor::Source(conn) => look_at_source(alloc, given, progress, conn),
+        Actor::Port(port) => look_at_port(alloc, given, progress, port),
     }
 }

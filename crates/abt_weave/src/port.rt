@@ -6,21 +6,20 @@ ghost use Rattle.abt_model.specs.Outcomes.{outcome_of};
 ghost use Rattle.abt_net.specs.Topology.{IsWithinRules};
 ghost use Rattle.abt_weave.specs.Candidates as candidates;
 ghost use Rattle.abt_weave.specs.Comes.{Comes, IsComing, IsExpected};
-ghost use Rattle.abt_woven.specs.Projections as woven;
-ghost use Rattle.abt_woven.specs.Projections.{step_of};
-ghost use Rattle.abt_woven.specs.Stuck.{next_step};
+ghost use Rattle.abt_weave.specs.Projections as woven;
+ghost use Rattle.abt_weave.specs.Projections.{step_of};
+ghost use Rattle.abt_weave.specs.Stuck.{next_step};
 ghost use Rattle.abt_model.specs.Run.{facts_after};
-ghost use Rattle.abt_weave.specs.Board.{journaled, IsBoard, IsAfterLook, IsPortSettled};
+ghost use Rattle.abt_weave.specs.Progress.{IsAfterLook, IsPortSettled, run_journals, IsProgressOf};
 
 use crate::asked::rates_for;
-use crate::board::{Board, world_after};
 use crate::candidate::{event_of, own_turn, stop_of};
-use crate::given::Given;
 use crate::look::Look;
+use crate::progress::{Progress, world_after};
 use crate::trying::{Tried, try_turn, try_visit};
+use crate::weave_input::WeaveInput;
 use abt_journal::{Entry, PortInput};
-use abt_model::{Event, HopEvent, Target};
-use abt_source_journal::SourceEntry;
+use abt_model::{Event, HopEvent, SourceEntry, Target};
 use std::alloc::{AllocError, Global};
 
 /// An event that comes to a port, and its connection.
@@ -38,16 +37,24 @@ fn entry_at(entries: &[SourceEntry], place: usize) -> Option<SourceEntry>
 }
 
 // The event of a connection that an entry of a port can be.
-fn candidate(given: &Given, board: &Board, port: u16, place: usize, entry: &Entry) -> Option<Coming>
+fn candidate(
+    given: &WeaveInput,
+    progress: &Progress,
+    port: u16,
+    place: usize,
+    entry: &Entry,
+) -> Option<Coming>
     requires conns { length given.now.sources.now ≡ length given.now.net.now.conns }
     requires port { port < length given.now.ports.now }
-    requires place { place ≡ slice_index board.now.port_places.items port }
-    requires board { IsBoard given.now.net.now (journaled given.now.ports.now given.now.sources.now) board.now }
+    requires place { place ≡ slice_index progress.now.port_places.items port }
+    requires progress { IsProgressOf given.now progress.now }
     ensures rules { IsWithinRules given.now.net.now }
-    ensures some { IfSome result (λ coming. IsComing given.now.net.now (journaled given.now.ports.now given.now.sources.now)
-        (reverse board.now.events.items) port entry.now.place entry.now.input coming.conn coming.event) }
+    ensures some { IfSome result
+        (λ coming. IsComing given.now.net.now (run_journals given.now)
+        (reverse progress.now.events.items) port entry.now.place entry.now.input coming.conn coming.event) }
     ensures only { (event : EventSpec) →
-        (comes : Comes given.now.net.now (journaled given.now.ports.now given.now.sources.now) (reverse board.now.events.items) port entry.now.place entry.now.input event) →
+        (comes : Comes given.now.net.now (run_journals given.now)
+        (reverse progress.now.events.items) port entry.now.place entry.now.input event) →
         result ≡ Some (record { conn = comes.c; event = event }) }
 {
     let stop = stop_of(given.net, &entry.input, port)?;
@@ -56,8 +63,8 @@ fn candidate(given: &Given, board: &Board, port: u16, place: usize, entry: &Entr
     }
     let c = usize::from(stop.conn);
     let entries = given.sources[c].entries.as_slice();
-    let come = board.source_places[c];
-    let rates = rates_for(&board.world, stop.conn, &entry.input);
+    let come = progress.source_places[c];
+    let rates = rates_for(&progress.world, stop.conn, &entry.input);
     let next = entry_at(entries, come);
     let event = event_of(stop, entry.place, &entry.input, rates, next)?;
     Some(Coming {
@@ -104,27 +111,31 @@ pub(crate) struct Expected {
 
 // The event of a connection that the next entry of a port can be, if there is one.
 fn expect_event(
-    given: &Given,
-    board: &Board,
+    given: &WeaveInput,
+    progress: &Progress,
     port: u16,
     place: usize,
     entry: &Entry,
 ) -> Option<Expected>
     requires conns { length given.now.sources.now ≡ length given.now.net.now.conns }
     requires port { port < length given.now.ports.now }
-    requires place { place ≡ slice_index board.now.port_places.items port }
-    requires board { IsBoard given.now.net.now (journaled given.now.ports.now given.now.sources.now) board.now }
-    requires next { next_step given.now.net.now (journaled given.now.ports.now given.now.sources.now) (reverse board.now.events.items) port ≡ Some (step_of entry.now) }
+    requires place { place ≡ slice_index progress.now.port_places.items port }
+    requires progress { IsProgressOf given.now progress.now }
+    requires next { next_step given.now.net.now (run_journals given.now)
+        (reverse progress.now.events.items) port ≡ Some (step_of entry.now) }
     ensures rules { IsWithinRules given.now.net.now }
-    ensures some { IfSome result (λ it. IsExpected given.now.net.now (journaled given.now.ports.now given.now.sources.now)
-        (reverse board.now.events.items) board.now.source_places.items port entry.now.place entry.now.input entry.now.reply it.conn it.reached it.event) }
+    ensures some { IfSome result
+        (λ it. IsExpected given.now.net.now (run_journals given.now)
+        (reverse progress.now.events.items) progress.now.source_places.items port entry.now.place
+        entry.now.input entry.now.reply it.conn it.reached it.event) }
     ensures none { IsNone result → (event : EventSpec) →
-        Comes given.now.net.now (journaled given.now.ports.now given.now.sources.now) (reverse board.now.events.items) port entry.now.place entry.now.input event → ⊥ }
+        Comes given.now.net.now (run_journals given.now)
+        (reverse progress.now.events.items) port entry.now.place entry.now.input event → ⊥ }
 {
-    let Coming { conn, event } = candidate(given, board, port, place, entry)?;
+    let Coming { conn, event } = candidate(given, progress, port, place, entry)?;
     let c = usize::from(conn);
     let entries = given.sources[c].entries.as_slice();
-    let come = board.source_places[c];
+    let come = progress.source_places[c];
     let reached = if is_beside(&event) {
         behind(come, entries.len())
     } else {
@@ -141,82 +152,87 @@ fn expect_event(
 /// it is a yes at the last hop that wasn't sent yet, its Turn is placed before it.
 pub(crate) fn look_at_port<'run>(
     alloc: Global,
-    given: &Given<'run>,
-    board: &mut Board<'run>,
+    given: &WeaveInput<'run>,
+    progress: &mut Progress<'run>,
     port: u16,
 ) -> Result<Look, AllocError>
     requires conns { length given.now.sources.now ≡ length given.now.net.now.conns }
     requires port { port < length given.now.ports.now }
-    requires board { IsBoard given.now.net.now (journaled given.now.ports.now given.now.sources.now) board.old }
-    ensures { let journals = journaled given.now.ports.now given.now.sources.now in
+    requires progress { IsProgressOf given.now progress.old }
+    ensures { let journals = run_journals given.now in
         IfOk result (IsAfterLook given.now.net.now journals
-        (λ earlier mismatches. IsPortSettled given.now.net.now journals earlier port mismatches) board.old board.new) }
+        (λ earlier mismatches. IsPortSettled given.now.net.now journals earlier port mismatches)
+        progress.old progress.new) }
 {
     let p = usize::from(port);
     let entries = given.ports[p].as_slice();
-    let place = board.port_places[p];
+    let place = progress.port_places[p];
     if place >= entries.len() {
         return Ok(Look::Waits);
     }
     let entry = &entries[place];
     if let PortInput::Capacity(capacity) = entry.input {
-        return look_at_capacity(alloc, given, board, port, entry, capacity);
+        return look_at_capacity(alloc, given, progress, port, entry, capacity);
     }
-    let Some(it) = expect_event(given, board, port, place, entry) else {
+    let Some(it) = expect_event(given, progress, port, place, entry) else {
         return Ok(Look::Waits);
     };
-    board.events.reserve(2)?;
-    match try_visit(&mut board.world, &it.event, &entry.reply)? {
+    progress.events.reserve(2)?;
+    match try_visit(&mut progress.world, &it.event, &entry.reply)? {
         Tried::Agrees => {
-            board.events.push(it.event)?;
-            board.source_places[usize::from(it.conn)] = it.reached;
-            board.port_places[p] = place + 1;
+            progress.events.push(it.event)?;
+            progress.source_places[usize::from(it.conn)] = it.reached;
+            progress.port_places[p] = place + 1;
             Ok(Look::Placed(it.event))
         }
         Tried::Differs => {
-            board.world = world_after(alloc, given, &board.events)?;
+            progress.world = world_after(alloc, given, &progress.events)?;
             Ok(Look::Mismatches)
         }
-        Tried::Absent => look_after_turn(alloc, given, board, port, entry, it),
+        Tried::Absent => look_after_turn(alloc, given, progress, port, entry, it),
     }
 }
 
 // The same of an event that can't happen at once: it may be a yes at the last hop that needs its Turn.
 fn look_after_turn<'run>(
     alloc: Global,
-    given: &Given<'run>,
-    board: &mut Board<'run>,
+    given: &WeaveInput<'run>,
+    progress: &mut Progress<'run>,
     port: u16,
     entry: &Entry,
     it: Expected,
 ) -> Result<Look, AllocError>
-    requires port { port < length board.old.port_places.items }
-    requires board { IsBoard given.now.net.now (journaled given.now.ports.now given.now.sources.now) board.old }
-    requires expected { IsExpected given.now.net.now (journaled given.now.ports.now given.now.sources.now)
-        (reverse board.old.events.items) board.old.source_places.items port entry.now.place entry.now.input entry.now.reply it.conn it.reached it.event }
-    requires place { slice_index board.old.port_places.items port + 1 < 2 ^ 64 }
-    requires absent { woven.is_enabled (outcome_of given.now.net.now (facts_after given.now.net.now board.old.events.items) it.event) ≡ false }
-    ensures { let journals = journaled given.now.ports.now given.now.sources.now in
+    requires port { port < length progress.old.port_places.items }
+    requires progress { IsProgressOf given.now progress.old }
+    requires expected { IsExpected given.now.net.now (run_journals given.now)
+        (reverse progress.old.events.items) progress.old.source_places.items port entry.now.place
+        entry.now.input entry.now.reply it.conn it.reached it.event }
+    requires place { slice_index progress.old.port_places.items port + 1 < 2 ^ 64 }
+    requires absent { woven.is_enabled
+        (outcome_of given.now.net.now (facts_after given.now.net.now progress.old.events.items) it.event) ≡
+        false }
+    ensures { let journals = run_journals given.now in
         IfOk result (IsAfterLook given.now.net.now journals
-        (λ earlier mismatches. IsPortSettled given.now.net.now journals earlier port mismatches) board.old board.new) }
+        (λ earlier mismatches. IsPortSettled given.now.net.now journals earlier port mismatches)
+        progress.old progress.new) }
 {
     let Some(turn) = own_turn(given.net, &it.event) else {
         return Ok(Look::Waits);
     };
-    if !try_turn(&mut board.world, &turn)? {
+    if !try_turn(&mut progress.world, &turn)? {
         return Ok(Look::Waits);
     }
-    board.events.reserve(2)?;
-    match try_visit(&mut board.world, &it.event, &entry.reply)? {
+    progress.events.reserve(2)?;
+    match try_visit(&mut progress.world, &it.event, &entry.reply)? {
         Tried::Agrees => {
-            board.events.push(turn)?;
-            board.events.push(it.event)?;
-            board.source_places[usize::from(it.conn)] = it.reached;
-            board.port_places[usize::from(port)] += 1;
+            progress.events.push(turn)?;
+            progress.events.push(it.event)?;
+            progress.source_places[usize::from(it.conn)] = it.reached;
+            progress.port_places[usize::from(port)] += 1;
             Ok(Look::Placed(it.event))
         }
         _ => {
-            board.world = world_after(alloc, given, &board.events)?;
+            progress.world = world_after(alloc, given, &progress.events)?;
             Ok(Look::Mismatches)
         }
     }
@@ -225,36 +241,38 @@ fn look_after_turn<'run>(
 // The same of a capacity that the port's link is to have: that is an event of the port alone.
 fn look_at_capacity<'run>(
     alloc: Global,
-    given: &Given<'run>,
-    board: &mut Board<'run>,
+    given: &WeaveInput<'run>,
+    progress: &mut Progress<'run>,
     port: u16,
     entry: &Entry,
     capacity: u64,
 ) -> Result<Look, AllocError>
-    requires port { port < length board.old.port_places.items }
-    requires board { IsBoard given.now.net.now (journaled given.now.ports.now given.now.sources.now) board.old }
-    requires next { next_step given.now.net.now (journaled given.now.ports.now given.now.sources.now) (reverse board.old.events.items) port ≡ Some (step_of entry.now) }
+    requires port { port < length progress.old.port_places.items }
+    requires progress { IsProgressOf given.now progress.old }
+    requires next { next_step given.now.net.now (run_journals given.now)
+        (reverse progress.old.events.items) port ≡ Some (step_of entry.now) }
     requires input { entry.now.input ≡ CapacityIn capacity }
-    requires place { slice_index board.old.port_places.items port + 1 < 2 ^ 64 }
-    ensures { let journals = journaled given.now.ports.now given.now.sources.now in
+    requires place { slice_index progress.old.port_places.items port + 1 < 2 ^ 64 }
+    ensures { let journals = run_journals given.now in
         IfOk result (IsAfterLook given.now.net.now journals
-        (λ earlier mismatches. IsPortSettled given.now.net.now journals earlier port mismatches) board.old board.new) }
+        (λ earlier mismatches. IsPortSettled given.now.net.now journals earlier port mismatches)
+        progress.old progress.new) }
 {
     let p = usize::from(port);
-    let placed = board.port_places[p];
+    let placed = progress.port_places[p];
     if entry.place != placed as u64 {
         return Ok(Look::Waits);
     }
     let event = Event::Capacity { port, capacity };
-    board.events.reserve(1)?;
-    match try_visit(&mut board.world, &event, &entry.reply)? {
+    progress.events.reserve(1)?;
+    match try_visit(&mut progress.world, &event, &entry.reply)? {
         Tried::Agrees => {
-            board.events.push(event)?;
-            board.port_places[p] = placed + 1;
+            progress.events.push(event)?;
+            progress.port_places[p] = placed + 1;
             Ok(Look::Placed(event))
         }
         Tried::Differs => {
-            board.world = world_after(alloc, given, &board.events)?;
+            progress.world = world_after(alloc, given, &progress.events)?;
             Ok(Look::Mismatches)
         }
         Tried::Absent => Ok(Look::Waits),

@@ -1,6 +1,6 @@
 //! Whether two answers are the same, and what an outcome tells of a reply.
 ghost use Rattle.std.specs.Prelude.{◌≡◌, ◌↔◌, IsTrue};
-ghost use Rattle.abt_woven.specs.Projections as woven;
+ghost use Rattle.abt_weave.specs.Projections as woven;
 
 use abt_journal::PortReply;
 use abt_model::Outcome;

@@ -1,14 +1,13 @@
 //! The next entry of a source.
 ghost use Rattle.std.specs.Prelude.{◌≡◌, ◌<◌, length, IfOk};
 ghost use Rattle.abt_weave.specs.Candidates as candidates;
-ghost use Rattle.abt_weave.specs.Board.{journaled, IsBoard, IsAfterLook, IsSourceSettled};
+ghost use Rattle.abt_weave.specs.Progress.{IsAfterLook, IsSourceSettled, run_journals, IsProgressOf};
 
-use crate::board::{Board, world_after};
-use crate::given::Given;
 use crate::look::Look;
+use crate::progress::{Progress, world_after};
 use crate::trying::{Tried, try_own};
-use abt_model::{Event, Target};
-use abt_source_journal::SourceEntry;
+use crate::weave_input::WeaveInput;
+use abt_model::{Event, SourceEntry, Target};
 use std::alloc::{AllocError, Global};
 
 // Whether an event is a command of this source, or an answer that it is told.
@@ -21,19 +20,20 @@ fn is_own_of(event: &Event, source: u16) -> bool
 /// Places the next entry of a source, if it is something that the source did and that it can have done now.
 pub(crate) fn look_at_source<'run>(
     alloc: Global,
-    given: &Given<'run>,
-    board: &mut Board<'run>,
+    given: &WeaveInput<'run>,
+    progress: &mut Progress<'run>,
     conn: u16,
 ) -> Result<Look, AllocError>
     requires source { conn < length given.now.sources.now }
-    requires board { IsBoard given.now.net.now (journaled given.now.ports.now given.now.sources.now) board.old }
-    ensures { let journals = journaled given.now.ports.now given.now.sources.now in
+    requires progress { IsProgressOf given.now progress.old }
+    ensures { let journals = run_journals given.now in
         IfOk result (IsAfterLook given.now.net.now journals
-        (λ earlier mismatches. IsSourceSettled given.now.net.now journals earlier conn mismatches) board.old board.new) }
+        (λ earlier mismatches. IsSourceSettled given.now.net.now journals earlier conn mismatches)
+        progress.old progress.new) }
 {
     let c = usize::from(conn);
     let entries = given.sources[c].entries.as_slice();
-    let place = board.source_places[c];
+    let place = progress.source_places[c];
     if place >= entries.len() {
         return Ok(Look::Waits);
     }
@@ -43,15 +43,15 @@ pub(crate) fn look_at_source<'run>(
     if !is_own_of(&event, conn) {
         return Ok(Look::Waits);
     }
-    board.events.reserve(1)?;
-    match try_own(&mut board.world, &event, &told)? {
+    progress.events.reserve(1)?;
+    match try_own(&mut progress.world, &event, &told)? {
         Tried::Agrees => {
-            board.events.push(event)?;
-            board.source_places[c] = place + 1;
+            progress.events.push(event)?;
+            progress.source_places[c] = place + 1;
             Ok(Look::Placed(event))
         }
         Tried::Differs => {
-            board.world = world_after(alloc, given, &board.events)?;
+            progress.world = world_after(alloc, given, &progress.events)?;
             Ok(Look::Mismatches)
         }
         Tried::Absent => Ok(Look::Waits),

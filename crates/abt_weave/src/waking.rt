@@ -2,34 +2,36 @@
 ghost use Rattle.std.specs.Prelude.{◌≡◌, ◌<◌, true, length, reverse, Some, OnOk};
 ghost use Rattle.abt_net.specs.Topology.{IsWithinRules};
 ghost use Rattle.abt_model.specs.PortTable.{hop_visited};
-ghost use Rattle.abt_woven.specs.Projections.{Step};
-ghost use Rattle.abt_woven.specs.Stuck.{next_step};
+ghost use Rattle.abt_weave.specs.Projections.{Step};
+ghost use Rattle.abt_weave.specs.Stuck.{next_step};
 ghost use Rattle.abt_weave.specs.Actors.{actor_count};
-ghost use Rattle.abt_weave.specs.Board.{journaled, IsBoard};
+ghost use Rattle.abt_weave.specs.Progress.{run_journals, IsProgressOf};
 ghost use Rattle.abt_weave.specs.Candidates as candidates;
 ghost use Rattle.abt_weave.specs.Queue.{IsQueue, Wakes};
 ghost use Rattle.abt_weave.specs.Waking.{IsAbout, AreTouched, IsPortFor, AreOnPath, IsSourceFor, AreOfConn};
 
 use crate::actors::port_number;
-use crate::board::Board;
 use crate::candidate::channel_of;
-use crate::given::Given;
+use crate::progress::Progress;
 use crate::queue::Queue;
+use crate::weave_input::WeaveInput;
 use abt_cell::Vc;
 use abt_model::{Event, HopEvent, Target};
 use std::alloc::AllocError;
 
 // Whether the next entry of a port is about this channel.
-fn is_about(given: &Given, board: &Board, port: u16, vc: Vc) -> bool
+fn is_about(given: &WeaveInput, progress: &Progress, port: u16, vc: Vc) -> bool
     requires ports { length given.now.ports.now ≡ length given.now.net.now.capacities }
     requires port { port < length given.now.net.now.capacities }
-    requires board { IsBoard given.now.net.now (journaled given.now.ports.now given.now.sources.now) board.now }
-    ensures { (step : Step) → next_step given.now.net.now (journaled given.now.ports.now given.now.sources.now) (reverse board.now.events.items) port ≡ Some step →
+    requires progress { IsProgressOf given.now progress.now }
+    ensures { (step : Step) →
+        next_step given.now.net.now (run_journals given.now)
+        (reverse progress.now.events.items) port ≡ Some step →
         candidates.channel_of step.input ≡ Some vc → result ≡ true }
 {
     let p = usize::from(port);
     let entries = given.ports[p].as_slice();
-    let place = board.port_places[p];
+    let place = progress.port_places[p];
     if place >= entries.len() {
         return false;
     }
@@ -51,8 +53,8 @@ fn hop_visited(event: &Event) -> u16
 
 // Wakes a port, if an event came to it, or its next entry is about this channel.
 fn wake_port(
-    given: &Given,
-    board: &Board,
+    given: &WeaveInput,
+    progress: &Progress,
     port: u16,
     came: bool,
     vc: Vc,
@@ -60,13 +62,14 @@ fn wake_port(
 ) -> Result<(), AllocError>
     requires ports { length given.now.ports.now ≡ length given.now.net.now.capacities }
     requires port { port < length given.now.net.now.capacities }
-    requires board { IsBoard given.now.net.now (journaled given.now.ports.now given.now.sources.now) board.now }
+    requires progress { IsProgressOf given.now progress.now }
     requires queue { IsQueue (actor_count given.now.net.now) queue.old }
     ensures queue { OnOk result (IsQueue (actor_count given.now.net.now) queue.new) }
-    ensures wakes { OnOk result (Wakes (IsPortFor given.now.net.now (journaled given.now.ports.now given.now.sources.now)
-        (reverse board.now.events.items) port came vc) queue.old queue.new) }
+    ensures wakes { OnOk result (Wakes
+        (IsPortFor given.now.net.now (run_journals given.now)
+        (reverse progress.now.events.items) port came vc) queue.old queue.new) }
 {
-    if !came && !is_about(given, board, port, vc) {
+    if !came && !is_about(given, progress, port, vc) {
         return Ok(());
     }
     queue.wake(port_number(given.net, port))
@@ -75,19 +78,20 @@ fn wake_port(
 // Wakes the port at a hop of the path of a connection to which an event came, and those beside it whose next entries are about
 // the connection. A connection's message can be sent to a hop from no other.
 fn wake_path(
-    given: &Given,
-    board: &Board,
+    given: &WeaveInput,
+    progress: &Progress,
     conn: u16,
     hop: u16,
     queue: &mut Queue,
 ) -> Result<(), AllocError>
     requires ports { length given.now.ports.now ≡ length given.now.net.now.capacities }
     requires conn { conn < length given.now.net.now.conns }
-    requires board { IsBoard given.now.net.now (journaled given.now.ports.now given.now.sources.now) board.now }
+    requires progress { IsProgressOf given.now progress.now }
     requires queue { IsQueue (actor_count given.now.net.now) queue.old }
     ensures queue { OnOk result (IsQueue (actor_count given.now.net.now) queue.new) }
-    ensures wakes { OnOk result (Wakes (AreOnPath given.now.net.now (journaled given.now.ports.now given.now.sources.now)
-        (reverse board.now.events.items) conn hop) queue.old queue.new) }
+    ensures wakes { OnOk result (Wakes
+        (AreOnPath given.now.net.now (run_journals given.now)
+        (reverse progress.now.events.items) conn hop) queue.old queue.new) }
 {
     let conn = &given.net.conns()[usize::from(conn)];
     let ports = conn.path.as_slice();
@@ -96,7 +100,7 @@ fn wake_path(
     let past = ports.len().min(visited + 1);
     for place in first..past {
         let came = place + 1 == visited;
-        wake_port(given, board, ports[place], came, conn.vc, queue)?;
+        wake_port(given, progress, ports[place], came, conn.vc, queue)?;
     }
     Ok(())
 }
@@ -116,41 +120,43 @@ fn wake_source(conn: u16, hop: u16, queue: &mut Queue) -> Result<(), AllocError>
 
 // Wakes a source and ports on its path, as far as an event at this hop can have been waited for there.
 fn wake_connection(
-    given: &Given,
-    board: &Board,
+    given: &WeaveInput,
+    progress: &Progress,
     conn: u16,
     hop: u16,
     queue: &mut Queue,
 ) -> Result<(), AllocError>
     requires ports { length given.now.ports.now ≡ length given.now.net.now.capacities }
-    requires board { IsBoard given.now.net.now (journaled given.now.ports.now given.now.sources.now) board.now }
+    requires progress { IsProgressOf given.now progress.now }
     requires queue { IsQueue (actor_count given.now.net.now) queue.old }
     ensures queue { OnOk result (IsQueue (actor_count given.now.net.now) queue.new) }
-    ensures wakes { OnOk result (Wakes (AreOfConn given.now.net.now (journaled given.now.ports.now given.now.sources.now)
-        (reverse board.now.events.items) conn hop) queue.old queue.new) }
+    ensures wakes { OnOk result (Wakes
+        (AreOfConn given.now.net.now (run_journals given.now)
+        (reverse progress.now.events.items) conn hop) queue.old queue.new) }
     ensures rules { IsWithinRules given.now.net.now }
 {
     if usize::from(conn) >= given.net.conns().len() {
         return Ok(());
     }
     wake_source(conn, hop, queue)?;
-    wake_path(given, board, conn, hop, queue)
+    wake_path(given, progress, conn, hop, queue)
 }
 
 /// Wakes whom an event, the last that was placed, can have been waited for by: the port that it came to, those beside it on the
 /// path of its connection whose next entries are about this, and its source, if it happened there or at the first hop.
 pub(crate) fn wake_for(
-    given: &Given,
-    board: &Board,
+    given: &WeaveInput,
+    progress: &Progress,
     event: &Event,
     queue: &mut Queue,
 ) -> Result<(), AllocError>
     requires ports { length given.now.ports.now ≡ length given.now.net.now.capacities }
-    requires board { IsBoard given.now.net.now (journaled given.now.ports.now given.now.sources.now) board.now }
+    requires progress { IsProgressOf given.now progress.now }
     requires queue { IsQueue (actor_count given.now.net.now) queue.old }
     ensures queue { OnOk result (IsQueue (actor_count given.now.net.now) queue.new) }
-    ensures wakes { OnOk result (Wakes (AreTouched given.now.net.now (journaled given.now.ports.now given.now.sources.now)
-        (reverse board.now.events.items) event.now) queue.old queue.new) }
+    ensures wakes { OnOk result (Wakes
+        (AreTouched given.now.net.now (run_journals given.now)
+        (reverse progress.now.events.items) event.now) queue.old queue.new) }
     ensures rules { IsWithinRules given.now.net.now }
 {
     match event.target() {
@@ -161,7 +167,7 @@ pub(crate) fn wake_for(
             Ok(())
         }
         Target::Source { conn, .. } | Target::End { conn, .. } | Target::Hop { conn, .. } => {
-            wake_connection(given, board, conn, hop_visited(event), queue)
+            wake_connection(given, progress, conn, hop_visited(event), queue)
         }
     }
 }

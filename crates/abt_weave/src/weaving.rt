@@ -2,25 +2,23 @@
 ghost use Rattle.std.specs.Prelude.{◌≡◌, ◌++◌, List, length, reverse, IfOk, IfErr};
 ghost use Rattle.abt_model.specs.declared.event.Event.{Event as EventSpec};
 ghost use Rattle.abt_model.specs.Run.{facts_after};
-ghost use Rattle.abt_woven.specs.Woven.{IsWoven};
-ghost use Rattle.abt_weave.specs.Board.{journaled};
+ghost use Rattle.abt_weave.specs.Woven.{IsWoven};
+ghost use Rattle.abt_weave.specs.Progress.{run_journals};
 ghost use Rattle.abt_weave.specs.Faults.{IsWeaveFault, SaysNoneIsWoven};
 ghost use Rattle.abt_weave.specs.Leaving.{LeavesAsJournaled};
 ghost use Rattle.abt_weave.specs.Shown.{AreShown};
 ghost use Rattle.abt_world.specs.Headline.{HeadlineHolds};
 
-use crate::board::Board;
+use crate::Stuck;
 use crate::fault::WeaveFault;
-use crate::given::Given;
 use crate::left::actors_left;
 use crate::mismatch::first_mismatch;
+use crate::progress::Progress;
 use crate::settle::settle;
-use abt_list::Sequence;
-use abt_model::Event;
+use crate::weave_input::WeaveInput;
+use abt_journal::Journals;
+use abt_model::{Event, Sequence, SourceJournal};
 use abt_net::Net;
-use abt_ports::Journals;
-use abt_source_journal::SourceJournal;
-use abt_woven::Stuck;
 use std::alloc::Global;
 
 /// Weaves the journals of the ports and of the sources of a net into one list of events, which are just these journals to each
@@ -38,14 +36,19 @@ pub fn weave(
     requires ports { length journals.now ≡ length net.now.capacities }
     requires sources { length sources.now ≡ length net.now.conns }
     ensures ok { IfOk result (λ events. IsWoven net.now journals.now sources.now events) }
-    ensures shown { IfOk result (λ events. AreShown net.now (record { ports = journals.now; sources = sources.now }) (reverse events)) }
-    ensures leaves { IfOk result (λ events. LeavesAsJournaled net.now journals.now sources.now (facts_after net.now events)) }
+    ensures shown { IfOk result
+        (λ events.
+        AreShown net.now (record { ports = journals.now; sources = sources.now }) (reverse events)) }
+    ensures leaves { IfOk result
+        (λ events. LeavesAsJournaled net.now journals.now sources.now (facts_after net.now events)) }
     ensures headline { IfOk result (λ events. (before after : List EventSpec) → before ++ after ≡ events →
         HeadlineHolds net.now (facts_after net.now before)) }
-    ensures err { IfErr result (IsWeaveFault net.now (record { ports = journals.now; sources = sources.now })) }
-    ensures none { IfErr result (SaysNoneIsWoven net.now (record { ports = journals.now; sources = sources.now })) }
+    ensures err { IfErr result (IsWeaveFault net.now
+        (record { ports = journals.now; sources = sources.now })) }
+    ensures none { IfErr result (SaysNoneIsWoven net.now
+        (record { ports = journals.now; sources = sources.now })) }
 {
-    let given = Given {
+    let given = WeaveInput {
         net,
         ports: journals.ports.as_slice(),
         sources,
@@ -53,28 +56,33 @@ pub fn weave(
     weave_given(alloc, &given)
 }
 
-fn weave_given(alloc: Global, given: &Given) -> Result<Sequence<Event>, WeaveFault>
+fn weave_given(alloc: Global, given: &WeaveInput) -> Result<Sequence<Event>, WeaveFault>
     requires conns { length given.now.sources.now ≡ length given.now.net.now.conns }
     requires ports { length given.now.ports.now ≡ length given.now.net.now.capacities }
-    ensures ok { let journals = journaled given.now.ports.now given.now.sources.now in
+    ensures ok { let journals = run_journals given.now in
         IfOk result (λ events. IsWoven given.now.net.now journals.ports journals.sources events) }
-    ensures shown { let journals = journaled given.now.ports.now given.now.sources.now in
+    ensures shown { let journals = run_journals given.now in
         IfOk result (λ events. AreShown given.now.net.now journals (reverse events)) }
-    ensures leaves { let journals = journaled given.now.ports.now given.now.sources.now in
-        IfOk result (λ events. LeavesAsJournaled given.now.net.now journals.ports journals.sources (facts_after given.now.net.now events)) }
+    ensures leaves { let journals = run_journals given.now in
+        IfOk result
+        (λ events.
+        LeavesAsJournaled given.now.net.now journals.ports journals.sources
+        (facts_after given.now.net.now events)) }
     ensures headline { IfOk result (λ events. (before after : List EventSpec) → before ++ after ≡ events →
         HeadlineHolds given.now.net.now (facts_after given.now.net.now before)) }
-    ensures err { IfErr result (IsWeaveFault given.now.net.now (journaled given.now.ports.now given.now.sources.now)) }
-    ensures none { IfErr result (SaysNoneIsWoven given.now.net.now (journaled given.now.ports.now given.now.sources.now)) }
+    ensures err { IfErr result (IsWeaveFault given.now.net.now
+        (run_journals given.now)) }
+    ensures none { IfErr result (SaysNoneIsWoven given.now.net.now
+        (run_journals given.now)) }
 {
-    let mut board = Board::new(alloc, given)?;
-    let marks = settle(alloc, given, &mut board)?;
-    if let Some(Stuck { actor, place }) = first_mismatch(given, &board, &marks) {
+    let mut progress = Progress::new(alloc, given)?;
+    let marks = settle(alloc, given, &mut progress)?;
+    if let Some(Stuck { actor, place }) = first_mismatch(given, &progress, &marks) {
         return Err(WeaveFault::Mismatch { actor, place });
     }
-    let left = actors_left(alloc, given, &board)?;
+    let left = actors_left(alloc, given, &progress)?;
     if !left.is_empty() {
         return Err(WeaveFault::NoOrder(left));
     }
-    Ok(Sequence::from(board.events))
+    Ok(Sequence::from(progress.events))
 }

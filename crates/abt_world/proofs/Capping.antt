@@ -24,7 +24,7 @@ use Rattle.abt_model.proofs.Sums.{facts_after_lawful}
 use Rattle.abt_model.proofs.Tables.{tables_stay}
 use Rattle.abt_model.proofs.Worlds.{cases_option, none_some, facts_of-other}
 use Rattle.abt_safety.specs.Holding.{held_by_port}
-use Rattle.abt_world.specs.Courses.{course_of}
+use Rattle.abt_world.specs.ConnectionStates.{connection_of}
 use Rattle.abt_world.specs.Standing.{WorldView, IsOfPast, StandsFor}
 use Rattle.abt_world.specs.Steps.{ArePorts}
 use Rattle.abt_world.proofs.Serving.{port_has, set_here, set_other}
@@ -52,7 +52,7 @@ pub step_capped :
     (net : Topology) (events : List Event) (world : WorldView) (p u looks : ℕ) (outcome : Outcome) (old new : Table) → IsWithinRules net → StandsFor net events world →
     slice_get world.ports p ≡ Some old → outcome ≡ capped (capacity_set old u) → new ≡ table_after_capacity old u →
     (outcome ≡ outcome_of net (facts_after net events) (Capacity p u))
-    × StandsFor net (events ++ Capacity p u ∷ []) (record { net = world.net; ports = slice_set world.ports p new; courses = world.courses; looks = looks })
+    × StandsFor net (events ++ Capacity p u ∷ []) (record { net = world.net; ports = slice_set world.ports p new; connections = world.connections; looks = looks })
 step_capped net events world p u looks outcome old new rules stands at said becomes =
     let past = facts_after net events in
     let after = after_event net past (Capacity p u) in
@@ -74,12 +74,12 @@ step_capped net events world p u looks outcome old new rules stands at said beco
       told,
       record {
         rates = all_ask events (Capacity p u) stands.rates tt;
-        stands = subst (λ (w : Past). IsOfPast net w (record { net = world.net; ports = slice_set world.ports p new; courses = world.courses; looks = looks })) (sym (one_more net events (Capacity p u)))
+        stands = subst (λ (w : Past). IsOfPast net w (record { net = world.net; ports = slice_set world.ports p new; connections = world.connections; looks = looks })) (sym (one_more net events (Capacity p u)))
             (record {
               net_is = stands.stands.net_is;
               ports = each;
-              courses = λ c. stands.stands.courses c
-                  ∙ ap (λ (fs : List Fact). option_map (λ (k : Conn). course_of k.vc fs) (conn_at net c)) (sym (facts_of-other net past (Capacity p u) c (λ own. none_some c own)));
+              connections = λ c. stands.stands.connections c
+                  ∙ ap (λ (fs : List Fact). option_map (λ (k : Conn). connection_of k.vc fs) (conn_at net c)) (sym (facts_of-other net past (Capacity p u) c (λ own. none_some c own)));
             });
       },
     )
@@ -88,7 +88,7 @@ step_capped net events world p u looks outcome old new rules stands at said beco
 pub step_elsewhere :
     (net : Topology) (events : List Event) (world : WorldView) (p u looks : ℕ) → StandsFor net events world → length world.ports ≤ p →
     (NotEnabled Unknown ≡ outcome_of net (facts_after net events) (Capacity p u))
-    × StandsFor net (events ++ Capacity p u ∷ []) (record { net = world.net; ports = world.ports; courses = world.courses; looks = looks })
+    × StandsFor net (events ++ Capacity p u ∷ []) (record { net = world.net; ports = world.ports; connections = world.connections; looks = looks })
 step_elsewhere net events world p u looks stands past_end =
     let past = facts_after net events in
     let count = port_count net past world.ports stands.stands.ports in

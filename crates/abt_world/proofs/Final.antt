@@ -10,9 +10,9 @@ use Rattle.abt_facts.specs.declared.fact.Fact.{Fact}
 use Rattle.abt_facts.specs.declared.fact.Fact.TheVariants.{Started, Crashed, Stored, Asked, Heard, Emitted, Delivered, Passed, Shut, Turned, Back, Arrived}
 use Rattle.abt_facts.specs.Source.{rate_of}
 use Rattle.abt_facts.specs.Hop.{held_of}
-use Rattle.abt_log.specs.Index.{Index, index_of}
-use Rattle.abt_log.specs.Kept.{conforms_if_arrived}
-use Rattle.abt_log.proofs.Indexed.{conform_is}
+use Rattle.abt_index.specs.Index.{Index, index_of}
+use Rattle.abt_index.specs.Kept.{conforms_if_arrived}
+use Rattle.abt_index.proofs.Indexed.{conform_is}
 use Rattle.abt_net.specs.declared.conn.Conn.{Conn}
 use Rattle.abt_net.specs.Topology.{Topology, IsWithinRules, conn_at}
 use Rattle.abt_node.specs.Table.{Table, sum_of, held_at, connection_at}
@@ -27,12 +27,12 @@ use Rattle.abt_model.proofs.Sums.{facts_after_lawful}
 use Rattle.abt_model.proofs.Tables.{totals_reserved}
 use Rattle.abt_model.proofs.EveryPasts.{every_safe}
 use Rattle.abt_model.proofs.Worlds.{cases_option}
-use Rattle.abt_trace.specs.Traces.{rates_after, held_after, held_along, totals_after, capacities_after}
-use Rattle.abt_world.specs.declared.course.Course.{Course}
+use Rattle.abt_model.specs.Traces.{rates_after, held_after, held_along, totals_after, capacities_after}
+use Rattle.abt_world.specs.declared.connection_state.ConnectionState.{ConnectionState}
 use Rattle.abt_world.specs.Seen.{seen}
 use Rattle.abt_safety.specs.Holding.{held_by_port, is_held_along}
 use Rattle.abt_world.specs.Standing.{StandsFor}
-use Rattle.abt_world.specs.Courses.{CourseView, course_of}
+use Rattle.abt_world.specs.ConnectionStates.{ConnectionView, connection_of}
 use Rattle.abt_world.specs.Steps.{IsConnAt, port_at}
 use Rattle.abt_world.proofs.Arriving.{rate_there}
 use Rattle.abt_model.proofs.Served.{conn_within}
@@ -69,30 +69,30 @@ all_pairs_pass test (x ∷ xs) (y ∷ ys) h =
     grind (arith, nat_tests)
 
 -- the connections and the ports that a past gives
-pub record AreOfPast (net : Topology) (events : List Event) (courses : List Course) (ports : List Table) : Type 0 where
+pub record AreOfPast (net : Topology) (events : List Event) (connections : List ConnectionState) (ports : List Table) : Type 0 where
   pub rules : IsWithinRules net
   pub looks : ℕ
-  pub stands : StandsFor net events (record { net = net; ports = ports; courses = map seen courses; looks = looks })
+  pub stands : StandsFor net events (record { net = net; ports = ports; connections = map seen connections; looks = looks })
 
 -- a connection that is there, and what is kept of it
-course_there :
-    (net : Topology) (events : List Event) (courses : List Course) (ports : List Table) (c : ℕ) (conn : Conn) (course : Course) → AreOfPast net events courses ports →
-    conn_at net c ≡ Some conn → slice_get courses c ≡ Some course → seen course ≡ course_of conn.vc (facts_of c (facts_after net events))
-course_there net events courses ports c conn course are known at =
+connection_there :
+    (net : Topology) (events : List Event) (connections : List ConnectionState) (ports : List Table) (c : ℕ) (conn : Conn) (connection : ConnectionState) → AreOfPast net events connections ports →
+    conn_at net c ≡ Some conn → slice_get connections c ≡ Some connection → seen connection ≡ connection_of conn.vc (facts_of c (facts_after net events))
+connection_there net events connections ports c conn connection are known at =
     let past = facts_after net events in
-    some_same _ _ (sym (slice_get-map seen courses c ∙ ap (option_map seen) at) ∙ are.stands.stands.courses c ∙ ap (option_map (λ (k : Conn). course_of k.vc (facts_of c past))) known)
+    some_same _ _ (sym (slice_get-map seen connections c ∙ ap (option_map seen) at) ∙ are.stands.stands.connections c ∙ ap (option_map (λ (k : Conn). connection_of k.vc (facts_of c past))) known)
 
-conn_is_at : (net : Topology) (events : List Event) (courses : List Course) (ports : List Table) (c : ℕ) (conn : Conn) → AreOfPast net events courses ports → conn_at net c ≡ Some conn →
+conn_is_at : (net : Topology) (events : List Event) (connections : List ConnectionState) (ports : List Table) (c : ℕ) (conn : Conn) → AreOfPast net events connections ports → conn_at net c ≡ Some conn →
     IsConnAt net (facts_after net events) c conn (facts_of c (facts_after net events))
-conn_is_at net events courses ports c conn are known = record { rules = are.rules; events = events; rates = are.stands.rates; led = refl; known = known; facts_are = refl }
+conn_is_at net events connections ports c conn are known = record { rules = are.rules; events = events; rates = are.stands.rates; led = refl; known = known; facts_are = refl }
 
 -- what the port at a hop holds
 held_there :
-    (net : Topology) (events : List Event) (courses : List Course) (ports : List Table) (c : ℕ) (conn : Conn) (i p : ℕ) → AreOfPast net events courses ports → conn_at net c ≡ Some conn →
+    (net : Topology) (events : List Event) (connections : List ConnectionState) (ports : List Table) (c : ℕ) (conn : Conn) (i p : ℕ) → AreOfPast net events connections ports → conn_at net c ≡ Some conn →
     slice_get conn.path i ≡ Some p → held_by_port conn.vc ports p ≡ held_of (facts_of c (facts_after net events)) (1 + i)
-held_there net events courses ports c conn i p are known at =
+held_there net events connections ports c conn i p are known at =
     let past = facts_after net events in
-    let is = conn_is_at net events courses ports c conn are known in
+    let is = conn_is_at net events connections ports c conn are known in
     let low = slice_get_within conn.path i p at in
     let hop : is_hop (length conn.path) (1 + i) ≡ true = grind (arith, nat_tests) in
     let back : (1 + i) - 1 ≡ i = omega arith in
@@ -107,30 +107,30 @@ held_there net events courses ports c conn i p are known at =
     ∙ ap (λ o. unwrap_or o 0) (rate_there net past c conn (facts_of c past) (1 + i) p ports table is are.stands.stands.ports has in_ports there)
 
 -- the rates that are read off the connections
-rate_read : (view : CourseView → ℕ) (o : Option Course) → option_map (λ (course : Course). view (seen course)) o ≡ option_map view (option_map seen o)
+rate_read : (view : ConnectionView → ℕ) (o : Option ConnectionState) → option_map (λ (connection : ConnectionState). view (seen connection)) o ≡ option_map view (option_map seen o)
 rate_read view None = refl
-rate_read view (Some course) = refl
+rate_read view (Some connection) = refl
 
 map_of_none : {A B C : Type 0} (f : A → B) (g : B → C) (o : Option A) → option_map g (option_map f o) ≡ option_map (λ x. g (f x)) o
 map_of_none f g None = refl
 map_of_none f g (Some x) = refl
 
 pub rates_read :
-    (net : Topology) (events : List Event) (courses : List Course) (ports : List Table) → AreOfPast net events courses ports →
-    map (λ (course : Course). course.actor.source.rate) courses ≡ rates_after net (facts_after net events)
-rates_read net events courses ports are =
+    (net : Topology) (events : List Event) (connections : List ConnectionState) (ports : List Table) → AreOfPast net events connections ports →
+    map (λ (connection : ConnectionState). connection.actor.source.rate) connections ≡ rates_after net (facts_after net events)
+rates_read net events connections ports are =
     let past = facts_after net events in
-    numbered_from_0 (map (λ (course : Course). course.actor.source.rate) courses) (λ (n : ℕ × Conn). rate_of (facts_of n.0 past)) net.conns
-    (λ c. slice_get-map (λ (course : Course). course.actor.source.rate) courses c
-    ∙ rate_read (λ view. view.actor.source.rate) (slice_get courses c)
-    ∙ ap (option_map (λ (view : CourseView). view.actor.source.rate)) (sym (slice_get-map seen courses c) ∙ are.stands.stands.courses c)
-    ∙ map_of_none (λ (k : Conn). course_of k.vc (facts_of c past)) (λ (view : CourseView). view.actor.source.rate) (conn_at net c))
+    numbered_from_0 (map (λ (connection : ConnectionState). connection.actor.source.rate) connections) (λ (n : ℕ × Conn). rate_of (facts_of n.0 past)) net.conns
+    (λ c. slice_get-map (λ (connection : ConnectionState). connection.actor.source.rate) connections c
+    ∙ rate_read (λ view. view.actor.source.rate) (slice_get connections c)
+    ∙ ap (option_map (λ (view : ConnectionView). view.actor.source.rate)) (sym (slice_get-map seen connections c) ∙ are.stands.stands.connections c)
+    ∙ map_of_none (λ (k : Conn). connection_of k.vc (facts_of c past)) (λ (view : ConnectionView). view.actor.source.rate) (conn_at net c))
 
 -- the sums that are read off the ports
 pub totals_read :
-    (net : Topology) (events : List Event) (courses : List Course) (ports : List Table) → AreOfPast net events courses ports →
+    (net : Topology) (events : List Event) (connections : List ConnectionState) (ports : List Table) → AreOfPast net events connections ports →
     map sum_of ports ≡ totals_after net (facts_after net events)
-totals_read net events courses ports are =
+totals_read net events connections ports are =
     let past = facts_after net events in
     numbered_from_0 (map sum_of ports) (λ (n : ℕ × ℕ). reserved_on net past n.0) net.capacities
     (λ p. slice_get-map sum_of ports p ∙ ap (option_map sum_of) (are.stands.stands.ports p)
@@ -138,9 +138,9 @@ totals_read net events courses ports are =
     ∙ ap (λ (n : ℕ). option_map (λ (_ : ℕ). n) (slice_get net.capacities p)) (totals_reserved net past are.rules (facts_after_lawful net events are.stands.rates).0 p))
 
 pub capacities_read :
-    (net : Topology) (events : List Event) (courses : List Course) (ports : List Table) → AreOfPast net events courses ports →
+    (net : Topology) (events : List Event) (connections : List ConnectionState) (ports : List Table) → AreOfPast net events connections ports →
     map (λ (table : Table). table.capacity) ports ≡ capacities_after net (facts_after net events)
-capacities_read net events courses ports are =
+capacities_read net events connections ports are =
     let past = facts_after net events in
     numbered_from_0 (map (λ (table : Table). table.capacity) ports) (λ (n : ℕ × ℕ). capacity_of net past n.0) net.capacities
     (λ p. slice_get-map (λ (table : Table). table.capacity) ports p ∙ ap (option_map (λ (table : Table). table.capacity)) (are.stands.stands.ports p)
@@ -148,21 +148,21 @@ capacities_read net events courses ports are =
 
 -- what is read off the ports along the paths
 along_read :
-    (net : Topology) (events : List Event) (courses : List Course) (ports : List Table) (c : ℕ) (conn : Conn) → AreOfPast net events courses ports → conn_at net c ≡ Some conn →
+    (net : Topology) (events : List Event) (connections : List ConnectionState) (ports : List Table) (c : ℕ) (conn : Conn) → AreOfPast net events connections ports → conn_at net c ≡ Some conn →
     map (held_by_port conn.vc ports) conn.path ≡ held_along (facts_of c (facts_after net events)) conn.path
-along_read net events courses ports c conn are known =
+along_read net events connections ports c conn are known =
     let past = facts_after net events in
     numbered (map (held_by_port conn.vc ports) conn.path) (λ (n : ℕ × ℕ). held_of (facts_of c past) n.0) conn.path 1
     (λ i. elim (cases_option (slice_get conn.path i)) [
       | inl none ↦ slice_get-map (held_by_port conn.vc ports) conn.path i ∙ ap (option_map (held_by_port conn.vc ports)) none ∙ sym (ap (option_map (λ (_ : ℕ). held_of (facts_of c past) (1 + i))) none)
       | inr some ↦ slice_get-map (held_by_port conn.vc ports) conn.path i ∙ ap (option_map (held_by_port conn.vc ports)) some.1
-          ∙ ap Some (held_there net events courses ports c conn i some.0 are known some.1) ∙ sym (ap (option_map (λ (_ : ℕ). held_of (facts_of c past) (1 + i))) some.1)
+          ∙ ap Some (held_there net events connections ports c conn i some.0 are known some.1) ∙ sym (ap (option_map (λ (_ : ℕ). held_of (facts_of c past) (1 + i))) some.1)
     ])
 
 pub held_read :
-    (net : Topology) (events : List Event) (courses : List Course) (ports : List Table) → AreOfPast net events courses ports →
+    (net : Topology) (events : List Event) (connections : List ConnectionState) (ports : List Table) → AreOfPast net events connections ports →
     map (λ (conn : Conn). map (held_by_port conn.vc ports) conn.path) net.conns ≡ held_after net (facts_after net events)
-held_read net events courses ports are =
+held_read net events connections ports are =
     let past = facts_after net events in
     let read = λ (conn : Conn). map (held_by_port conn.vc ports) conn.path in
     let given = λ (n : ℕ × Conn). held_along (facts_of n.0 past) n.1.path in
@@ -170,7 +170,7 @@ held_read net events courses ports are =
     (λ c. elim (cases_option (conn_at net c)) [
       | inl none ↦ slice_get-map read net.conns c ∙ ap (option_map read) none ∙ sym (ap (option_map (λ (conn : Conn). given (c, conn))) none)
       | inr some ↦ slice_get-map read net.conns c ∙ ap (option_map read) some.1
-          ∙ ap Some (along_read net events courses ports c some.0 are some.1) ∙ sym (ap (option_map (λ (conn : Conn). given (c, conn))) some.1)
+          ∙ ap Some (along_read net events connections ports c some.0 are some.1) ∙ sym (ap (option_map (λ (conn : Conn). given (c, conn))) some.1)
     ])
 
 -- what is safe passes
@@ -195,24 +195,24 @@ conforming_pass (Arrived cell at rate TooEarly ∷ facts) all = absurd (let e = 
 conforming_pass (Arrived cell at rate NoRate ∷ facts) all = absurd (let e = all.0 in cc)
 
 pub rates_pass :
-    (net : Topology) (events : List Event) (courses : List Course) (ports : List Table) → AreOfPast net events courses ports →
-    list_all (λ (pair : Conn × Course). is_held_along pair.1.actor.source.rate pair.0.vc ports pair.0.path) (zip net.conns courses) ≡ true
-rates_pass net events courses ports are =
+    (net : Topology) (events : List Event) (connections : List ConnectionState) (ports : List Table) → AreOfPast net events connections ports →
+    list_all (λ (pair : Conn × ConnectionState). is_held_along pair.1.actor.source.rate pair.0.vc ports pair.0.path) (zip net.conns connections) ≡ true
+rates_pass net events connections ports are =
     let past = facts_after net events in
-    all_pairs_pass (λ (pair : Conn × Course). is_held_along pair.1.actor.source.rate pair.0.vc ports pair.0.path) net.conns courses
-    (λ c conn course known at. (
-    let rate : course.actor.source.rate ≡ rate_of (facts_of c past) = ap (λ (view : CourseView). view.actor.source.rate) (course_there net events courses ports c conn course are known at) in
-    all_pass (λ p. nat_le course.actor.source.rate (held_by_port conn.vc ports p)) conn.path
+    all_pairs_pass (λ (pair : Conn × ConnectionState). is_held_along pair.1.actor.source.rate pair.0.vc ports pair.0.path) net.conns connections
+    (λ c conn connection known at. (
+    let rate : connection.actor.source.rate ≡ rate_of (facts_of c past) = ap (λ (view : ConnectionView). view.actor.source.rate) (connection_there net events connections ports c conn connection are known at) in
+    all_pass (λ p. nat_le connection.actor.source.rate (held_by_port conn.vc ports p)) conn.path
     (λ i p here. (
     let low = slice_get_within conn.path i p here in
-    let held = held_there net events courses ports c conn i p are known here in
+    let held = held_there net events connections ports c conn i p are known here in
     let safe = (every_safe net events are.rules are.stands.rates).rates c conn known (1 + i) (omega arith) (omega arith) in
     le_passes _ _ (subst (λ n. n ≤ held_by_port conn.vc ports p) (sym rate) (subst (λ n. rate_of (facts_of c past) ≤ n) (sym held) safe))))))
 
 pub sums_pass :
-    (net : Topology) (events : List Event) (courses : List Course) (ports : List Table) → AreOfPast net events courses ports →
+    (net : Topology) (events : List Event) (connections : List ConnectionState) (ports : List Table) → AreOfPast net events connections ports →
     list_all (λ (table : Table). nat_le (sum_of table) table.capacity) ports ≡ true
-sums_pass net events courses ports are =
+sums_pass net events connections ports are =
     let past = facts_after net events in
     all_pass (λ (table : Table). nat_le (sum_of table) table.capacity) ports
     (λ p table at. elim (cases_option (slice_get net.capacities p)) [
@@ -225,14 +225,14 @@ sums_pass net events courses ports are =
     ])
 
 pub cells_pass :
-    (net : Topology) (events : List Event) (courses : List Course) (ports : List Table) → AreOfPast net events courses ports →
-    list_all (λ (course : Course). course.log.index.conform) courses ≡ true
-cells_pass net events courses ports are =
+    (net : Topology) (events : List Event) (connections : List ConnectionState) (ports : List Table) → AreOfPast net events connections ports →
+    list_all (λ (connection : ConnectionState). connection.log.index.conform) connections ≡ true
+cells_pass net events connections ports are =
     let past = facts_after net events in
-    all_pass (λ (course : Course). course.log.index.conform) courses
-    (λ c course at. elim (cases_option (conn_at net c)) [
-      | inl none ↦ absurd (let e = sym (slice_get-map seen courses c ∙ ap (option_map seen) at) ∙ are.stands.stands.courses c ∙ ap (option_map (λ (k : Conn). course_of k.vc (facts_of c past))) none in cc)
+    all_pass (λ (connection : ConnectionState). connection.log.index.conform) connections
+    (λ c connection at. elim (cases_option (conn_at net c)) [
+      | inl none ↦ absurd (let e = sym (slice_get-map seen connections c ∙ ap (option_map seen) at) ∙ are.stands.stands.connections c ∙ ap (option_map (λ (k : Conn). connection_of k.vc (facts_of c past))) none in cc)
       | inr some ↦ (
-          let index : course.log.index ≡ index_of (facts_of c past) = ap (λ (view : CourseView). view.index) (course_there net events courses ports c some.0 course are some.1 at) in
+          let index : connection.log.index ≡ index_of (facts_of c past) = ap (λ (view : ConnectionView). view.index) (connection_there net events connections ports c some.0 connection are some.1 at) in
           ap (λ (i : Index). i.conform) index ∙ conform_is (facts_of c past) ∙ conforming_pass (facts_of c past) ((every_safe net events are.rules are.stands.rates).cells c))
     ])

@@ -9,7 +9,7 @@ use Rattle.abt_net.specs.Topology.{Topology, conn_at}
 use Rattle.abt_node.specs.Table.{Table}
 use Rattle.abt_model.specs.declared.event.Event.{Event}
 use Rattle.abt_safety.specs.Holding.{held_by_port, is_held_along, looked_at}
-use Rattle.abt_world.specs.declared.course.Course.{Course}
+use Rattle.abt_world.specs.declared.connection_state.ConnectionState.{ConnectionState}
 use Rattle.abt_world.proofs.Final.{AreOfPast, rates_pass}
 
 -- one of two lists together that pass
@@ -32,8 +32,8 @@ all_looked rate vc ports (p ∷ path) all =
     omega (arith, first, rest)
 
 pub path_looked :
-    (net : Topology) (events : List Event) (courses : List Course) (ports : List Table) (c : ℕ) (conn : Conn) (course : Course) → AreOfPast net events courses ports →
-    conn_at net c ≡ Some conn → slice_get courses c ≡ Some course → looked_at course.actor.source.rate conn.vc ports conn.path ≡ length conn.path
-path_looked net events courses ports c conn course are known at =
-    all_looked course.actor.source.rate conn.vc ports conn.path
-    (both_at (λ (pair : Conn × Course). is_held_along pair.1.actor.source.rate pair.0.vc ports pair.0.path) net.conns courses c conn course (rates_pass net events courses ports are) known at)
+    (net : Topology) (events : List Event) (connections : List ConnectionState) (ports : List Table) (c : ℕ) (conn : Conn) (connection : ConnectionState) → AreOfPast net events connections ports →
+    conn_at net c ≡ Some conn → slice_get connections c ≡ Some connection → looked_at connection.actor.source.rate conn.vc ports conn.path ≡ length conn.path
+path_looked net events connections ports c conn connection are known at =
+    all_looked connection.actor.source.rate conn.vc ports conn.path
+    (both_at (λ (pair : Conn × ConnectionState). is_held_along pair.1.actor.source.rate pair.0.vc ports pair.0.path) net.conns connections c conn connection (rates_pass net events connections ports are) known at)

@@ -2,8 +2,8 @@
 use Rattle.std.proofs.Common.{◌≡◌, ◌≤◌, List, [], ◌∷◌, ◌++◌, refl, sym, subst, ap, ◌∙◌, arith}
 use Rattle.abt_facts.specs.declared.fact.Fact.{Fact}
 use Rattle.abt_facts.specs.declared.fact.Fact.TheVariants.{Passed, Shut, Back, Emitted}
-use Rattle.abt_log.specs.Index.{Index, index_of, noted, CanFollow}
-use Rattle.abt_log.proofs.Indexed.{cells_counted}
+use Rattle.abt_index.specs.Index.{Index, index_of, noted, CanFollow}
+use Rattle.abt_index.proofs.Indexed.{cells_counted}
 use Rattle.abt_model.proofs.Lawful.{Route, MayFollow, IsLawful}
 use Rattle.abt_world.specs.Notes.{all_noted, CanAllFollow}
 

@@ -8,10 +8,10 @@ use Rattle.abt_net.specs.Topology.{Topology}
 use Rattle.abt_node.specs.Table.{Table}
 use Rattle.abt_safety.specs.Holding.{held_by_port}
 use Rattle.abt_safety.specs.Tallies.{one_if, count_of, is_above}
-use Rattle.abt_safety.specs.declared.tally.Tally.{Tally}
+use Rattle.abt_safety.specs.declared.violations.Violations.{Violations}
 use Rattle.abt_model.specs.declared.event.Event.{Event}
-use Rattle.abt_world.specs.declared.course.Course.{Course}
-use Rattle.abt_world.specs.Courses.{CourseView}
+use Rattle.abt_world.specs.declared.connection_state.ConnectionState.{ConnectionState}
+use Rattle.abt_world.specs.ConnectionStates.{ConnectionView}
 use Rattle.abt_world.specs.Seen.{seen}
 use Rattle.abt_world.specs.Sound.{IsSound}
 use Rattle.abt_world.specs.Tallied.{shapes_above, is_broken, IsTallied}
@@ -65,49 +65,49 @@ le_tested : (m n : ℕ) → nat_le m n ≡ true → m ≤ n
 le_tested m n passes = grind (arith, nat_tests)
 
 -- three counts of nothing
-pub record CountsNothing (tally : Tally) : Type 0 where
-  pub above : tally.above ≡ 0
-  pub over : tally.over ≡ 0
-  pub broken : tally.broken ≡ 0
+pub record CountsNothing (violations : Violations) : Type 0 where
+  pub above : violations.above ≡ 0
+  pub over : violations.over ≡ 0
+  pub broken : violations.broken ≡ 0
 
-pub nothing_said : (tally : Tally) → (tally.above == 0 && tally.over == 0 && tally.broken == 0) ≡ true → CountsNothing tally
-nothing_said tally all =
-    let parts = and_parts (tally.above == 0 && tally.over == 0) (tally.broken == 0) all in
-    let first = and_parts (tally.above == 0) (tally.over == 0) parts.0 in
+pub nothing_said : (violations : Violations) → (violations.above == 0 && violations.over == 0 && violations.broken == 0) ≡ true → CountsNothing violations
+nothing_said violations all =
+    let parts = and_parts (violations.above == 0 && violations.over == 0) (violations.broken == 0) all in
+    let first = and_parts (violations.above == 0) (violations.over == 0) parts.0 in
     record { above = eqb-true _ _ first.0; over = eqb-true _ _ first.1; broken = eqb-true _ _ parts.1 }
 
-pub nothing_tells : (tally : Tally) → CountsNothing tally → (tally.above == 0 && tally.over == 0 && tally.broken == 0) ≡ true
-nothing_tells tally none =
-    ap (λ (n : ℕ). n == 0 && tally.over == 0 && tally.broken == 0) none.above
-    ∙ ap (λ (n : ℕ). n == 0 && tally.broken == 0) none.over ∙ ap (λ (n : ℕ). n == 0) none.broken
+pub nothing_tells : (violations : Violations) → CountsNothing violations → (violations.above == 0 && violations.over == 0 && violations.broken == 0) ≡ true
+nothing_tells violations none =
+    ap (λ (n : ℕ). n == 0 && violations.over == 0 && violations.broken == 0) none.above
+    ∙ ap (λ (n : ℕ). n == 0 && violations.broken == 0) none.over ∙ ap (λ (n : ℕ). n == 0) none.broken
 
 pub sound_counted :
-    (net : Topology) (ports : List Table) (courses : List CourseView) (looks : ℕ) (tally : Tally) → IsTallied net ports courses tally →
-    CountsNothing tally → IsSound (record { net = net; ports = ports; courses = courses; looks = looks })
-sound_counted net ports courses looks tally kept none = record {
-  rates = λ c i p conn course known at there. le_tested _ _ (all_at (λ port. nat_le course.actor.source.rate (held_by_port conn.vc ports port)) conn.path i p
-      (not_not _ (none_at_both (shapes_above ports) net.conns courses c conn course (sym kept.above ∙ none.above) known at)) there);
+    (net : Topology) (ports : List Table) (connections : List ConnectionView) (looks : ℕ) (violations : Violations) → IsTallied net ports connections violations →
+    CountsNothing violations → IsSound (record { net = net; ports = ports; connections = connections; looks = looks })
+sound_counted net ports connections looks violations kept none = record {
+  rates = λ c i p conn connection known at there. le_tested _ _ (all_at (λ port. nat_le connection.actor.source.rate (held_by_port conn.vc ports port)) conn.path i p
+      (not_not _ (none_at_both (shapes_above ports) net.conns connections c conn connection (sym kept.above ∙ none.above) known at)) there);
   sums = λ p table at. le_tested _ _ (not_not _ (none_at is_above ports p table (sym kept.over ∙ none.over) at));
-  cells = λ c course at. not_not _ (none_at is_broken courses c course (sym kept.broken ∙ none.broken) at);
+  cells = λ c connection at. not_not _ (none_at is_broken connections c connection (sym kept.broken ∙ none.broken) at);
 }
 
 pub counted_sound :
-    (net : Topology) (ports : List Table) (courses : List CourseView) (looks : ℕ) (tally : Tally) → IsTallied net ports courses tally →
-    IsSound (record { net = net; ports = ports; courses = courses; looks = looks }) → CountsNothing tally
-counted_sound net ports courses looks tally kept sound = record {
-  above = kept.above ∙ none_counted_both (shapes_above ports) net.conns courses (λ c conn course known at.
-      ap not (all_pass (λ port. nat_le course.actor.source.rate (held_by_port conn.vc ports port)) conn.path
-      (λ i p there. le_passes _ _ (sound.rates c i p conn course known at there))));
+    (net : Topology) (ports : List Table) (connections : List ConnectionView) (looks : ℕ) (violations : Violations) → IsTallied net ports connections violations →
+    IsSound (record { net = net; ports = ports; connections = connections; looks = looks }) → CountsNothing violations
+counted_sound net ports connections looks violations kept sound = record {
+  above = kept.above ∙ none_counted_both (shapes_above ports) net.conns connections (λ c conn connection known at.
+      ap not (all_pass (λ port. nat_le connection.actor.source.rate (held_by_port conn.vc ports port)) conn.path
+      (λ i p there. le_passes _ _ (sound.rates c i p conn connection known at there))));
   over = kept.over ∙ none_counted is_above ports (λ p table at. ap not (le_passes _ _ (sound.sums p table at)));
-  broken = kept.broken ∙ none_counted is_broken courses (λ c course at. ap not (sound.cells c course at));
+  broken = kept.broken ∙ none_counted is_broken connections (λ c connection at. ap not (sound.cells c connection at));
 }
 
 -- a world that stands for events counts nothing
 pub past_counts_nothing :
-    (net : Topology) (events : List Event) (courses : List Course) (ports : List Table) (tally : Tally) → AreOfPast net events courses ports →
-    IsTallied net ports (map seen courses) tally → CountsNothing tally
-past_counts_nothing net events courses ports tally are kept = record {
-  above = kept.above ∙ none_above net.conns courses ports (rates_pass net events courses ports are);
-  over = kept.over ∙ none_over ports (sums_pass net events courses ports are);
-  broken = kept.broken ∙ none_broken courses (cells_pass net events courses ports are);
+    (net : Topology) (events : List Event) (connections : List ConnectionState) (ports : List Table) (violations : Violations) → AreOfPast net events connections ports →
+    IsTallied net ports (map seen connections) violations → CountsNothing violations
+past_counts_nothing net events connections ports violations are kept = record {
+  above = kept.above ∙ none_above net.conns connections ports (rates_pass net events connections ports are);
+  over = kept.over ∙ none_over ports (sums_pass net events connections ports are);
+  broken = kept.broken ∙ none_broken connections (cells_pass net events connections ports are);
 }

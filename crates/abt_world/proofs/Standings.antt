@@ -9,7 +9,7 @@ use Rattle.abt_net.specs.declared.conn.Conn.{Conn}
 use Rattle.abt_net.specs.Topology.{Topology, IsWithinRules, conn_at}
 use Rattle.abt_node.specs.Table.{Table}
 use Rattle.abt_facts.specs.declared.fact.Fact.{Fact}
-use Rattle.abt_log.specs.Index.{Index, index_of}
+use Rattle.abt_index.specs.Index.{Index, index_of}
 use Rattle.abt_actor.specs.Actor.{ActorView, actor_of}
 use Rattle.abt_model.specs.declared.event.Event.{Event}
 use Rattle.abt_model.specs.declared.outcome.Cause.TheVariants.{Unknown}
@@ -24,7 +24,7 @@ use Rattle.abt_model.proofs.EveryPasts.{every_safe, every_never_disputes, every_
 use Rattle.abt_model.proofs.Runs.{facts_from_push}
 use Rattle.abt_model.proofs.Worlds.{other_conn, outcome_of-unknown, after_event-unknown, facts_of-other}
 use Rattle.abt_world.specs.Standing.{WorldView, IsOfPast, StandsFor}
-use Rattle.abt_world.specs.Courses.{CourseView, course_of}
+use Rattle.abt_world.specs.ConnectionStates.{ConnectionView, connection_of}
 use Rattle.abt_world.specs.Headline.{HeadlineHolds}
 use Rattle.abt_world.specs.Steps.{ArePorts, Leaves}
 use Rattle.abt_world.proofs.Serving.{set_here, set_other}
@@ -71,17 +71,17 @@ all_ask events e rates asks = All-append AsksRate events (e ∷ []) rates (All-c
 
 -- an event that changes nothing
 pub still : (net : Topology) (events : List Event) (world : WorldView) (e : Event) (looks : ℕ) → StandsFor net events world → AsksRate e → after_event net (facts_after net events) e ≡ facts_after net events →
-    StandsFor net (events ++ e ∷ []) (record { net = world.net; ports = world.ports; courses = world.courses; looks = looks })
+    StandsFor net (events ++ e ∷ []) (record { net = world.net; ports = world.ports; connections = world.connections; looks = looks })
 still net events world e looks stands asks stays = record {
   rates = all_ask events e stands.rates asks;
-  stands = subst (λ (p : Past). IsOfPast net p (record { net = world.net; ports = world.ports; courses = world.courses; looks = looks })) (sym (one_more net events e ∙ stays))
-      (record { net_is = stands.stands.net_is; ports = stands.stands.ports; courses = stands.stands.courses });
+  stands = subst (λ (p : Past). IsOfPast net p (record { net = world.net; ports = world.ports; connections = world.connections; looks = looks })) (sym (one_more net events e ∙ stays))
+      (record { net_is = stands.stands.net_is; ports = stands.stands.ports; connections = stands.stands.connections });
 }
 
 -- an event of a connection that the net doesn't have
 pub step_unknown :
     (net : Topology) (events : List Event) (world : WorldView) (e : Event) (c looks : ℕ) → StandsFor net events world → AsksRate e → conn_of e ≡ Some c → length net.conns ≤ c →
-    (NotEnabled Unknown ≡ outcome_of net (facts_after net events) e) × StandsFor net (events ++ e ∷ []) (record { net = world.net; ports = world.ports; courses = world.courses; looks = looks })
+    (NotEnabled Unknown ≡ outcome_of net (facts_after net events) e) × StandsFor net (events ++ e ∷ []) (record { net = world.net; ports = world.ports; connections = world.connections; looks = looks })
 step_unknown net events world e c looks stands asks own past_end =
     let past = facts_after net events in
     let unknown : conn_at net c ≡ None = slice_get_past net.conns c past_end in (
@@ -90,38 +90,38 @@ step_unknown net events world e c looks stands asks own past_end =
     )
 
 -- the connection that the event comes to
-pub course_at : (net : Topology) (past : Past) (world : WorldView) (c : ℕ) (conn : Conn) → IsOfPast net past world → conn_at net c ≡ Some conn →
-    slice_get world.courses c ≡ Some (course_of conn.vc (facts_of c past))
-course_at net past world c conn is known = is.courses c ∙ ap (option_map (λ (k : Conn). course_of k.vc (facts_of c past))) known
+pub state_at : (net : Topology) (past : Past) (world : WorldView) (c : ℕ) (conn : Conn) → IsOfPast net past world → conn_at net c ≡ Some conn →
+    slice_get world.connections c ≡ Some (connection_of conn.vc (facts_of c past))
+state_at net past world c conn is known = is.connections c ∙ ap (option_map (λ (k : Conn). connection_of k.vc (facts_of c past))) known
 
-same_course : (course : CourseView) (actor : ActorView) (index : Index) → course.actor ≡ actor → course.index ≡ index → course ≡ record { actor = actor; index = index }
-same_course course actor index a i =
-    ap {A = ActorView} {B = CourseView} (λ x. record { actor = x; index = course.index }) a ∙ ap {A = Index} {B = CourseView} (λ x. record { actor = actor; index = x }) i
+same_connection : (connection : ConnectionView) (actor : ActorView) (index : Index) → connection.actor ≡ actor → connection.index ≡ index → connection ≡ record { actor = actor; index = index }
+same_connection connection actor index a i =
+    ap {A = ActorView} {B = ConnectionView} (λ x. record { actor = x; index = connection.index }) a ∙ ap {A = Index} {B = ConnectionView} (λ x. record { actor = actor; index = x }) i
 
 pub some_same : {A : Type 0} (x y : A) → Some x ≡ Some y → x ≡ y
 some_same x y e = ap (λ o. unwrap_or o x) e
 
 -- an event that its connection took
 pub step_taken :
-    (net : Topology) (events : List Event) (world : WorldView) (e : Event) (c : ℕ) (conn : Conn) (outcome : Outcome) (course : CourseView) (ports : List Table) (looks : ℕ) →
-    StandsFor net events world → AsksRate e → conn_of e ≡ Some c → conn_at net c ≡ Some conn → c < length world.courses →
-    Leaves net (facts_after net events) c e conn outcome course.actor course.index ports →
-    (outcome ≡ outcome_of net (facts_after net events) e) × StandsFor net (events ++ e ∷ []) (record { net = world.net; ports = ports; courses = slice_set world.courses c course; looks = looks })
-step_taken net events world e c conn outcome course ports looks stands asks own known low leaves =
+    (net : Topology) (events : List Event) (world : WorldView) (e : Event) (c : ℕ) (conn : Conn) (outcome : Outcome) (connection : ConnectionView) (ports : List Table) (looks : ℕ) →
+    StandsFor net events world → AsksRate e → conn_of e ≡ Some c → conn_at net c ≡ Some conn → c < length world.connections →
+    Leaves net (facts_after net events) c e conn outcome connection.actor connection.index ports →
+    (outcome ≡ outcome_of net (facts_after net events) e) × StandsFor net (events ++ e ∷ []) (record { net = world.net; ports = ports; connections = slice_set world.connections c connection; looks = looks })
+step_taken net events world e c conn outcome connection ports looks stands asks own known low leaves =
     let past = facts_after net events in
-    let course_is : course ≡ course_of conn.vc (facts_of c (after_event net past e)) = same_course course (actor_of conn.vc (facts_of c (after_event net past e))) (index_of (facts_of c (after_event net past e))) leaves.actor_is leaves.index_is in
-    let each : (d : ℕ) → slice_get (slice_set world.courses c course) d ≡ option_map (λ (k : Conn). course_of k.vc (facts_of d (after_event net past e))) (conn_at net d) =
+    let connection_is : connection ≡ connection_of conn.vc (facts_of c (after_event net past e)) = same_connection connection (actor_of conn.vc (facts_of c (after_event net past e))) (index_of (facts_of c (after_event net past e))) leaves.actor_is leaves.index_is in
+    let each : (d : ℕ) → slice_get (slice_set world.connections c connection) d ≡ option_map (λ (k : Conn). connection_of k.vc (facts_of d (after_event net past e))) (conn_at net d) =
     λ d. elim (cases_eq c d) [
-      | inl here ↦ subst (λ n. slice_get (slice_set world.courses c course) n ≡ option_map (λ (k : Conn). course_of k.vc (facts_of n (after_event net past e))) (conn_at net n)) here
-          (set_here world.courses c course low ∙ ap Some course_is ∙ sym (ap (option_map (λ (k : Conn). course_of k.vc (facts_of c (after_event net past e)))) known))
-      | inr other ↦ set_other world.courses c d course other ∙ stands.stands.courses d
-          ∙ ap (λ (fs : List Fact). option_map (λ (k : Conn). course_of k.vc fs) (conn_at net d)) (sym (facts_of-other net past e d (λ whose. other_conn c d other (sym own ∙ whose))))
+      | inl here ↦ subst (λ n. slice_get (slice_set world.connections c connection) n ≡ option_map (λ (k : Conn). connection_of k.vc (facts_of n (after_event net past e))) (conn_at net n)) here
+          (set_here world.connections c connection low ∙ ap Some connection_is ∙ sym (ap (option_map (λ (k : Conn). connection_of k.vc (facts_of c (after_event net past e)))) known))
+      | inr other ↦ set_other world.connections c d connection other ∙ stands.stands.connections d
+          ∙ ap (λ (fs : List Fact). option_map (λ (k : Conn). connection_of k.vc fs) (conn_at net d)) (sym (facts_of-other net past e d (λ whose. other_conn c d other (sym own ∙ whose))))
     ] in (
       leaves.answer,
       record {
         rates = all_ask events e stands.rates asks;
-        stands = subst (λ (p : Past). IsOfPast net p (record { net = world.net; ports = ports; courses = slice_set world.courses c course; looks = looks })) (sym (one_more net events e))
-            (record { net_is = stands.stands.net_is; ports = leaves.tables; courses = each });
+        stands = subst (λ (p : Past). IsOfPast net p (record { net = world.net; ports = ports; connections = slice_set world.connections c connection; looks = looks })) (sym (one_more net events e))
+            (record { net_is = stands.stands.net_is; ports = leaves.tables; connections = each });
       },
     )
 

@@ -1,4 +1,4 @@
-pub mod Courses
+pub mod ConnectionStates
 pub mod Standing
 pub mod Steps
 pub mod Notes

@@ -4,7 +4,7 @@ use Rattle.abt_net.specs.declared.conn.Conn.{Conn}
 use Rattle.abt_net.specs.Topology.{Topology, conn_at}
 use Rattle.abt_facts.specs.declared.fact.Fact.{Fact}
 use Rattle.abt_facts.specs.Source.{rate_of}
-use Rattle.abt_log.specs.Index.{is_of_message}
+use Rattle.abt_index.specs.Index.{is_of_message}
 use Rattle.abt_safety.specs.Tallies.{one_if, count_of}
 use Rattle.abt_model.specs.declared.event.Event.{Event}
 use Rattle.abt_model.specs.declared.event.Event.TheVariants.{Arrive, Request, Turn, Answer, Told}

@@ -1,7 +1,7 @@
 -- Several facts that are noted, the newest first.
 use Rattle.std.specs.Prelude.{List, [], ◌∷◌}
 use Rattle.abt_facts.specs.declared.fact.Fact.{Fact}
-use Rattle.abt_log.specs.Index.{Index, noted, CanFollow}
+use Rattle.abt_index.specs.Index.{Index, noted, CanFollow}
 
 -- the index after all of them
 abbrev pub all_noted : List Fact → Index → Index

@@ -7,7 +7,7 @@ use Rattle.abt_facts.specs.Source.{rate_of, state_of, clock_of}
 use Rattle.abt_facts.specs.Hop.{held_of, newest_of}
 use Rattle.abt_facts.specs.Cells.{emitted_of, moment_of, fence_of, last_arrival_of}
 use Rattle.abt_actor.specs.Actor.{awaited_in}
-use Rattle.abt_log.specs.Kept.{asked_in}
+use Rattle.abt_index.specs.Kept.{asked_in}
 use Rattle.abt_model.specs.Answers.{is_hop}
 use Rattle.abt_model.specs.Past.{Past, facts_of}
 use Rattle.abt_model.specs.Reserved.{reserved_on, capacity_of}

@@ -1,6 +1,6 @@
 -- What is kept of a connection, as contracts see it.
-use Rattle.abt_world.specs.declared.course.Course.{Course}
-use Rattle.abt_world.specs.Courses.{CourseView}
+use Rattle.abt_world.specs.declared.connection_state.ConnectionState.{ConnectionState}
+use Rattle.abt_world.specs.ConnectionStates.{ConnectionView}
 
-abbrev pub seen : Course → CourseView
-seen course = record { actor = course.actor; index = course.log.index }
+abbrev pub seen : ConnectionState → ConnectionView
+seen connection = record { actor = connection.actor; index = connection.log.index }

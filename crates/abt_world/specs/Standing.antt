@@ -8,20 +8,20 @@ use Rattle.abt_model.specs.Events.{AsksRate}
 use Rattle.abt_model.specs.Past.{Past, facts_of}
 use Rattle.abt_model.specs.Run.{facts_after}
 use Rattle.abt_model.specs.PortTable.{port_table}
-use Rattle.abt_world.specs.Courses.{CourseView, course_of}
+use Rattle.abt_world.specs.ConnectionStates.{ConnectionView, connection_of}
 
 -- a world: its net, the tables of its ports, its connections, and how many entries its last event looked up
 pub record WorldView : Type 0 where
   pub net : Topology
   pub ports : List Table
-  pub courses : List CourseView
+  pub connections : List ConnectionView
   pub looks : ℕ
 
 -- Each port has the table, and each connection the actor and the facts, that a past gives.
 pub record IsOfPast (net : Topology) (past : Past) (world : WorldView) : Type 0 where
   pub net_is : world.net ≡ net
   pub ports : (p : ℕ) → slice_get world.ports p ≡ option_map (λ (_ : ℕ). port_table net past p) (slice_get net.capacities p)
-  pub courses : (c : ℕ) → slice_get world.courses c ≡ option_map (λ (conn : Conn). course_of conn.vc (facts_of c past)) (conn_at net c)
+  pub connections : (c : ℕ) → slice_get world.connections c ≡ option_map (λ (conn : Conn). connection_of conn.vc (facts_of c past)) (conn_at net c)
 
 -- A world stands for a list of events over a net: it is that of the past that they leave.
 pub record StandsFor (net : Topology) (events : List Event) (world : WorldView) : Type 0 where

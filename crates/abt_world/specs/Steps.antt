@@ -13,7 +13,7 @@ use Rattle.abt_model.specs.declared.outcome.Outcome.TheVariants.{NotEnabled}
 use Rattle.abt_model.specs.Answers.{is_hop}
 use Rattle.abt_model.specs.Events.{AsksRate}
 use Rattle.abt_model.specs.Past.{Past, facts_of}
-use Rattle.abt_log.specs.Index.{Index, index_of}
+use Rattle.abt_index.specs.Index.{Index, index_of}
 use Rattle.abt_actor.specs.Actor.{ActorView, actor_of}
 use Rattle.abt_model.specs.Outcomes.{outcome_of, facts_added, after_event}
 use Rattle.abt_model.specs.Run.{facts_after}

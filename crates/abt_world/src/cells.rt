@@ -4,7 +4,7 @@ ghost use Rattle.std.specs.Option.{option_map_or};
 ghost use Rattle.abt_actor.specs.Facts.{facts_in};
 ghost use Rattle.abt_facts.specs.declared.fact.Fact.{Fact as FactSpec};
 ghost use Rattle.abt_facts.specs.Cells.{emitted_of, fence_of};
-ghost use Rattle.abt_log.specs.Log.{IsLogOf};
+ghost use Rattle.abt_index.specs.FactIndex.{IsLogOf};
 ghost use Rattle.abt_model.specs.Past.{Past};
 ghost use Rattle.abt_model.specs.declared.event.Event.TheVariants.{Arrive};
 ghost use Rattle.abt_model.specs.Outcomes.{after_event};
@@ -18,13 +18,13 @@ use crate::hops::port_at;
 use crate::messages::not_enabled;
 use abt_actor::Added;
 use abt_facts::Fact;
-use abt_log::{Log, Looks};
+use abt_index::{FactIndex, Lookups};
 use abt_model::{Cause, Outcome};
 use abt_net::Conn;
 use abt_node::Port;
 
 // Whether a cell is below the fence.
-fn is_fenced(log: &Log, cell: u64) -> bool
+fn is_fenced(log: &FactIndex, cell: u64) -> bool
     ensures { (facts : List FactSpec) → IsLogOf facts log.now → result ≡ nat_lt cell (fence_of facts) }
 {
     log.is_behind_last(cell) || cell < log.delivered_mark()
@@ -32,7 +32,8 @@ fn is_fenced(log: &Log, cell: u64) -> bool
 
 // Whether the access line delivers at a moment what was emitted at another.
 fn is_in_time(conn: &Conn, emission: u64, at: u64) -> bool
-    ensures { result ≡ (nat_le (emission + conn.now.delay) at && nat_le at (emission + conn.now.delay + conn.now.tau)) }
+    ensures { result ≡
+        (nat_le (emission + conn.now.delay) at && nat_le at (emission + conn.now.delay + conn.now.tau)) }
 {
     match at.checked_sub(emission) {
         Some(taken) => taken >= conn.delay && taken - conn.delay <= conn.tau,
@@ -43,11 +44,11 @@ fn is_in_time(conn: &Conn, emission: u64, at: u64) -> bool
 // Why a cell can't arrive, if it can't.
 fn arrival_cause(
     conn: &Conn,
-    log: &Log,
+    log: &FactIndex,
     emitted: u64,
     cell: u64,
     at: u64,
-    looks: &mut Looks,
+    looks: &mut Lookups,
 ) -> Option<Cause>
     ensures value { (facts : List FactSpec) → IsLogOf facts log.now → emitted ≡ emitted_of facts →
         result ≡ steps.arrival_cause conn.now facts cell at }
@@ -71,12 +72,12 @@ fn arrival_cause(
 pub(crate) fn arrive(
     place: u16,
     conn: &Conn,
-    log: &Log,
+    log: &FactIndex,
     emitted: u64,
     ports: &mut [Port],
     cell: u64,
     at: u64,
-    looks: &mut Looks,
+    looks: &mut Lookups,
 ) -> (Outcome, Added)
     ensures outcome { (net : Topology) (past : Past) (facts : List FactSpec) → IsLogOf facts log.now →
         IsConnAt net past place conn.now facts →

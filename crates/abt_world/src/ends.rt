@@ -2,11 +2,11 @@
 ghost use Rattle.std.specs.Prelude.{◌≡◌, IfOk, map};
 ghost use Rattle.abt_net.specs.declared.conn.Conn.{Conn};
 ghost use Rattle.abt_node.specs.Table.{sum_of};
-ghost use Rattle.abt_world.specs.declared.course.Course.{Course};
+ghost use Rattle.abt_world.specs.declared.connection_state.ConnectionState.{ConnectionState};
 ghost use Rattle.abt_safety.specs.Holding.{held_by_port};
 
-use crate::course::Course;
-use abt_list::Sequence;
+use crate::connection_state::ConnectionState;
+use abt_model::Sequence;
 use abt_net::Conn;
 use abt_node::Port;
 use abt_rate::Rate;
@@ -14,12 +14,17 @@ use abt_safety::held_along;
 use std::alloc::{AllocError, Global};
 
 // The rate of each source.
-pub(crate) fn rates_of(alloc: Global, courses: &[Course]) -> Result<Sequence<Rate>, AllocError>
-    ensures { IfOk result (λ rates. rates ≡ map (λ (course : Course). course.actor.source.rate) courses.now) }
+pub(crate) fn rates_of(
+    alloc: Global,
+    connections: &[ConnectionState],
+) -> Result<Sequence<Rate>, AllocError>
+    ensures { IfOk result
+        (λ rates. rates ≡ map
+        (λ (connection : ConnectionState). connection.actor.source.rate) connections.now) }
 {
     let mut rates = Sequence::new(alloc);
-    for course in courses {
-        rates.push(course.actor.rate())?;
+    for connection in connections {
+        rates.push(connection.actor.rate())?;
     }
     Ok(rates)
 }
@@ -30,7 +35,8 @@ pub(crate) fn held_of(
     conns: &[Conn],
     ports: &[Port],
 ) -> Result<Sequence<Sequence<Rate>>, AllocError>
-    ensures { IfOk result (λ held. held ≡ map (λ (conn : Conn). map (held_by_port conn.vc ports.now) conn.path) conns.now) }
+    ensures { IfOk result
+        (λ held. held ≡ map (λ (conn : Conn). map (held_by_port conn.vc ports.now) conn.path) conns.now) }
 {
     let mut held = Sequence::new(alloc);
     for conn in conns {

@@ -2,29 +2,34 @@
 ghost use Rattle.std.specs.Prelude.{◌≡◌, ℕ, [], IfOk, map, slice_get, option_map};
 ghost use Rattle.abt_net.specs.declared.conn.Conn.{Conn};
 ghost use Rattle.abt_model.specs.PortTable.{port_table};
-ghost use Rattle.abt_world.specs.Courses.{course_of};
+ghost use Rattle.abt_world.specs.ConnectionStates.{connection_of};
 ghost use Rattle.abt_world.specs.Seen.{seen};
 
-use crate::course::Course;
+use crate::connection_state::ConnectionState;
 use crate::opening::opening_port;
 use abt_actor::SourceActor;
-use abt_log::Log;
+use abt_index::FactIndex;
 use abt_net::{Conn, Net};
 use abt_node::Port;
 use std::alloc::{AllocError, Global};
 
-// The courses of connections to which nothing happened.
-pub(crate) fn fresh_courses(alloc: Global, conns: &[Conn]) -> Result<Vec<Course>, AllocError>
-    ensures { IfOk result (λ courses. map seen courses.items ≡ map (λ (conn : Conn). course_of conn.vc []) conns.now) }
+// Connections to which nothing happened.
+pub(crate) fn fresh_connections(
+    alloc: Global,
+    conns: &[Conn],
+) -> Result<Vec<ConnectionState>, AllocError>
+    ensures { IfOk result
+        (λ connections.
+        map seen connections.items ≡ map (λ (conn : Conn). connection_of conn.vc []) conns.now) }
 {
-    let mut courses = Vec::new(alloc);
+    let mut connections = Vec::new(alloc);
     for conn in conns {
-        courses.push(Course {
+        connections.push(ConnectionState {
             actor: SourceActor::new(conn.vc),
-            log: Log::new(alloc),
+            log: FactIndex::new(alloc),
         })?;
     }
-    Ok(courses)
+    Ok(connections)
 }
 
 // The ports of a net, with the connections through them.

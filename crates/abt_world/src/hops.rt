@@ -3,7 +3,7 @@ ghost use Rattle.std.specs.Prelude.{◌≡◌, ◌+◌, ◌≤◌, ◌<◌, fals
 ghost use Rattle.abt_facts.specs.declared.fact.Fact.{Fact as FactSpec};
 ghost use Rattle.abt_facts.specs.Sent.{request_is_at, yes_is_at, no_is_at, answer_is_at};
 ghost use Rattle.abt_actor.specs.Facts.{facts_in};
-ghost use Rattle.abt_log.specs.Log.{IsLogOf};
+ghost use Rattle.abt_index.specs.FactIndex.{IsLogOf};
 ghost use Rattle.abt_model.specs.Past.{Past};
 ghost use Rattle.abt_model.specs.declared.event.Event.TheVariants as event;
 ghost use Rattle.abt_model.specs.Outcomes as outcomes;
@@ -17,7 +17,7 @@ use crate::messages::{hops_of, not_enabled, request_of};
 use abt_actor::Added;
 use abt_cell::Answer;
 use abt_facts::Fact;
-use abt_log::{Log, Looks};
+use abt_index::{FactIndex, Lookups};
 use abt_model::{Cause, Outcome};
 use abt_net::Conn;
 use abt_node::{Back, Onward, Port};
@@ -59,8 +59,9 @@ fn answer_adds(hop: u16, seq: u32, granted: bool, back: &Back) -> Added
 }
 
 // Whether a request lies at a hop.
-fn is_request_at(log: &Log, hop: u16, seq: u32, looks: &mut Looks) -> bool
-    ensures value { (facts : List FactSpec) → IsLogOf facts log.now → 1 ≤ hop → result ≡ request_is_at facts seq hop }
+fn is_request_at(log: &FactIndex, hop: u16, seq: u32, looks: &mut Lookups) -> bool
+    ensures value { (facts : List FactSpec) → IsLogOf facts log.now → 1 ≤ hop →
+        result ≡ request_is_at facts seq hop }
     ensures looks { looks.new ≤ looks.old + 1 }
     ensures counted { 1 ≤ hop → looks.old + 1 ≤ u64.MAX → looks.new ≡ looks.old + 1 }
 {
@@ -72,8 +73,9 @@ fn is_request_at(log: &Log, hop: u16, seq: u32, looks: &mut Looks) -> bool
 }
 
 // Whether a yes lies at a hop of so many.
-fn is_yes_at(log: &Log, hops: u16, hop: u16, seq: u32, looks: &mut Looks) -> bool
-    ensures value { (facts : List FactSpec) → IsLogOf facts log.now → hop < u16.MAX → result ≡ yes_is_at hops facts seq hop }
+fn is_yes_at(log: &FactIndex, hops: u16, hop: u16, seq: u32, looks: &mut Lookups) -> bool
+    ensures value { (facts : List FactSpec) → IsLogOf facts log.now → hop < u16.MAX →
+        result ≡ yes_is_at hops facts seq hop }
     ensures looks { looks.new ≤ looks.old + 1 }
     ensures counted { hop < u16.MAX → looks.old + 1 ≤ u64.MAX → looks.new ≡ looks.old + 1 }
 {
@@ -85,7 +87,7 @@ fn is_yes_at(log: &Log, hops: u16, hop: u16, seq: u32, looks: &mut Looks) -> boo
 }
 
 // Whether a no lies at a hop of so many.
-fn is_no_at(log: &Log, hops: u16, hop: u16, seq: u32, looks: &mut Looks) -> bool
+fn is_no_at(log: &FactIndex, hops: u16, hop: u16, seq: u32, looks: &mut Lookups) -> bool
     ensures value { (facts : List FactSpec) → IsLogOf facts log.now → result ≡ no_is_at hops facts seq hop }
     ensures looks { looks.new ≤ looks.old + 1 }
     ensures counted { looks.old + 1 ≤ u64.MAX → looks.new ≡ looks.old + looks_at_answer hops hop false }
@@ -94,11 +96,19 @@ fn is_no_at(log: &Log, hops: u16, hop: u16, seq: u32, looks: &mut Looks) -> bool
 }
 
 // Whether an answer lies at a hop of so many.
-fn is_answer_at(log: &Log, hops: u16, hop: u16, seq: u32, granted: bool, looks: &mut Looks) -> bool
+fn is_answer_at(
+    log: &FactIndex,
+    hops: u16,
+    hop: u16,
+    seq: u32,
+    granted: bool,
+    looks: &mut Lookups,
+) -> bool
     ensures value { (facts : List FactSpec) → IsLogOf facts log.now → hop < u16.MAX →
         result ≡ answer_is_at hops facts seq hop granted }
     ensures looks { looks.new ≤ looks.old + 1 }
-    ensures counted { hop < u16.MAX → looks.old + 1 ≤ u64.MAX → looks.new ≡ looks.old + looks_at_answer hops hop granted }
+    ensures counted { hop < u16.MAX → looks.old + 1 ≤ u64.MAX →
+        looks.new ≡ looks.old + looks_at_answer hops hop granted }
 {
     if granted {
         is_yes_at(log, hops, hop, seq, looks)
@@ -111,11 +121,11 @@ fn is_answer_at(log: &Log, hops: u16, hop: u16, seq: u32, granted: bool, looks: 
 pub(crate) fn request(
     place: u16,
     conn: &Conn,
-    log: &Log,
+    log: &FactIndex,
     ports: &mut [Port],
     hop: u16,
     seq: u32,
-    looks: &mut Looks,
+    looks: &mut Lookups,
 ) -> (Outcome, Added)
     ensures outcome { (net : Topology) (past : Past) (facts : List FactSpec) → IsLogOf facts log.now →
         IsConnAt net past place conn.now facts →
@@ -150,12 +160,12 @@ pub(crate) fn request(
 pub(crate) fn answer(
     place: u16,
     conn: &Conn,
-    log: &Log,
+    log: &FactIndex,
     ports: &mut [Port],
     hop: u16,
     seq: u32,
     granted: bool,
-    looks: &mut Looks,
+    looks: &mut Lookups,
 ) -> (Outcome, Added)
     ensures outcome { (net : Topology) (past : Past) (facts : List FactSpec) → IsLogOf facts log.now →
         IsConnAt net past place conn.now facts →
@@ -167,7 +177,8 @@ pub(crate) fn answer(
     ensures counted { (net : Topology) (past : Past) (facts : List FactSpec) → IsLogOf facts log.now →
         IsConnAt net past place conn.now facts →
         ArePorts net past ports.old → looks.old + 3 ≤ u64.MAX →
-        looks.new ≡ looks.old + looks_to_take (length conn.now.path) (event.Answer place hop seq granted) result.0 }
+        looks.new ≡
+        looks.old + looks_to_take (length conn.now.path) (event.Answer place hop seq granted) result.0 }
 {
     let Some(port) = port_at(conn, hop) else {
         return not_enabled(Cause::Unknown);

@@ -2,25 +2,23 @@
 #![tactic(auto)]
 
 mod cells;
-mod course;
+mod connection_state;
+mod dispatch;
 mod ends;
 mod fresh;
-mod happen;
 mod hops;
 mod links;
 mod messages;
 mod opening;
 mod progress;
+mod running;
 mod safety;
-mod whole;
 mod world;
 
 pub use abt_actor::SourceActor;
-pub use abt_list::Sequence;
-pub use abt_model::{Cause, Event, Heard, Outcome, SourceCommand};
+pub use abt_model::{Cause, Event, Heard, Outcome, Sequence, SourceCommand, Trace};
 pub use abt_net::{Conn, Net, NetFault, Path};
-pub use abt_trace::Trace;
 pub use opening::opening_port;
 pub use progress::Progress;
-pub use whole::run;
+pub use running::run;
 pub use world::World;

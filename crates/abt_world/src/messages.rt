@@ -6,7 +6,7 @@ ghost use Rattle.abt_facts.specs.Requests.{was_asked, floor_of, ask_of};
 ghost use Rattle.abt_facts.specs.Sent.{answer_is_home};
 ghost use Rattle.abt_actor.specs.Actor.{actor_of};
 ghost use Rattle.abt_actor.specs.Facts.{facts_in};
-ghost use Rattle.abt_log.specs.Log.{IsLogOf};
+ghost use Rattle.abt_index.specs.FactIndex.{IsLogOf};
 ghost use Rattle.abt_model.specs.Past.{Past};
 ghost use Rattle.abt_model.specs.declared.event.Event.TheVariants.{Turn, Told};
 ghost use Rattle.abt_source.specs.SourceFacts as source_facts;
@@ -17,12 +17,17 @@ ghost use Rattle.abt_world.specs.Steps.{IsConnAt, Happens};
 use abt_actor::{Added, SourceActor};
 use abt_cell::{Answer, Request};
 use abt_facts::Fact;
-use abt_log::{Log, Looks};
+use abt_index::{FactIndex, Lookups};
 use abt_model::{Cause, Outcome, SourceCommand};
 use abt_net::Conn;
 
 // The request of a number, if it was asked.
-pub(crate) fn request_of(conn: &Conn, log: &Log, seq: u32, looks: &mut Looks) -> Option<Request>
+pub(crate) fn request_of(
+    conn: &Conn,
+    log: &FactIndex,
+    seq: u32,
+    looks: &mut Lookups,
+) -> Option<Request>
     ensures value { (facts : List FactSpec) → IsLogOf facts log.now →
         IfSome result (λ request. request ≡ source_facts.request_of conn.now.vc facts seq) }
     ensures vc { IfSome result (λ request. request.vc ≡ conn.now.vc) }
@@ -53,9 +58,9 @@ pub(crate) fn hops_of(conn: &Conn) -> u16
 pub(crate) fn turn(
     place: u16,
     conn: &Conn,
-    log: &Log,
+    log: &FactIndex,
     seq: u32,
-    looks: &mut Looks,
+    looks: &mut Lookups,
 ) -> (Outcome, Added)
     ensures outcome { (net : Topology) (past : Past) (facts : List FactSpec) → IsLogOf facts log.now →
         IsConnAt net past place conn.now facts →
@@ -71,8 +76,9 @@ pub(crate) fn turn(
 }
 
 // Whether an answer lies at its source.
-fn is_home(log: &Log, seq: u32, granted: bool, looks: &mut Looks) -> bool
-    ensures value { (facts : List FactSpec) → IsLogOf facts log.now → result ≡ answer_is_home facts seq granted }
+fn is_home(log: &FactIndex, seq: u32, granted: bool, looks: &mut Lookups) -> bool
+    ensures value { (facts : List FactSpec) → IsLogOf facts log.now →
+        result ≡ answer_is_home facts seq granted }
     ensures looks { looks.new ≤ looks.old + 1 }
     ensures counted { looks.old + 1 ≤ u64.MAX → looks.new ≡ looks.old + 1 }
 {
@@ -87,11 +93,11 @@ fn is_home(log: &Log, seq: u32, granted: bool, looks: &mut Looks) -> bool
 pub(crate) fn told(
     place: u16,
     conn: &Conn,
-    log: &Log,
+    log: &FactIndex,
     actor: &mut SourceActor,
     seq: u32,
     granted: bool,
-    looks: &mut Looks,
+    looks: &mut Lookups,
 ) -> (Outcome, Added)
     ensures outcome { (net : Topology) (past : Past) (facts : List FactSpec) → IsLogOf facts log.now →
         IsConnAt net past place conn.now facts →

@@ -4,10 +4,10 @@ ghost use Rattle.abt_actor.specs.Actor.{actor_of};
 ghost use Rattle.abt_cell.specs.Channel.{Channel};
 ghost use Rattle.abt_facts.specs.Cells.{after_last_of, emitted_of};
 ghost use Rattle.abt_facts.specs.declared.fact.Fact.{Fact as FactSpec};
-ghost use Rattle.abt_log.specs.Log.{IsLogOf};
+ghost use Rattle.abt_index.specs.FactIndex.{IsLogOf};
 ghost use Rattle.abt_world.specs.Readings.{progress_of};
 
-use crate::course::Course;
+use crate::connection_state::ConnectionState;
 
 /// How far the source of a connection and its cells have come. Moments are picoseconds.
 #[derive(Clone, Copy, Debug, PartialEq, Eq)]
@@ -25,15 +25,16 @@ pub struct Progress {
 }
 
 // How far a connection has come, whose cells arrived only once they had left.
-pub(crate) fn progress_of(course: &Course) -> Progress
-    ensures { (vc : Channel) (facts : List FactSpec) → course.now.actor ≡ actor_of vc facts → IsLogOf facts course.now.log →
+pub(crate) fn progress_of(connection: &ConnectionState) -> Progress
+    ensures { (vc : Channel) (facts : List FactSpec) → connection.now.actor ≡ actor_of vc facts →
+        IsLogOf facts connection.now.log →
         after_last_of facts ≤ emitted_of facts → result ≡ progress_of facts }
 {
     Progress {
-        clock: course.actor.clock(),
-        awaited: course.actor.awaited(),
-        emitted: course.actor.cells(),
-        fence: course.log.fence(),
-        last_arrival: course.log.last_arrival(),
+        clock: connection.actor.clock(),
+        awaited: connection.actor.awaited(),
+        emitted: connection.actor.cells(),
+        fence: connection.log.fence(),
+        last_arrival: connection.log.last_arrival(),
     }
 }

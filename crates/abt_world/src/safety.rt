@@ -6,29 +6,29 @@ ghost use Rattle.abt_safety.specs.Tallies.{one_if, over_at};
 ghost use Rattle.abt_world.specs.Seen.{seen};
 ghost use Rattle.abt_world.specs.Tallied.{shapes_above, is_broken};
 
-use crate::course::Course;
-use abt_log::Looks;
+use crate::connection_state::ConnectionState;
+use abt_index::Lookups;
 use abt_net::Conn;
 use abt_node::Port;
-use abt_safety::{Marks, Shaped, Tally, is_held, is_held_after, is_over};
+use abt_safety::{Shaped, ViolationFlags, Violations, is_held, is_held_after, is_over};
 
 // What isn't safe of a connection, of which it is known whether its source shapes above what a hop holds, and of a port.
 fn marks_of(
     above: bool,
-    course: &Course,
+    connection: &ConnectionState,
     port: Option<u16>,
     ports: &[Port],
-    looks: &mut Looks,
-) -> Marks
+    looks: &mut Lookups,
+) -> ViolationFlags
     ensures above { result.above ≡ above }
     ensures over { result.over ≡ over_at port ports.now }
-    ensures broken { result.broken ≡ is_broken (seen course.now) }
+    ensures broken { result.broken ≡ is_broken (seen connection.now) }
     ensures looks { looks.new ≤ looks.old + 1 }
     ensures counted { looks.old + 1 ≤ u64.MAX → looks.new ≡ looks.old + one_if (is_some port) }
 {
     let over = is_over(port, ports, looks);
-    let broken = !course.log.all_conform();
-    Marks {
+    let broken = !connection.log.all_conform();
+    ViolationFlags {
         above,
         over,
         broken,
@@ -38,45 +38,49 @@ fn marks_of(
 // What isn't safe of a connection, and of the port that its event comes to.
 pub(crate) fn marks(
     conn: &Conn,
-    course: &Course,
+    connection: &ConnectionState,
     port: Option<u16>,
     ports: &[Port],
-    looks: &mut Looks,
-) -> Marks
-    ensures above { result.above ≡ shapes_above ports.now (conn.now, seen course.now) }
+    looks: &mut Lookups,
+) -> ViolationFlags
+    ensures above { result.above ≡ shapes_above ports.now (conn.now, seen connection.now) }
     ensures over { result.over ≡ over_at port ports.now }
-    ensures broken { result.broken ≡ is_broken (seen course.now) }
+    ensures broken { result.broken ≡ is_broken (seen connection.now) }
     ensures looks { looks.new ≤ looks.old + length conn.now.path + 1 }
-    ensures counted { let looked = looked_at course.now.actor.source.rate conn.now.vc ports.now conn.now.path in
+    ensures counted { let looked = looked_at connection.now.actor.source.rate conn.now.vc ports.now
+        conn.now.path in
         looks.old + looked + 1 ≤ u64.MAX → looks.new ≡ looks.old + looked + one_if (is_some port) }
 {
     let path = conn.path.as_slice();
-    let above = !is_held(course.actor.rate(), conn.vc, path, ports, looks);
-    marks_of(above, course, port, ports, looks)
+    let above = !is_held(connection.actor.rate(), conn.vc, path, ports, looks);
+    marks_of(above, connection, port, ports, looks)
 }
 
 // The same of a connection and a port that a tally counts. Where it counts nothing, nothing is looked up.
 pub(crate) fn counted_marks(
-    tally: &Tally,
+    violations: &Violations,
     conn: &Conn,
-    course: &Course,
+    connection: &ConnectionState,
     port: Option<u16>,
     ports: &[Port],
-    looks: &mut Looks,
-) -> Marks
-    ensures above { one_if (shapes_above ports.now (conn.now, seen course.now)) ≤ tally.now.above →
-        result.above ≡ shapes_above ports.now (conn.now, seen course.now) }
-    ensures over { one_if (over_at port ports.now) ≤ tally.now.over →
+    looks: &mut Lookups,
+) -> ViolationFlags
+    ensures above { one_if (shapes_above ports.now (conn.now, seen connection.now)) ≤ violations.now.above →
+        result.above ≡ shapes_above ports.now (conn.now, seen connection.now) }
+    ensures over { one_if (over_at port ports.now) ≤ violations.now.over →
         result.over ≡ over_at port ports.now }
-    ensures broken { one_if (is_broken (seen course.now)) ≤ tally.now.broken → result.broken ≡ is_broken (seen course.now) }
+    ensures broken { one_if (is_broken (seen connection.now)) ≤ violations.now.broken →
+        result.broken ≡ is_broken (seen connection.now) }
     ensures looks { looks.new ≤ looks.old + length conn.now.path + 1 }
-    ensures safe { tally.now.above ≡ 0 → tally.now.over ≡ 0 → tally.now.broken ≡ 0 → result.above ≡ false }
-    ensures counted { tally.now.above ≡ 0 → tally.now.over ≡ 0 → tally.now.broken ≡ 0 → looks.new ≡ looks.old }
+    ensures safe { violations.now.above ≡ 0 → violations.now.over ≡ 0 → violations.now.broken ≡ 0 →
+        result.above ≡ false }
+    ensures counted { violations.now.above ≡ 0 → violations.now.over ≡ 0 → violations.now.broken ≡ 0 →
+        looks.new ≡ looks.old }
 {
-    if tally.is_safe() {
-        return Marks::none();
+    if violations.is_safe() {
+        return ViolationFlags::none();
     }
-    marks(conn, course, port, ports, looks)
+    marks(conn, connection, port, ports, looks)
 }
 
 // The same after an event of the connection, which changed at most the port that it came to, where it is known at which rate the
@@ -84,22 +88,23 @@ pub(crate) fn counted_marks(
 pub(crate) fn marks_after(
     before: Shaped,
     conn: &Conn,
-    course: &Course,
+    connection: &ConnectionState,
     port: Option<u16>,
     ports: &[Port],
-    looks: &mut Looks,
-) -> Marks
+    looks: &mut Lookups,
+) -> ViolationFlags
     ensures above { (tables : List Table) → ChangesOne port conn.now.vc conn.now.path tables ports.now →
         before.is_held ≡ is_held_along before.rate conn.now.vc tables conn.now.path →
-        result.above ≡ shapes_above ports.now (conn.now, seen course.now) }
+        result.above ≡ shapes_above ports.now (conn.now, seen connection.now) }
     ensures over { result.over ≡ over_at port ports.now }
-    ensures broken { result.broken ≡ is_broken (seen course.now) }
+    ensures broken { result.broken ≡ is_broken (seen connection.now) }
     ensures looks { looks.new ≤ looks.old + length conn.now.path + 2 }
-    ensures counted { let looked = looked_after before course.now.actor.source.rate conn.now.vc ports.now conn.now.path port in
+    ensures counted { let looked = looked_after before connection.now.actor.source.rate conn.now.vc ports.now
+        conn.now.path port in
         looks.old + looked + 1 ≤ u64.MAX → looks.new ≡ looks.old + looked + one_if (is_some port) }
 {
     let path = conn.path.as_slice();
-    let rate = course.actor.rate();
+    let rate = connection.actor.rate();
     let above = !is_held_after(before, rate, conn.vc, path, port, ports, looks);
-    marks_of(above, course, port, ports, looks)
+    marks_of(above, connection, port, ports, looks)
 }

@@ -4,7 +4,7 @@ ghost use Rattle.abt_net.specs.Topology.{Topology};
 ghost use Rattle.abt_model.specs.Outcomes.{conn_of, outcome_of};
 ghost use Rattle.abt_model.specs.Run.{facts_after, outcomes_of};
 ghost use Rattle.abt_model.specs.Safe.{IsSafe};
-ghost use Rattle.abt_trace.specs.Traces.{IsTrace};
+ghost use Rattle.abt_model.specs.Traces.{IsTrace};
 ghost use Rattle.abt_model.specs.declared.event.Event.{Event};
 ghost use Rattle.abt_model.specs.declared.event.Event.TheVariants as event;
 ghost use Rattle.abt_world.specs.Headline.{HeadlineHolds};
@@ -13,22 +13,20 @@ ghost use Rattle.abt_world.specs.Readings.{rate_in, asked_for, held_in, total_in
 ghost use Rattle.abt_world.specs.Sound.{IsSound};
 ghost use Rattle.abt_world.specs.Standing.{StandsFor};
 
-use crate::course::Course;
+use crate::connection_state::ConnectionState;
+use crate::dispatch::{asks_rate, place_of, visited};
 use crate::ends::{capacities_of, held_of, rates_of, totals_of};
-use crate::fresh::{fresh_courses, opening_ports};
-use crate::happen::{asks_rate, place_of, visited};
+use crate::fresh::{fresh_connections, opening_ports};
 use crate::hops::port_at;
 use crate::links::set_capacity;
 use crate::progress::{Progress, progress_of};
 use crate::safety::{counted_marks, marks_after};
-use abt_list::Sequence;
-use abt_log::Looks;
-use abt_model::{Cause, Event, Outcome, Target};
+use abt_index::Lookups;
+use abt_model::{Cause, Event, Outcome, Sequence, Target, Trace};
 use abt_net::Net;
 use abt_node::Port;
 use abt_rate::Rate;
-use abt_safety::{Marks, Shaped, Tally};
-use abt_trace::Trace;
+use abt_safety::{Shaped, ViolationFlags, Violations};
 use std::alloc::{AllocError, Global};
 use std::marker::Model;
 
@@ -38,9 +36,9 @@ pub struct World<'net> {
     net: &'net Net,
     ports: Vec<Port>,
     // One for each connection.
-    courses: Vec<Course>,
+    connections: Vec<ConnectionState>,
     // What isn't safe, after each event.
-    tally: Tally,
+    violations: Violations,
     // How many entries the last event looked up.
     looks: u64,
 }
@@ -62,12 +60,12 @@ impl<'net> Model for World<'net> {
     ghost view = { λ w. record {
       net = w.net.now;
       ports = w.ports.items;
-      courses = list_map (λ course. record { actor = course.actor; index = course.log.index }) w.courses.items;
+      connections = list_map (λ connection. record { actor = connection.actor; index = connection.log.index }) w.connections.items;
       looks = w.looks;
     } };
 
-    ghost invariant = { λ w. (length w.courses.items ≡ length w.net.now.conns) × IsWithinRules w.net.now
-        × IsTallied w.net.now w.ports.items (list_map (λ course. record { actor = course.actor; index = course.log.index }) w.courses.items) w.tally
+    ghost invariant = { λ w. (length w.connections.items ≡ length w.net.now.conns) × IsWithinRules w.net.now
+        × IsTallied w.net.now w.ports.items (list_map (λ connection. record { actor = connection.actor; index = connection.log.index }) w.connections.items) w.violations
         × (length w.ports.items ≡ length w.net.now.capacities) };
 }
 
@@ -78,12 +76,12 @@ impl<'net> World<'net> {
         ensures looks { IfOk result (λ world. world.looks ≡ 0) }
     {
         let ports = opening_ports(alloc, net)?;
-        let courses = fresh_courses(alloc, net.conns())?;
+        let connections = fresh_connections(alloc, net.conns())?;
         Ok(World {
             net,
             ports,
-            courses,
-            tally: Tally::none(),
+            connections,
+            violations: Violations::none(),
             looks: 0,
         })
     }
@@ -94,8 +92,10 @@ impl<'net> World<'net> {
     /// # Errors
     /// Where memory is refused nothing has happened.
     pub fn step(&mut self, event: &Event) -> Result<Outcome, AllocError>
-        ensures outcome { (net : Topology) (events : List Event) → StandsFor net events self.old → MatchResult result
-            (λ outcome. (outcome ≡ outcome_of net (facts_after net events) event.now) × StandsFor net (events ++ event.now ∷ []) self.new)
+        ensures outcome { (net : Topology) (events : List Event) → StandsFor net events self.old →
+            MatchResult result
+            (λ outcome. (outcome ≡ outcome_of net (facts_after net events) event.now) ×
+            StandsFor net (events ++ event.now ∷ []) self.new)
             (λ _. StandsFor net events self.new) }
         ensures headline { (net : Topology) (events : List Event) → StandsFor net events self.old →
             OnOk result (HeadlineHolds net (facts_after net (events ++ event.now ∷ []))) }
@@ -124,16 +124,16 @@ impl<'net> World<'net> {
             self.new.looks ≡ looks_of net (facts_after net events) (event.Capacity port capacity) }
     {
         let place = usize::from(port);
-        let mut looked = Looks::new();
+        let mut looked = Lookups::new();
         if place >= self.ports.len() {
             self.looks = looked.count();
             return Outcome::NotEnabled(Cause::Unknown);
         }
         let link = &mut self.ports[looked.counting(place)];
-        let was = Marks::of_port(link);
+        let was = ViolationFlags::of_port(link);
         let outcome = set_capacity(link, capacity);
-        let is = Marks::of_port(link);
-        self.tally = self.tally.after(&was, &is);
+        let is = ViolationFlags::of_port(link);
+        self.violations = self.violations.after(&was, &is);
         self.looks = looked.count();
         outcome
     }
@@ -141,8 +141,10 @@ impl<'net> World<'net> {
     // An event of a connection. Where memory is refused nothing happens.
     fn at_connection(&mut self, event: &Event) -> Result<Outcome, AllocError>
         requires { IsSome (conn_of event.now) }
-        ensures outcome { (net : Topology) (events : List Event) → StandsFor net events self.old → MatchResult result
-            (λ outcome. (outcome ≡ outcome_of net (facts_after net events) event.now) × StandsFor net (events ++ event.now ∷ []) self.new)
+        ensures outcome { (net : Topology) (events : List Event) → StandsFor net events self.old →
+            MatchResult result
+            (λ outcome. (outcome ≡ outcome_of net (facts_after net events) event.now) ×
+            StandsFor net (events ++ event.now ∷ []) self.new)
             (λ _. StandsFor net events self.new) }
         ensures headline { (net : Topology) (events : List Event) → StandsFor net events self.old →
             OnOk result (HeadlineHolds net (facts_after net (events ++ event.now ∷ []))) }
@@ -157,19 +159,26 @@ impl<'net> World<'net> {
             self.looks = 0;
             return Ok(Outcome::NotEnabled(Cause::Unknown));
         };
-        let mut looks = Looks::new();
+        let mut looks = Lookups::new();
         let conn = &net.conns()[place];
-        let course = &mut self.courses[looks.counting(place)];
+        let connection = &mut self.connections[looks.counting(place)];
         let port = visited(conn, event);
-        let before = counted_marks(&self.tally, conn, course, port, &self.ports, &mut looks);
+        let before = counted_marks(
+            &self.violations,
+            conn,
+            connection,
+            port,
+            &self.ports,
+            &mut looks,
+        );
         let shaped = Shaped {
-            rate: course.actor.rate(),
+            rate: connection.actor.rate(),
             is_held: !before.above,
         };
-        match course.take(conn, &mut self.ports, event, &mut looks) {
+        match connection.take(conn, &mut self.ports, event, &mut looks) {
             Ok(outcome) => {
-                let after = marks_after(shaped, conn, course, port, &self.ports, &mut looks);
-                self.tally = self.tally.after(&before, &after);
+                let after = marks_after(shaped, conn, connection, port, &self.ports, &mut looks);
+                self.violations = self.violations.after(&before, &after);
                 self.looks = looks.count();
                 Ok(outcome)
             }
@@ -190,10 +199,10 @@ impl<'net> World<'net> {
             result ≡ rate_in net (facts_after net events) conn }
     {
         let place = usize::from(conn);
-        if place >= self.courses.len() {
+        if place >= self.connections.len() {
             return None;
         }
-        Some(self.courses[place].actor.rate())
+        Some(self.connections[place].actor.rate())
     }
 
     /// The floor and the asked rate of a request of a connection, if its source asked it. Finding it costs the same, however many
@@ -203,11 +212,11 @@ impl<'net> World<'net> {
             result ≡ asked_for net (facts_after net events) conn seq }
     {
         let place = usize::from(conn);
-        if place >= self.courses.len() {
+        if place >= self.connections.len() {
             return None;
         }
-        let mut looks = Looks::new();
-        self.courses[place].log.asked(seq, &mut looks)
+        let mut looks = Lookups::new();
+        self.connections[place].log.asked(seq, &mut looks)
     }
 
     /// What a hop of its path, counted from 1, holds for a connection.
@@ -250,10 +259,14 @@ impl<'net> World<'net> {
             result ≡ moment_in net (facts_after net events) conn cell }
     {
         let place = usize::from(conn);
-        if place >= self.courses.len() {
+        if place >= self.connections.len() {
             return None;
         }
-        Some(self.courses[place].log.emission(cell, &mut Looks::new()))
+        Some(
+            self.connections[place]
+                .log
+                .emission(cell, &mut Lookups::new()),
+        )
     }
 
     /// How far a connection has come.
@@ -262,10 +275,10 @@ impl<'net> World<'net> {
             result ≡ progress_in net (facts_after net events) conn }
     {
         let place = usize::from(conn);
-        if place >= self.courses.len() {
+        if place >= self.connections.len() {
             return None;
         }
-        Some(progress_of(&self.courses[place]))
+        Some(progress_of(&self.connections[place]))
     }
 
     /// The sum of what a port holds, in units of 1/512 cell/s.
@@ -300,7 +313,7 @@ impl<'net> World<'net> {
         ensures headline { (net : Topology) (events : List Event) → StandsFor net events self.now →
             HeadlineHolds net (facts_after net events) }
     {
-        self.tally.is_safe()
+        self.violations.is_safe()
     }
 
     /// What is left in the end, beside what the events answered.
@@ -308,11 +321,12 @@ impl<'net> World<'net> {
         ensures trace { (net : Topology) (events : List Event) → StandsFor net events self.now →
             outcomes ≡ outcomes_of net events → IfOk result (IsTrace net events) }
         ensures headline { (net : Topology) (events : List Event) → StandsFor net events self.now →
-            (before after : List Event) → before ++ after ≡ events → OnOk result (HeadlineHolds net (facts_after net before)) }
+            (before after : List Event) → before ++ after ≡ events →
+            OnOk result (HeadlineHolds net (facts_after net before)) }
     {
         Ok(Trace {
             outcomes,
-            rates: rates_of(alloc, &self.courses)?,
+            rates: rates_of(alloc, &self.connections)?,
             held: held_of(alloc, self.net.conns(), &self.ports)?,
             totals: totals_of(alloc, &self.ports)?,
             capacities: capacities_of(alloc, &self.ports)?,

@@ -1,13 +1,12 @@
 //! Lines that a journal may have, but that `abt` doesn't write: members that are missing, others that it doesn't know, and cells.
 use super::{YES, answer, entry_in, joined, line_of, same, step_in};
 use abt_cell::{Answer, Request, Vc};
-use abt_entry_line::Line;
+use abt_entry::Line;
 use abt_journal::{Entry, PortInput, PortReply};
 use abt_keep::StorePlan;
-use abt_model::{Event, Outcome};
+use abt_model::{Event, Outcome, SourceEntry};
 use abt_node::{Back, DropCause};
 use abt_rate::Rate;
-use abt_source_journal::SourceEntry;
 use std::alloc::Global;
 use std::process::Abort;
 use std::test::Fail;

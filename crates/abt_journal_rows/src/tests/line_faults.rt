@@ -1,7 +1,7 @@
 //! Faults of lines, the first in the order of their members. A member is missing, of another type or out of its range.
 use super::{NO, REQUEST, joined, line_of, same};
 use abt_cell::RmFault;
-use abt_entry_line::{LineFault, Member};
+use abt_entry::{LineFault, Member};
 use std::alloc::Global;
 use std::process::Abort;
 use std::test::Fail;

@@ -1,7 +1,7 @@
 //! Steps of ports: each row of the table of docs/JOURNALS.md, "Ports".
 use super::{NO, REQUEST, YES, answer, joined, request, same, step_in, vc};
 use abt_cell::{Answer, Request};
-use abt_entry_text::step_line;
+use abt_entry::step_line;
 use abt_gcra::Verdict;
 use abt_journal::{Entry, PortInput, PortReply};
 use abt_node::{ArriveFault, Back, CapacityFault, DropCause, Onward};

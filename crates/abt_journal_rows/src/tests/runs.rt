@@ -1,12 +1,11 @@
 //! Journals of runs in threads, written as a text and read from it. The scenarios are those of scenarios/threads_*.toml, without comments.
 use super::{joined, same};
-use abt_journal::Entry;
-use abt_journal_lines::write_journals;
-use abt_journal_text::{Book, Run, read_text};
+use abt_journal::{Entry, Journals};
+use abt_journal_text::{Book, Run, read_text, write_journals};
+use abt_links::OpenGate;
+use abt_model::SourceJournal;
 use abt_net::Net;
 use abt_perform_threads::{Ran, Unrun};
-use abt_ports::{Journals, OpenGate};
-use abt_source_journal::SourceJournal;
 use std::alloc::Global;
 use std::process::Abort;
 use std::sync::Wait;

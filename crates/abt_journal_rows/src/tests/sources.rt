@@ -1,13 +1,12 @@
 //! Entries of sources: each row of the table of docs/JOURNALS.md, "Sources", and what may come of each.
 use super::{REQUEST, entry_in, joined, request, same};
 use abt_cell::Request;
-use abt_entry_text::entry_line;
+use abt_entry::entry_line;
 use abt_keep::StorePlan;
-use abt_model::{Cause, Event, Heard, Outcome};
+use abt_model::{Cause, Event, Heard, Outcome, SourceEntry};
 use abt_rate::Rate;
 use abt_shaper::ShapeFault;
 use abt_source::{AskFault, StartFault};
-use abt_source_journal::SourceEntry;
 use std::alloc::Global;
 use std::process::Abort;
 use std::test::Fail;

@@ -1,5 +1,5 @@
 use super::{same, same_items};
-use abt_list::Sequence;
+use abt_model::Sequence;
 use std::alloc::{AllocError, Global};
 use std::process::Abort;
 use std::test::Fail;

@@ -1,10 +1,12 @@
 //! Values of no world that can be, so that what looks for them is seen to find them.
 use super::{same, same_items};
 use abt_cell::{Request, Vc};
-use abt_log::Looks;
+use abt_index::Lookups;
 use abt_node::Port;
 use abt_rate::Rate;
-use abt_safety::{Marks, Tally, fits, held_along, is_above, is_held, is_over, recount};
+use abt_safety::{
+    ViolationFlags, Violations, fits, held_along, is_above, is_held, is_over, recount,
+};
 use std::alloc::{AllocError, Global};
 use std::process::Abort;
 use std::test::Fail;
@@ -35,7 +37,7 @@ fn ports(alloc: Global, vc: Vc) -> Result<Vec<Port>, AllocError> {
 fn covers(rt: &impl Abort, ports: &[Port], vc: Vc, path: &[u16], rate: Rate, expected: bool) {
     same(
         rt,
-        &is_held(rate, vc, path, ports, &mut Looks::new()),
+        &is_held(rate, vc, path, ports, &mut Lookups::new()),
         &expected,
     );
 }
@@ -84,7 +86,7 @@ fn a_sum_up_to_its_capacity_fits(rt: HostRuntime) -> Result<(), Fail> {
     assert!(rt; fits(512000, 512000));
     assert!(rt; !fits(512001, 512000));
     let mut ports = ports(rt.alloc(), Vc::new(1, 100).unwrap())?;
-    let mut looks = Looks::new();
+    let mut looks = Lookups::new();
     for port in [Some(0), Some(1), Some(2), None] {
         is_well(&rt, port, &ports, &mut looks);
     }
@@ -98,10 +100,10 @@ fn a_sum_up_to_its_capacity_fits(rt: HostRuntime) -> Result<(), Fail> {
 fn is_well_at(rt: &impl Abort, port: &mut Port, capacity: u64) {
     assert!(rt; port.set_capacity(capacity).is_ok());
     assert!(rt; !is_above(port));
-    assert!(rt; !Marks::of_port(port).over);
+    assert!(rt; !ViolationFlags::of_port(port).over);
 }
 
-fn is_well(rt: &impl Abort, port: Option<u16>, ports: &[Port], looks: &mut Looks) {
+fn is_well(rt: &impl Abort, port: Option<u16>, ports: &[Port], looks: &mut Lookups) {
     assert!(rt; !is_over(port, ports, looks));
 }
 
@@ -120,26 +122,26 @@ fn a_count_follows_the_one_that_changed(rt: HostRuntime) -> Result<(), Fail> {
 
 #[test]
 fn each_count_keeps_a_net_from_being_safe(rt: HostRuntime) -> Result<(), Fail> {
-    let none = Tally::none();
+    let none = Violations::none();
     assert!(rt; none.is_safe());
-    let marks = Marks::none();
+    let marks = ViolationFlags::none();
     for mark in [
-        Marks {
+        ViolationFlags {
             above: true,
             ..marks
         },
-        Marks {
+        ViolationFlags {
             over: true,
             ..marks
         },
-        Marks {
+        ViolationFlags {
             broken: true,
             ..marks
         },
     ] {
-        let tally = none.after(&marks, &mark);
-        assert!(rt; !tally.is_safe());
-        assert!(rt; tally.after(&mark, &marks).is_safe());
+        let violations = none.after(&marks, &mark);
+        assert!(rt; !violations.is_safe());
+        assert!(rt; violations.after(&mark, &marks).is_safe());
     }
     Ok(())
 }

@@ -1,9 +1,9 @@
 use super::{CROSSING, Narrow, expect, on_one_port};
 use crate::faults::{fault_of_run, fault_of_show};
 use crate::showing::ShowFault;
+use abt_journal::GatherFault;
+use abt_links::RunFault;
 use abt_perform::{Fault, tell_fault};
-use abt_ports::GatherFault;
-use abt_threads::RunFault;
 use abt_weave::{Actor, Sequence, WeaveFault};
 use std::alloc::Global;
 use std::process::Abort;

@@ -1,9 +1,7 @@
 //! Runs whose parcels are lost and served twice.
 use crate::judge;
-use abt_ports::OpenGate;
-use abt_relay::ThreadPlan;
+use abt_links::{OpenGate, ThreadPlan, run_threads};
 use abt_scenario::{Scenario, read};
-use abt_threads::run_threads;
 use std::alloc::Global;
 use std::process::Abort;
 use std::sync::Wait;

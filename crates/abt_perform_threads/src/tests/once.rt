@@ -1,7 +1,7 @@
 //! That there is one run of a scenario, of which all is that is handed out.
 use super::{ALL, CROSSING, Narrow};
 use crate::{Shown, Unrun, judge, show_run};
-use abt_ports::Gate;
+use abt_links::Gate;
 use std::alloc::Global;
 use std::sync::Wait;
 use std::sync::atomic::{AtomicU64, Ordering};

@@ -1,7 +1,7 @@
 //! That parcels are neither lost nor repeated, which the three lines don't show.
 use super::on_one_port;
 use crate::Unrun;
-use abt_ports::OpenGate;
+use abt_links::OpenGate;
 use std::alloc::Global;
 use std::sync::Wait;
 use std::thread::Threads;

@@ -1,10 +1,8 @@
 use super::{ONE, joined, scenario};
 use abt_keep::StorePlan;
-use abt_list::Sequence;
-use abt_model::Event;
+use abt_model::{Command, Event, Sequence};
 use abt_net::{Conn, Net};
 use abt_rate::Rate;
-use abt_script::Command;
 use std::process::Abort;
 use std::test::Fail;
 

@@ -5,16 +5,12 @@ use super::fixture::{
     LONG, START, ask, entries, faithful, first_request, fits, is_told, listen, lone_boxes,
     lone_cells, net, one_port, ran, request, scripts,
 };
-use abt_access::access_worker;
 use abt_cell::{Answer, Request, Rm};
 use abt_journal::PortReply;
-use abt_model::{Event, Heard, Outcome};
+use abt_links::{AnswerBox, OpenGate, Router, access_worker};
+use abt_model::{Event, Heard, Outcome, Script, SourceEntry, SourceJournal};
 use abt_net::Net;
 use abt_node::Onward;
-use abt_ports::OpenGate;
-use abt_relay::{AnswerBox, Post};
-use abt_script::Script;
-use abt_source_journal::{SourceEntry, SourceJournal};
 use crossbeam_channel::unbounded;
 use std::alloc::Global;
 use std::process::Abort;
@@ -22,7 +18,7 @@ use std::sync::Wait;
 use std::test::*;
 
 // The first port refuses a request.
-fn refuse<R: Wait>(rt: &R, post: &Post<'_>, request: &Request) {
+fn refuse<R: Wait>(rt: &R, post: &Router<'_>, request: &Request) {
     let no = Answer::of(request, false);
     let reply = PortReply::Requested(Onward::Refuse(no));
     post.send_on(rt, 0, &Rm::Request(*request), &reply);
@@ -43,7 +39,7 @@ fn answers_stand_in_a_box_in_the_order_in_which_they_came(rt: HostRuntime) -> Re
     let net = one_port(rt.alloc())?;
     let (parcels, _from) = unbounded(rt.alloc())?;
     let boxes = lone_boxes(rt.alloc(), &net).ok_or("no box")?;
-    let post = Post::new(&net, parcels, &boxes);
+    let post = Router::new(&net, parcels, &boxes);
     let first = request(100, 1, 0x5258)?;
     let second = request(100, 2, 0x5258)?;
     refuse(&rt, &post, &first);

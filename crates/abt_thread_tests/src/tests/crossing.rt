@@ -1,9 +1,8 @@
 //! Three sources over two ports, two of which go through both, one each way (scenarios/threads_crossing.toml).
 use super::fixture::{START, ask, faithful, listen, net, ran_beside};
+use abt_links::{Gathered, OpenGate, RunFault};
+use abt_model::{Command, Operation};
 use abt_net::Net;
-use abt_ports::OpenGate;
-use abt_script::{Command, Operation};
-use abt_threads::{Gathered, RunFault};
 use std::alloc::Global;
 use std::sync::Wait;
 use std::test::Fail;

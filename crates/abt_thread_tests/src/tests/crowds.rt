@@ -2,8 +2,7 @@
 //! threads come; that the run is gathered doesn't.
 use super::crossing::{crossed, crossing};
 use super::fixture::entries;
-use abt_model::{Event, Outcome};
-use abt_source_journal::SourceEntry;
+use abt_model::{Event, Outcome, SourceEntry};
 use std::alloc::Global;
 use std::process::Abort;
 use std::sync::Wait;

@@ -3,21 +3,17 @@ ghost use Rattle.std.specs.Prelude.{◌≡◌, ◌<◌, ◌↔◌, IsTrue, IfSom
 ghost use Rattle.abt_journal.specs.Opening.{IsOpening};
 ghost use Rattle.abt_net.specs.Topology.{conn_at};
 ghost use Rattle.abt_net.specs.declared.conn.Conn.{Conn};
-ghost use Rattle.abt_relay.specs.Cells.{AreCellsOf};
-ghost use Rattle.abt_access.specs.Scripts.{IsInTolerance};
+ghost use Rattle.abt_links.specs.Cells.{AreCellsOf};
+ghost use Rattle.abt_links.specs.Scripts.{IsInTolerance};
 
 use abt_cell::{Request, Vc};
 use abt_journal::{Entry, PortState};
 use abt_keep::StorePlan;
-use abt_model::Event;
+use abt_links::{AnswerBox, Gate, Gathered, OpenGate, PortCell, RunFault, ThreadPlan, run_threads};
+use abt_model::{Command, Event, Operation, Script, SourceEntry};
 use abt_net::{Conn, Net, Path};
 use abt_node::Port;
-use abt_ports::{Gate, OpenGate, PortCell};
 use abt_rate::Rate;
-use abt_relay::{AnswerBox, ThreadPlan};
-use abt_script::{Command, Operation, Script};
-use abt_source_journal::SourceEntry;
-use abt_threads::{Gathered, RunFault, run_threads};
 use std::alloc::Global;
 use std::collections::VecDeque;
 use std::sync::{Mutex, Wait};
@@ -229,7 +225,8 @@ fn is_in_tolerance(command: &Command, tau: u64) -> bool
 /// Whether a script fits the connection of this number.
 pub(super) fn fits(net: &Net, conn: u16, script: &Script) -> bool
     ensures conn { IsTrue result → conn < length net.now.conns }
-    ensures jitters { IsTrue result → (line : Conn) → conn_at net.now conn ≡ Some line → All (IsInTolerance line.tau) script.now }
+    ensures jitters { IsTrue result → (line : Conn) → conn_at net.now conn ≡ Some line →
+        All (IsInTolerance line.tau) script.now }
 {
     match net.conns().get(usize::from(conn)) {
         Some(line) => are_in_tolerance(script.as_slice(), line.tau),

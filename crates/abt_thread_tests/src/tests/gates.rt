@@ -5,10 +5,8 @@ use super::fixture::{
 };
 use abt_gcra::Verdict;
 use abt_journal::{Entry, PortReply};
-use abt_model::{Event, Heard, Outcome};
-use abt_ports::Gate;
-use abt_script::Command;
-use abt_source_journal::SourceEntry;
+use abt_links::Gate;
+use abt_model::{Command, Event, Heard, Outcome, SourceEntry};
 use std::process::Abort;
 use std::sync::atomic::{AtomicBool, AtomicU64, Ordering};
 use std::test::*;

@@ -7,9 +7,7 @@ use super::fixture::{
 };
 use abt_cell::Answer;
 use abt_journal::{Entry, PortInput};
-use abt_model::{Event, Heard, Outcome};
-use abt_script::{Command, Script};
-use abt_source_journal::{SourceEntry, SourceJournal};
+use abt_model::{Command, Event, Heard, Outcome, Script, SourceEntry, SourceJournal};
 use std::alloc::Global;
 use std::sync::Wait;
 use std::test::*;

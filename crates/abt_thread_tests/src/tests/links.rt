@@ -2,8 +2,7 @@
 use super::fixture::{faithful, first_request, lone_boxes, lone_cells, one_port};
 use abt_cell::Rm;
 use abt_journal::Seat;
-use abt_ports::OpenGate;
-use abt_relay::{Parcel, ThreadPlan, link_worker};
+use abt_links::{OpenGate, Parcel, ThreadPlan, link_worker};
 use crossbeam_channel::unbounded;
 use std::alloc::Global;
 use std::sync::Wait;

@@ -1,8 +1,8 @@
 //! That a port's lock is held from the moment at which a gate is passed inside it to the end of the step.
 use super::fixture::{START, TURNS, ask, faithful, net, port, ran_at};
 use abt_journal::Entry;
-use abt_ports::Gate;
-use abt_script::Command;
+use abt_links::Gate;
+use abt_model::Command;
 use std::sync::atomic::{AtomicBool, AtomicU64, Ordering};
 use std::test::*;
 use std::thread;

@@ -3,11 +3,9 @@
 use super::fixture::{LONG, START, ask, entries, faithful, is_told, listen, net, port, ran};
 use abt_cell::Answer;
 use abt_journal::PortInput;
-use abt_model::{Heard, Outcome};
+use abt_links::ThreadPlan;
+use abt_model::{Command, Heard, Outcome, SourceEntry};
 use abt_net::Net;
-use abt_relay::ThreadPlan;
-use abt_script::Command;
-use abt_source_journal::SourceEntry;
 use std::alloc::Global;
 use std::test::*;
 

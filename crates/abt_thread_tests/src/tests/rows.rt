@@ -3,12 +3,9 @@ use super::fixture::{
     START, ask, entries, faithful, first_request, net, net_over, one_port, port, ran,
 };
 use abt_journal::{Entry, PortInput, PortReply};
-use abt_model::{Event, Outcome};
+use abt_links::{Gathered, RunFault, ThreadPlan};
+use abt_model::{Command, Event, Outcome, SourceEntry};
 use abt_node::Onward;
-use abt_relay::ThreadPlan;
-use abt_script::Command;
-use abt_source_journal::SourceEntry;
-use abt_threads::{Gathered, RunFault};
 use std::alloc::Global;
 use std::process::Abort;
 use std::sync::Wait;

@@ -4,7 +4,7 @@ use Rattle.abt_audit.proofs.Judged.{ends_reading, ends_judging, ends_writing, sh
 use Rattle.abt_audit.proofs.performing.audit_texts.Goals as goal
 
 pub returns-in-Err-clause-err : goal.returns-in-Err-clause-err
-returns-in-Err-clause-err g c = ends_reading _ _ c.in-Err.fault c.fault_of_text.result _ (Keeps-refl _) c.fault_of_text.ensures c.in-Err.ensures.err
+returns-in-Err-clause-err g c = ends_reading _ _ c.in-Err.fault c.fault_of_text.result _ (Keeps-refl _) c.fault_of_text.ensures.either c.in-Err.ensures.err
 
 pub returns-in-Err-judge_book-clause-err : goal.returns-in-Err-judge_book-clause-err
 returns-in-Err-judge_book-clause-err g c =

@@ -1,6 +1,6 @@
 use Rattle.std.proofs.Common.{◌≡◌, ◌+◌, ◌++◌, ◌<◌, ◌≤◌, [], ◌∷◌, List, length, take, subst, sym, ap, ◌∙◌, arith, append_assoc}
 use Rattle.std.proofs.lemmas.List.{take_more, take_all}
-use Rattle.abt_arrows.specs.Tellings.{told_after}
+use Rattle.abt_chart.specs.Tellings.{told_after}
 use Rattle.abt_model.specs.declared.event.Event.{Event}
 use Rattle.abt_world.specs.Standing.{StandsFor}
 use Rattle.abt_chart.proofs.chart.carry.Goals as goal

@@ -1,6 +1,6 @@
 -- The world stands for the events so far, and what they told, and what was held meanwhile, is there.
 use Rattle.std.proofs.Common.{◌≡◌, ◌++◌, List, take}
-use Rattle.abt_arrows.specs.Tellings.{told_after}
+use Rattle.abt_chart.specs.Tellings.{told_after}
 use Rattle.abt_model.specs.declared.event.Event.{Event}
 use Rattle.abt_model.specs.Run.{facts_after}
 use Rattle.abt_world.specs.Standing.{StandsFor}

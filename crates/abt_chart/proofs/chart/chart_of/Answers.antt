@@ -1,5 +1,5 @@
 use Rattle.std.proofs.Common.{◌≡◌, ◌+◌, ◌++◌, [], List, All, length, refl, subst, sym, ap, ◌∙◌, arith, length-append}
-use Rattle.abt_arrows.specs.declared.told.Told.{Told}
+use Rattle.abt_chart.specs.declared.told.Told.{Told}
 use Rattle.abt_chart.specs.Charts.{AreCrossings}
 use Rattle.abt_chart.specs.Frames.{StandsBelow}
 use Rattle.abt_chart.proofs.Below.{all_below}

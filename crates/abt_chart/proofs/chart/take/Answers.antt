@@ -1,6 +1,6 @@
 use Rattle.std.proofs.Common.{◌++◌, [], ◌∷◌, List, sym, ap, ◌∙◌}
-use Rattle.abt_arrows.specs.Tellings.{told_after, told_of}
-use Rattle.abt_arrows.specs.declared.told.Told.{Told}
+use Rattle.abt_chart.specs.Tellings.{told_after, told_of}
+use Rattle.abt_chart.specs.declared.told.Told.{Told}
 use Rattle.abt_chart.proofs.Frames.{told_from_push}
 use Rattle.abt_chart.proofs.chart.take.Goals as goal
 

@@ -1,7 +1,7 @@
 use Rattle.std.proofs.Common.{◌≡◌, ◌+◌, ◌++◌, ℕ, [], ◌∷◌, List, Some, inl, inr, subst, sym, ap, ◌∙◌}
 use Rattle.std.specs.Prelude.{slice_get}
 use Rattle.std.proofs.lemmas.List.{length_push}
-use Rattle.abt_arrows.specs.declared.told.Told.{Told}
+use Rattle.abt_chart.specs.declared.told.Told.{Told}
 use Rattle.abt_chart.specs.declared.crossings.Crossing.{Crossing}
 use Rattle.abt_chart.specs.Charts.{IsCrossing, AreCrossings}
 use Rattle.abt_chart.proofs.Numbered.{at_push}

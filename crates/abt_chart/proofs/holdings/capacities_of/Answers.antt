@@ -1,8 +1,7 @@
 use Rattle.std.proofs.Common.{ℕ, ◌<◌, ◌≤◌, ◌++◌, [], ◌∷◌, List, length, subst, sym, ap, ◌∙◌}
-use Rattle.std.specs.Prelude.{option_map}
+use Rattle.std.specs.Prelude.{option_map, unwrap_or}
 use Rattle.abt_model.specs.Reserved.{capacity_of}
 use Rattle.abt_model.specs.Run.{facts_after}
-use Rattle.abt_chart.specs.Frames.{number}
 use Rattle.abt_chart.proofs.Numbered.{next_numbered, all_numbered}
 use Rattle.abt_chart.proofs.holdings.capacities_of.Goals as goal
 
@@ -14,7 +13,7 @@ loop-port-preserved c = λ events stands.
     let low : i < length net.capacities = subst (λ (l : List ℕ). i < length l) c.capacities-ports.ensures.value c.loop-port-test.true in
     c.in_ok-push.ensures.ok ∙ ap (λ (l : List ℕ). l ++ c.number_of.result ∷ []) (c.loop-port.invariant events stands)
     ∙ sym (next_numbered (λ (numbered : ℕ × ℕ). capacity_of net past numbered.0) net.capacities i c.number_of.result low
-    (λ x at. c.number_of.ensures ∙ ap number (c.capacity.ensures net events stands ∙ ap (option_map (λ (_ : ℕ). capacity_of net past i)) at)))
+    (λ x at. c.number_of.ensures ∙ ap (λ o. unwrap_or o 0) (c.capacity.ensures net events stands ∙ ap (option_map (λ (_ : ℕ). capacity_of net past i)) at)))
 
 pub returns : goal.returns
 returns c = λ events stands.

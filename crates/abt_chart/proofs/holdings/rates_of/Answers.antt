@@ -1,10 +1,9 @@
 use Rattle.std.proofs.Common.{ℕ, ◌<◌, ◌≤◌, ◌++◌, [], ◌∷◌, List, length, subst, sym, ap, ◌∙◌}
-use Rattle.std.specs.Prelude.{option_map}
+use Rattle.std.specs.Prelude.{option_map, unwrap_or}
 use Rattle.abt_facts.specs.Source.{rate_of}
 use Rattle.abt_model.specs.Past.{facts_of}
 use Rattle.abt_model.specs.Run.{facts_after}
 use Rattle.abt_net.specs.declared.conn.Conn.{Conn}
-use Rattle.abt_chart.specs.Frames.{number}
 use Rattle.abt_chart.proofs.Numbered.{next_numbered, all_numbered}
 use Rattle.abt_chart.proofs.holdings.rates_of.Goals as goal
 
@@ -16,7 +15,7 @@ loop-place-preserved c = λ events stands.
     let low : i < length net.conns = subst (λ (l : List Conn). i < length l) c.conns-conns.ensures.value c.loop-place-test.true in
     c.in_ok-push.ensures.ok ∙ ap (λ (l : List ℕ). l ++ c.units_of.result ∷ []) (c.loop-place.invariant events stands)
     ∙ sym (next_numbered (λ (numbered : ℕ × Conn). rate_of (facts_of numbered.0 past)) net.conns i c.units_of.result low
-    (λ x at. c.units_of.ensures ∙ ap number (c.rate.ensures net events stands ∙ ap (option_map (λ (_ : Conn). rate_of (facts_of i past))) at)))
+    (λ x at. c.units_of.ensures ∙ ap (λ o. unwrap_or o 0) (c.rate.ensures net events stands ∙ ap (option_map (λ (_ : Conn). rate_of (facts_of i past))) at)))
 
 pub returns : goal.returns
 returns c = λ events stands.

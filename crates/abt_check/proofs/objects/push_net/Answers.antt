@@ -1,4 +1,4 @@
-use Rattle.abt_objects.proofs.Adding.{adds_last}
+use Rattle.abt_entry.proofs.Adding.{adds_last}
 use Rattle.abt_check.proofs.objects.push_net.Goals as goal
 
 pub returns : goal.returns

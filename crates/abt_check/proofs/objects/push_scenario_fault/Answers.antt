@@ -1,4 +1,4 @@
-use Rattle.abt_objects.proofs.Adding.{adds_last}
+use Rattle.abt_entry.proofs.Adding.{adds_last}
 use Rattle.abt_check.proofs.objects.push_scenario_fault.Goals as goal
 
 pub returns-in-MissingKey : goal.returns-in-MissingKey

@@ -1,4 +1,4 @@
-use Rattle.abt_objects.proofs.Adding.{adds_both, line_last}
+use Rattle.abt_entry.proofs.Adding.{adds_both, line_last}
 use Rattle.abt_check.proofs.objects.push_warning.Goals as goal
 
 pub returns : goal.returns

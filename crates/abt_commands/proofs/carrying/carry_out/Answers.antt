@@ -13,4 +13,4 @@ returns-in-Ok-clause-err g c is_one =
 
 pub returns-in-Err-clause-err : goal.returns-in-Err-clause-err
 returns-in-Err-clause-err g c is_one =
-    unopened_here c.args.plan.now _ _ _ _ _ _ _ (sym c.in-Some.ensures) c.line_of_unopened.ensures (search rules) c.tell_text.ensures
+    unopened_here c.args.plan.now _ _ _ _ _ _ _ (sym c.in-Some.ensures) c.line_of_unopened.ensures.either (search rules) c.tell_text.ensures

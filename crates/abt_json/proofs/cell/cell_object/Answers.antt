@@ -1,4 +1,4 @@
-use Rattle.abt_objects.proofs.Adding.{line_of_two}
+use Rattle.abt_entry.proofs.Adding.{line_of_two}
 use Rattle.abt_json.proofs.cell.cell_object.Goals as goal
 
 pub returns : goal.returns

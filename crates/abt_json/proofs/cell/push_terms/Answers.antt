@@ -1,4 +1,4 @@
-use Rattle.abt_objects.proofs.Adding.{adds_last}
+use Rattle.abt_entry.proofs.Adding.{adds_last}
 use Rattle.abt_json.proofs.cell.push_terms.Goals as goal
 
 pub returns : goal.returns

@@ -9,7 +9,7 @@ use Rattle.abt_model.specs.Run.{facts_after, outcomes_of}
 use Rattle.abt_model.proofs.Runs.{outcomes_from_push, facts_from_push}
 use Rattle.abt_net.specs.Topology.{Topology}
 use Rattle.abt_text.specs.Text.{◌⋅◌}
-use Rattle.abt_trace.specs.Traces.{IsTrace}
+use Rattle.abt_model.specs.Traces.{IsTrace}
 use Rattle.abt_world.specs.Standing.{StandsFor}
 use Rattle.abt_reason.specs.Grounds.{grounds_of}
 use Rattle.abt_json.specs.Objects.{end_objects}

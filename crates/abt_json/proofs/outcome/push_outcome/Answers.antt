@@ -1,4 +1,4 @@
-use Rattle.abt_objects.proofs.Adding.{adds_last}
+use Rattle.abt_entry.proofs.Adding.{adds_last}
 use Rattle.abt_json.proofs.outcome.push_outcome.Goals as goal
 
 pub returns-in_ok-push_named-in-Asked : goal.returns-in_ok-push_named-in-Asked

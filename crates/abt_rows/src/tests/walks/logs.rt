@@ -3,7 +3,7 @@ use super::lists::EVENTS;
 use super::same;
 use abt_facts::Fact;
 use abt_gcra::Verdict;
-use abt_log::{Log, Looks};
+use abt_index::{FactIndex, Lookups};
 use abt_walk::drawn::generated;
 use abt_walk::nets::{lone, meshed, shared};
 use abt_walk::walk::{Walk, number};
@@ -24,8 +24,8 @@ fn conforms(fact: &Fact) -> bool {
 }
 
 // Demands that a log tells of a hop what its facts do.
-fn agrees_on_hop(rt: &impl Abort, log: &Log, facts: &[Fact], seq: u32, hop: u16) {
-    let looks = &mut Looks::new();
+fn agrees_on_hop(rt: &impl Abort, log: &FactIndex, facts: &[Fact], seq: u32, hop: u16) {
+    let looks = &mut Lookups::new();
     let passed = facts.contains(&Fact::Passed { seq, hop });
     same(rt, &log.was_passed(seq, hop, looks), &passed);
     let shut = facts.contains(&Fact::Shut { seq, hop });
@@ -36,8 +36,8 @@ fn agrees_on_hop(rt: &impl Abort, log: &Log, facts: &[Fact], seq: u32, hop: u16)
 }
 
 // Demands that a log tells of a number what its facts do.
-fn agrees_on_number(rt: &impl Abort, log: &Log, facts: &[Fact], seq: u32) {
-    let looks = &mut Looks::new();
+fn agrees_on_number(rt: &impl Abort, log: &FactIndex, facts: &[Fact], seq: u32) {
+    let looks = &mut Lookups::new();
     let terms = words::asked(facts, seq);
     same(
         rt,
@@ -56,8 +56,8 @@ fn agrees_on_number(rt: &impl Abort, log: &Log, facts: &[Fact], seq: u32) {
 }
 
 // Demands that a log tells what its facts do.
-fn agrees(rt: &impl Abort, log: &Log, facts: &[Fact]) {
-    let looks = &mut Looks::new();
+fn agrees(rt: &impl Abort, log: &FactIndex, facts: &[Fact]) {
+    let looks = &mut Lookups::new();
     for seq in 0..=words::last(facts).saturating_add(1) {
         agrees_on_number(rt, log, facts, seq);
     }
@@ -91,10 +91,10 @@ fn notes(rt: &impl Abort, alloc: Global, net: &Net, seed: u64) -> Result<(), Fai
 
 // The same of these facts, the oldest first.
 fn notes_all(rt: &impl Abort, alloc: Global, facts: &[Fact]) -> Result<(), Fail> {
-    let mut log = Log::new(alloc);
+    let mut log = FactIndex::new(alloc);
     for (place, fact) in facts.iter().enumerate() {
         log.reserve()?;
-        log.note(*fact, &mut Looks::new());
+        log.note(*fact, &mut Lookups::new());
         if place % 10 == 9 {
             agrees(rt, &log, facts.split_at(place + 1).0);
         }

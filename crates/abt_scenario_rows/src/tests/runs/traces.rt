@@ -1,10 +1,8 @@
 //! A report of a trace that was made by hand, and that no run has.
 use super::super::{ONE, scenario};
-use abt_list::Sequence;
-use abt_model::{Cause, Outcome};
+use abt_model::{Cause, Outcome, Sequence, Trace};
 use abt_rate::Rate;
 use abt_scenario::report;
-use abt_trace::Trace;
 use std::alloc::{AllocError, Global};
 use std::test::Fail;
 

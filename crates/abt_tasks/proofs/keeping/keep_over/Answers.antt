@@ -18,5 +18,5 @@ returns-in-Err-create-clause-err g c = λ _. inr (record {
   read = c.in-Ok.ensures.ok;
   kept_old = None;
   kept_new = None;
-  unkept = inl (unopened c.line_of_unopened.result.now _ _ _ c.line_of_unopened.ensures c.tell_text.ensures);
+  unkept = inl (unopened c.line_of_unopened.result.now _ _ _ c.line_of_unopened.ensures.either c.tell_text.ensures);
 })

@@ -2,7 +2,7 @@ use Rattle.std.proofs.Common.{◌≡◌, ℕ, ◌≤◌, length, Option, Some, r
 use Rattle.std.proofs.lemmas.Bool.{false≢true}
 use Rattle.abt_net.specs.declared.conn.Conn.{Conn}
 use Rattle.abt_net.specs.Paths.{hop_of}
-use Rattle.abt_weave.specs.declared.candidate.Stop.{Stop}
+use Rattle.abt_weave.specs.declared.candidate.HopOnPath.{HopOnPath}
 use Rattle.abt_weave.proofs.Stopping.{stop_found, stop_only}
 use Rattle.abt_weave.proofs.candidate.stop_of.Goals as goal
 
@@ -26,5 +26,5 @@ returns-clause-only c d hop stop =
     let is = rw (c.conns-conns.ensures.value, c.from.ensures) at c.index-conns-from.is in
     let only = stop_only c.args.net.now c.in_ok-vc.vc c.args.input.now c.args.port d hop c.in_ok-conn.conn c.index-conns-from.result c.in_ok-vc.ensures c.find.ensures.rules c.in_ok-conn.ensures.within is c.in_ok-conn.ensures.only stop in
     let at = c.in_ok-hop.ensures.some ∙ ap (λ (x : Conn). hop_of x.path c.args.port) (sym c.index-conns-from.is) in
-    let make : ℕ → ℕ → Option Stop = λ x y. Some (record { conn = x; hop = y }) in
+    let make : ℕ → ℕ → Option HopOnPath = λ x y. Some (record { conn = x; hop = y }) in
     ap (λ x. make x c.in_ok-hop.hop) only.0 ∙ ap (make d) (at ∙ only.1)

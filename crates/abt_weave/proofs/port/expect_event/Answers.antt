@@ -4,7 +4,7 @@ use Rattle.std.proofs.lemmas.Bool.{cond-true, cond-false}
 use Rattle.abt_model.specs.declared.event.Event.{Event}
 use Rattle.abt_model.specs.Outcomes.{conn_of}
 use Rattle.abt_weave.specs.declared.port.Coming.{Coming}
-use Rattle.abt_weave.specs.Board.{journaled}
+use Rattle.abt_weave.specs.Progress.{journaled}
 use Rattle.abt_weave.specs.Comes.{IsExpected, reached_by}
 use Rattle.abt_weave.proofs.Comings.{beside_read}
 use Rattle.abt_weave.proofs.PortEvents.{some_same}
@@ -16,15 +16,15 @@ use Rattle.abt_weave.proofs.port.expect_event.Goals.{then-is_beside, else-is_bes
 pub bounds-given-c : goal.bounds-given-c
 bounds-given-c c =
     subst (λ n. n < length c.args.given.now.sources.now) (sym c.from-c.ensures)
-    (coming_low c.args.given.now.net.now (journaled c.args.given.now.ports.now c.args.given.now.sources.now) (reverse c.args.board.now.events.items) c.args.port c.args.entry.now.place c.args.entry.now.input
+    (coming_low c.args.given.now.net.now (journaled c.args.given.now.ports.now c.args.given.now.sources.now) (reverse c.args.progress.now.events.items) c.args.port c.args.entry.now.place c.args.entry.now.input
     c.in_ok-conn.field-0.conn (length c.args.given.now.sources.now) c.in_ok-conn.field-0.event c.in_ok-conn.ensures.some c.requires.conns)
 
 pub index-come-requires : goal.index-come-requires
 index-come-requires c =
     let low : c.from-c.result < length c.args.given.now.sources.now = subst (λ n. n < length c.args.given.now.sources.now) (sym c.from-c.ensures)
-    (coming_low c.args.given.now.net.now (journaled c.args.given.now.ports.now c.args.given.now.sources.now) (reverse c.args.board.now.events.items) c.args.port c.args.entry.now.place c.args.entry.now.input
+    (coming_low c.args.given.now.net.now (journaled c.args.given.now.ports.now c.args.given.now.sources.now) (reverse c.args.progress.now.events.items) c.args.port c.args.entry.now.place c.args.entry.now.input
     c.in_ok-conn.field-0.conn (length c.args.given.now.sources.now) c.in_ok-conn.field-0.event c.in_ok-conn.ensures.some c.requires.conns) in
-    let there : c.from-c.result < length c.args.board.now.source_places.items = subst (λ n. c.from-c.result < n) (sym c.requires.board.source_count) low in
+    let there : c.from-c.result < length c.args.progress.now.source_places.items = subst (λ n. c.from-c.result < n) (sym c.requires.progress.source_count) low in
     search rules
 
 pub behind-reached-requires : goal.behind-reached-requires
@@ -32,11 +32,11 @@ behind-reached-requires c =
     let net = c.args.given.now.net.now in
     let js = journaled c.args.given.now.ports.now c.args.given.now.sources.now in
     let low : c.from-c.result < length c.args.given.now.sources.now = subst (λ n. n < length c.args.given.now.sources.now) (sym c.from-c.ensures)
-    (coming_low net js (reverse c.args.board.now.events.items) c.args.port c.args.entry.now.place c.args.entry.now.input
+    (coming_low net js (reverse c.args.progress.now.events.items) c.args.port c.args.entry.now.place c.args.entry.now.input
     c.in_ok-conn.field-0.conn (length c.args.given.now.sources.now) c.in_ok-conn.field-0.event c.in_ok-conn.ensures.some c.requires.conns) in
-    let beside = beside_read net c.args.given.now.ports.now c.args.given.now.sources.now c.args.board.now.events.items c.args.board.now.world c.args.board.now.source_places.items c.args.board.now.port_places.items
-    c.from-c.result c.index-given-c.result c.as_slice-entries.result.now c.index-come.result.now c.requires.board low c.index-given-c.is c.as_slice-entries.ensures c.index-come.ensures in
-    let less = come_low net js (reverse c.args.board.now.events.items) c.args.port c.args.entry.now.place c.args.entry.now.input c.in_ok-conn.field-0.conn c.from-c.result c.in_ok-conn.field-0.event
+    let beside = beside_read net c.args.given.now.ports.now c.args.given.now.sources.now c.args.progress.now.events.items c.args.progress.now.world c.args.progress.now.source_places.items c.args.progress.now.port_places.items
+    c.from-c.result c.index-given-c.result c.as_slice-entries.result.now c.index-come.result.now c.requires.progress low c.index-given-c.is c.as_slice-entries.ensures c.index-come.ensures in
+    let less = come_low net js (reverse c.args.progress.now.events.items) c.args.port c.args.entry.now.place c.args.entry.now.input c.in_ok-conn.field-0.conn c.from-c.result c.in_ok-conn.field-0.event
     c.as_slice-entries.result.now c.index-come.result.now c.in_ok-conn.ensures.some c.from-c.ensures beside (sym c.is_beside.ensures ∙ c.if-is_beside.true) in
     search rules
 
@@ -44,11 +44,11 @@ pub returns-clause-some : goal.returns-clause-some
 returns-clause-some c =
     let net = c.args.given.now.net.now in
     let js = journaled c.args.given.now.ports.now c.args.given.now.sources.now in
-    let earlier = reverse c.args.board.now.events.items in
-    let sp = c.args.board.now.source_places.items in
+    let earlier = reverse c.args.progress.now.events.items in
+    let sp = c.args.progress.now.source_places.items in
     let lows : c.in_ok-conn.field-0.conn < length c.args.given.now.sources.now = coming_low net js earlier c.args.port c.args.entry.now.place c.args.entry.now.input
     c.in_ok-conn.field-0.conn (length c.args.given.now.sources.now) c.in_ok-conn.field-0.event c.in_ok-conn.ensures.some c.requires.conns in
-    let low : c.in_ok-conn.field-0.conn < length sp = subst (λ n. c.in_ok-conn.field-0.conn < n) (sym c.requires.board.source_count) lows in
+    let low : c.in_ok-conn.field-0.conn < length sp = subst (λ n. c.in_ok-conn.field-0.conn < n) (sym c.requires.progress.source_count) lows in
     let come : c.index-come.result.now ≡ slice_index sp c.in_ok-conn.field-0.conn = place_is sp c.from-c.result c.in_ok-conn.field-0.conn c.index-come.result.now c.from-c.ensures low c.index-come.ensures in
     record {
       rules = c.in_ok-conn.ensures.rules;

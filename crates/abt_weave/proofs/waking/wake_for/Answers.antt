@@ -1,7 +1,7 @@
 use Rattle.std.proofs.Common.{◌≡◌, ◌∙◌, inl, inr, ap, sym, reverse, Some}
 use Rattle.abt_model.specs.Outcomes.{conn_of}
 use Rattle.abt_model.specs.Targets.{conn_in}
-use Rattle.abt_weave.specs.Board.{journaled}
+use Rattle.abt_weave.specs.Progress.{journaled}
 use Rattle.abt_weave.proofs.Touching.{touched_wakes}
 use Rattle.abt_weave.proofs.waking.wake_for.Goals as goal
 
@@ -14,5 +14,5 @@ returns-in-Source-clause-wakes c =
         | inr hop ↦ ap conn_in (sym c.target.ensures.value ∙ hop.1)
       ]
     ] in
-    touched_wakes c.wake_connection.result c.args.given.now.net.now (journaled c.args.given.now.ports.now c.args.given.now.sources.now) (reverse c.args.board.now.events.items) c.args.event.now c.in-Source.conn c.hop_visited.result
+    touched_wakes c.wake_connection.result c.args.given.now.net.now (journaled c.args.given.now.ports.now c.args.given.now.sources.now) (reverse c.args.progress.now.events.items) c.args.event.now c.in-Source.conn c.hop_visited.result
     c.args.queue.now c.wake_connection.new.queue whose c.hop_visited.ensures c.wake_connection.ensures.wakes

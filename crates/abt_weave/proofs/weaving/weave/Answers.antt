@@ -1,7 +1,7 @@
 use Rattle.std.proofs.Common.{rules, ◌≡◌, subst, IfOk, List}
 use Rattle.abt_journal.specs.declared.entry.Entry.{Entry}
 use Rattle.abt_model.specs.Run.{facts_after}
-use Rattle.abt_weave.specs.Board.{journaled}
+use Rattle.abt_weave.specs.Progress.{journaled}
 use Rattle.abt_weave.specs.Leaving.{LeavesAsJournaled}
 use Rattle.abt_weave.proofs.weaving.weave.Goals as goal
 

@@ -1,7 +1,7 @@
 use Rattle.std.proofs.Common.{◌≡◌, ◌∙◌, sym, subst, length, reverse, true, []}
-use Rattle.abt_woven.specs.Woven.{IsWoven}
+use Rattle.abt_weave.specs.Woven.{IsWoven}
 use Rattle.abt_weave.specs.Actors.{actor_at}
-use Rattle.abt_weave.specs.Board.{journaled}
+use Rattle.abt_weave.specs.Progress.{journaled}
 use Rattle.abt_weave.specs.Faults.{all_left}
 use Rattle.abt_weave.specs.Marks.{AreUnmarked, IsFirstMark}
 use Rattle.abt_weave.specs.Shown.{AreShown}
@@ -23,16 +23,16 @@ returns-in-Some-clause-err c =
     let ports = c.args.given.now.ports.now in
     let sources = c.args.given.now.sources.now in
     let js = journaled ports sources in
-    let events = c.settle.new.board.events.items in
-    let board = c.in_ok-marks.ensures.board in
-    let world = c.settle.new.board.world in
-    let sp = c.settle.new.board.source_places.items in
-    let pp = c.settle.new.board.port_places.items in
+    let events = c.settle.new.progress.events.items in
+    let progress = c.in_ok-marks.ensures.progress in
+    let world = c.settle.new.progress.world in
+    let sp = c.settle.new.progress.source_places.items in
+    let pp = c.settle.new.progress.port_places.items in
     let ms = c.in_ok-marks.marks.items in
     let settled = c.in_ok-marks.ensures.marks in
     let are = are_journals net ports sources c.requires.conns c.requires.ports in
     let first = subst (λ m. IsFirstMark net m sp pp c.in-Some.field-0) c.deref.ensures.value c.in-Some.ensures.first in
-    (events, board.stands.rates, all_still net js are c.in-Some.ensures.rules (reverse events) ms board.placed settled, first_is net js are events world sp pp ms c.in-Some.field-0 board settled first)
+    (events, progress.stands.rates, all_still net js are c.in-Some.ensures.rules (reverse events) ms progress.placed settled, first_is net js are events world sp pp ms c.in-Some.field-0 progress settled first)
 
 pub returns-then-not-is_empty-clause-err : goal.returns-then-not-is_empty-clause-err
 returns-then-not-is_empty-clause-err c =
@@ -40,15 +40,15 @@ returns-then-not-is_empty-clause-err c =
     let ports = c.args.given.now.ports.now in
     let sources = c.args.given.now.sources.now in
     let js = journaled ports sources in
-    let events = c.settle.new.board.events.items in
-    let board = c.in_ok-marks.ensures.board in
+    let events = c.settle.new.progress.events.items in
+    let progress = c.in_ok-marks.ensures.progress in
     let ms = c.in_ok-marks.marks.items in
     let settled = c.in_ok-marks.ensures.marks in
     let are = are_journals net ports sources c.requires.conns c.requires.ports in
     let none : AreUnmarked ms (length ms) = subst (λ m. AreUnmarked m (length m)) c.deref.ensures.value c.in_default.ensures.first in (
       events,
-      board.stands.rates,
-      all_still net js are c.in_default.ensures.rules (reverse events) ms board.placed settled,
+      progress.stands.rates,
+      all_still net js are c.in_default.ensures.rules (reverse events) ms progress.placed settled,
       none_mismatch net js are (reverse events) ms settled none,
       c.in_ok-left.ensures,
       some_left c.in_ok-left.left (sym c.is_empty.ensures ∙ c.if-not-is_empty.true),
@@ -60,16 +60,16 @@ returns-clause-ok c =
     let ports = c.args.given.now.ports.now in
     let sources = c.args.given.now.sources.now in
     let js = journaled ports sources in
-    let events = c.settle.new.board.events.items in
-    let board = c.in_ok-marks.ensures.board in
-    let sp = c.settle.new.board.source_places.items in
-    let pp = c.settle.new.board.port_places.items in
+    let events = c.settle.new.progress.events.items in
+    let progress = c.in_ok-marks.ensures.progress in
+    let sp = c.settle.new.progress.source_places.items in
+    let pp = c.settle.new.progress.port_places.items in
     let none : all_left net js (reverse events) ≡ [] = sym c.in_ok-left.ensures ∙ empty_is c.in_ok-left.left (sym c.is_empty.ensures ∙ c.if-not-is_empty.false) in
-    subst (λ l. IsWoven net js.ports js.sources l) (sym c.from.ensures) (all_woven net js events c.settle.new.board.world sp pp board none)
+    subst (λ l. IsWoven net js.ports js.sources l) (sym c.from.ensures) (all_woven net js events c.settle.new.progress.world sp pp progress none)
 
 pub returns-clause-shown : goal.returns-clause-shown
 returns-clause-shown c =
-    subst (λ l. AreShown c.args.given.now.net.now (journaled c.args.given.now.ports.now c.args.given.now.sources.now) (reverse l)) (sym c.from.ensures) c.in_ok-marks.ensures.board.shown
+    subst (λ l. AreShown c.args.given.now.net.now (journaled c.args.given.now.ports.now c.args.given.now.sources.now) (reverse l)) (sym c.from.ensures) c.in_ok-marks.ensures.progress.shown
 
 pub returns-clause-leaves : goal.returns-clause-leaves
 returns-clause-leaves c =
@@ -77,15 +77,15 @@ returns-clause-leaves c =
     let ports = c.args.given.now.ports.now in
     let sources = c.args.given.now.sources.now in
     let js = journaled ports sources in
-    let events = c.settle.new.board.events.items in
-    let board = c.in_ok-marks.ensures.board in
+    let events = c.settle.new.progress.events.items in
+    let progress = c.in_ok-marks.ensures.progress in
     let none : all_left net js (reverse events) ≡ [] = sym c.in_ok-left.ensures ∙ empty_is c.in_ok-left.left (sym c.is_empty.ensures ∙ c.if-not-is_empty.false) in
-    let woven = all_woven net js events c.settle.new.board.world c.settle.new.board.source_places.items c.settle.new.board.port_places.items board none in
-    subst (λ l. LeavesAsJournaled net js.ports js.sources (facts_after net l)) (sym c.from.ensures) (leaves net js.ports js.sources events c.in_default.ensures.rules board.stands.rates woven)
+    let woven = all_woven net js events c.settle.new.progress.world c.settle.new.progress.source_places.items c.settle.new.progress.port_places.items progress none in
+    subst (λ l. LeavesAsJournaled net js.ports js.sources (facts_after net l)) (sym c.from.ensures) (leaves net js.ports js.sources events c.in_default.ensures.rules progress.stands.rates woven)
 
 pub returns-clause-headline : goal.returns-clause-headline
 returns-clause-headline c before after is =
-    headline_before c.args.given.now.net.now before after c.settle.new.board.events.items c.in_default.ensures.rules c.in_ok-marks.ensures.board.stands.rates (is ∙ c.from.ensures)
+    headline_before c.args.given.now.net.now before after c.settle.new.progress.events.items c.in_default.ensures.rules c.in_ok-marks.ensures.progress.stands.rates (is ∙ c.from.ensures)
 
 pub returns-in-Some-clause-none : goal.returns-in-Some-clause-none
 returns-in-Some-clause-none c =
@@ -93,17 +93,17 @@ returns-in-Some-clause-none c =
     let ports = c.args.given.now.ports.now in
     let sources = c.args.given.now.sources.now in
     let js = journaled ports sources in
-    let events = c.settle.new.board.events.items in
-    let board = c.in_ok-marks.ensures.board in
+    let events = c.settle.new.progress.events.items in
+    let progress = c.in_ok-marks.ensures.progress in
     let ms = c.in_ok-marks.marks.items in
     let settled = c.in_ok-marks.ensures.marks in
     let are = are_journals net ports sources c.requires.conns c.requires.ports in
     let end : HaveEnded net js (reverse events) = record {
       rules = c.in-Some.ensures.rules;
-      rates = all_reversed AsksRate events board.stands.rates;
-      stands = all_still net js are c.in-Some.ensures.rules (reverse events) ms board.placed settled;
+      rates = all_reversed AsksRate events progress.stands.rates;
+      stands = all_still net js are c.in-Some.ensures.rules (reverse events) ms progress.placed settled;
     } in
-    let first = subst (λ m. IsFirstMark net m c.settle.new.board.source_places.items c.settle.new.board.port_places.items c.in-Some.field-0) c.deref.ensures.value c.in-Some.ensures.first in
+    let first = subst (λ m. IsFirstMark net m c.settle.new.progress.source_places.items c.settle.new.progress.port_places.items c.in-Some.field-0) c.deref.ensures.value c.in-Some.ensures.first in
     mismatch_none net js (reverse events) (actor_at net first.number) end are (settled.each first.number true first.marked)
 
 pub returns-then-not-is_empty-clause-none : goal.returns-then-not-is_empty-clause-none
@@ -112,14 +112,14 @@ returns-then-not-is_empty-clause-none c =
     let ports = c.args.given.now.ports.now in
     let sources = c.args.given.now.sources.now in
     let js = journaled ports sources in
-    let events = c.settle.new.board.events.items in
-    let board = c.in_ok-marks.ensures.board in
+    let events = c.settle.new.progress.events.items in
+    let progress = c.in_ok-marks.ensures.progress in
     let ms = c.in_ok-marks.marks.items in
     let settled = c.in_ok-marks.ensures.marks in
     let are = are_journals net ports sources c.requires.conns c.requires.ports in
     let end : HaveEnded net js (reverse events) = record {
       rules = c.in_default.ensures.rules;
-      rates = all_reversed AsksRate events board.stands.rates;
-      stands = all_still net js are c.in_default.ensures.rules (reverse events) ms board.placed settled;
+      rates = all_reversed AsksRate events progress.stands.rates;
+      stands = all_still net js are c.in_default.ensures.rules (reverse events) ms progress.placed settled;
     } in
     order_none net js (reverse events) c.in_ok-left.left end are c.in_ok-left.ensures (some_left c.in_ok-left.left (sym c.is_empty.ensures ∙ c.if-not-is_empty.true))

@@ -7,12 +7,12 @@ use Rattle.abt_node.specs.Table.{Table}
 use Rattle.abt_net.specs.Topology.{Topology, IsWithinRules, conn_at}
 use Rattle.abt_net.specs.declared.conn.Conn.{Conn}
 use Rattle.abt_actor.specs.Actor.{ActorView}
-use Rattle.abt_log.specs.Index.{Index}
+use Rattle.abt_index.specs.Index.{Index}
 use Rattle.abt_model.specs.Outcomes.{conn_of, after_event}
 use Rattle.abt_model.specs.Past.{facts_of}
 use Rattle.abt_model.specs.Run.{facts_after}
 use Rattle.abt_model.proofs.Worlds.{cases_option}
-use Rattle.abt_world.specs.Courses.{CourseView}
+use Rattle.abt_world.specs.ConnectionStates.{ConnectionView}
 use Rattle.abt_world.specs.Looked.{looks_at, looks_by, hops_asked}
 use Rattle.abt_facts.specs.Source.{rate_of}
 use Rattle.abt_world.specs.Seen.{seen}
@@ -42,8 +42,8 @@ of_one (Some c) e some = absurd (cc)
 pub returns-in_default-clause-outcome : goal.returns-in_default-clause-outcome
 returns-in_default-clause-outcome c net events stands =
     let e = c.args.event.now in
-    let before : StandsFor net events (record { net = c.self.inside.net.now; ports = c.self.inside.ports.items; courses = map seen c.self.inside.courses.items; looks = c.self.inside.looks }) = subst (StandsFor net events) (sym c.self.view_is) stands in
-    let world : WorldView = record { net = c.self.inside.net.now; ports = c.self.inside.ports.items; courses = map seen c.self.inside.courses.items; looks = c.self.inside.looks } in
+    let before : StandsFor net events (record { net = c.self.inside.net.now; ports = c.self.inside.ports.items; connections = map seen c.self.inside.connections.items; looks = c.self.inside.looks }) = subst (StandsFor net events) (sym c.self.view_is) stands in
+    let world : WorldView = record { net = c.self.inside.net.now; ports = c.self.inside.ports.items; connections = map seen c.self.inside.connections.items; looks = c.self.inside.looks } in
     let count = ap length c.conns.ensures.value ∙ ap (λ (n : Topology). length n.conns) before.stands.net_is in
     elim (cases_option (conn_of e)) [
       | inl alone ↦ absurd (of_one (conn_of e) alone c.requires)
@@ -52,25 +52,25 @@ returns-in_default-clause-outcome c net events stands =
 
 pub returns-in-Err-clause-same : goal.returns-in-Err-clause-same
 returns-in-Err-clause-same c =
-    let courses = c.self.inside.courses.items in
+    let connections = c.self.inside.connections.items in
     let held = c.self.inside.ports.items in
-    let old = c.index_mut-course.result.now in
+    let old = c.index_mut-connection.result.now in
     let new = c.take.new.self in
     let low = c.in-Some.ensures.some.1 in
     let count = ap length c.conns.ensures.value in
     let same_place = c.counting.ensures.value in
     let many = c.self.invariant.0 in
-    let low2 : c.counting.result < length courses = omega arith in
-    let there : slice_get courses c.counting.result ≡ Some old = slice_get-get_or courses c.counting.result old low2 ∙ ap Some (sym c.index_mut-course.ensures.value) in
-    let was : slice_get (map seen courses) c.counting.result ≡ Some (seen old) = slice_get-map seen courses c.counting.result ∙ ap (option_map seen) there in
+    let low2 : c.counting.result < length connections = omega arith in
+    let there : slice_get connections c.counting.result ≡ Some old = slice_get-get_or connections c.counting.result old low2 ∙ ap Some (sym c.index_mut-connection.ensures.value) in
+    let was : slice_get (map seen connections) c.counting.result ≡ Some (seen old) = slice_get-map seen connections c.counting.result ∙ ap (option_map seen) there in
     let same = c.in-Err.ensures.memory in
     let kept : c.take.new.ports ≡ held = same.2 ∙ c.deref_mut.ensures.value in
     let written = written_over c.self.inside.ports.len c.take.new.ports held c.self.inside.ports.ok.0 (ap length kept) ∙ kept in
     let seen_same : seen new ≡ seen old = ap (λ (a : ActorView). record { actor = a; index = new.log.index }) same.0 ∙ ap (λ (i : Index). record { actor = old.actor; index = i }) same.1 in
-    let left : map seen (slice_set courses c.counting.result new) ≡ map seen courses =
-    map_set seen courses c.counting.result new ∙ ap (slice_set (map seen courses) c.counting.result) seen_same ∙ set_same (map seen courses) c.counting.result (seen old) was in
-    let view : List Table → List CourseView → WorldView = λ ps cs. record { net = c.self.inside.net.now; ports = ps; courses = cs; looks = c.self.inside.looks } in
-    ap (λ (ps : List Table). view ps (map seen (slice_set courses c.counting.result new))) written ∙ ap (view held) left ∙ c.self.view_is
+    let left : map seen (slice_set connections c.counting.result new) ≡ map seen connections =
+    map_set seen connections c.counting.result new ∙ ap (slice_set (map seen connections) c.counting.result) seen_same ∙ set_same (map seen connections) c.counting.result (seen old) was in
+    let view : List Table → List ConnectionView → WorldView = λ ps cs. record { net = c.self.inside.net.now; ports = ps; connections = cs; looks = c.self.inside.looks } in
+    ap (λ (ps : List Table). view ps (map seen (slice_set connections c.counting.result new))) written ∙ ap (view held) left ∙ c.self.view_is
 
 pub returns-in-Err-clause-outcome : goal.returns-in-Err-clause-outcome
 returns-in-Err-clause-outcome c net events stands = subst (StandsFor net events) (sym (returns-in-Err-clause-same c)) stands
@@ -80,17 +80,17 @@ returns-in-Ok-clause-outcome c net events stands =
     let e = c.args.event.now in
     let past = facts_after net events in
     let conn = c.index-conns-place.result in
-    let courses = c.self.inside.courses.items in
+    let connections = c.self.inside.connections.items in
     let held = c.self.inside.ports.items in
     let ports = c.take.new.ports in
-    let old = c.index_mut-course.result.now in
+    let old = c.index_mut-connection.result.now in
     let new = c.take.new.self in
     let looks = c.count-self-inside.result in
     let low = c.in-Some.ensures.some.1 in
-    let before : StandsFor net events (record { net = c.self.inside.net.now; ports = held; courses = map seen courses; looks = c.self.inside.looks }) = subst (StandsFor net events) (sym c.self.view_is) stands in
+    let before : StandsFor net events (record { net = c.self.inside.net.now; ports = held; connections = map seen connections; looks = c.self.inside.looks }) = subst (StandsFor net events) (sym c.self.view_is) stands in
     let net_is : c.self.inside.net.now ≡ net = before.stands.net_is in
-    let here : StandsFor net events (record { net = net; ports = held; courses = map seen courses; looks = c.self.inside.looks }) =
-    subst (λ (n : Topology). StandsFor net events (record { net = n; ports = held; courses = map seen courses; looks = c.self.inside.looks })) net_is before in
+    let here : StandsFor net events (record { net = net; ports = held; connections = map seen connections; looks = c.self.inside.looks }) =
+    subst (λ (n : Topology). StandsFor net events (record { net = n; ports = held; connections = map seen connections; looks = c.self.inside.looks })) net_is before in
     let rules : IsWithinRules net = subst IsWithinRules net_is c.conns.ensures.rules in
     let n = c.in-Some.place in
     let own : conn_of e ≡ Some n = c.in-Some.ensures.some.0 in
@@ -102,21 +102,21 @@ returns-in-Ok-clause-outcome c net events stands =
     let low2 : c.in-Some.place < length c.conns-2.result.now = omega arith in
     let known : conn_at net n ≡ Some conn =
     sym (ap (λ (l : List Conn). slice_get l n) conns2) ∙ slice_get-get_or c.conns-2.result.now c.in-Some.place conn low2 ∙ ap Some (sym c.index-conns-place.is) in
-    let many : length courses ≡ length net.conns = c.self.invariant.0 ∙ ap (λ (n : Topology). length n.conns) net_is in
-    let low3 : c.counting.result < length courses = omega arith in
-    let there : slice_get courses c.counting.result ≡ Some old = slice_get-get_or courses c.counting.result old low3 ∙ ap Some (sym c.index_mut-course.ensures.value) in
-    let r = ready net events n held courses c.self.inside.looks conn old rules here known (sym (ap (slice_get courses) place) ∙ there) in
+    let many : length connections ≡ length net.conns = c.self.invariant.0 ∙ ap (λ (n : Topology). length n.conns) net_is in
+    let low3 : c.counting.result < length connections = omega arith in
+    let there : slice_get connections c.counting.result ≡ Some old = slice_get-get_or connections c.counting.result old low3 ∙ ap Some (sym c.index_mut-connection.ensures.value) in
+    let r = ready net events n held connections c.self.inside.looks conn old rules here known (sym (ap (slice_get connections) place) ∙ there) in
     let are : ArePorts net past c.deref_mut.result.now = subst (ArePorts net past) (sym c.deref_mut.ensures.value) here.stands.ports in
     let leaves = c.in-Ok.ensures.outcome net past n (facts_of n past) r.log c.asks_rate.ensures own r.at are r.actor in
     let written = written_over c.self.inside.ports.len ports held c.self.inside.ports.ok.0 (port_count net (after_event net past e) ports leaves.tables ∙ sym (port_count net past held here.stands.ports)) in
-    let number : length (map seen courses) ≡ length courses = length-map courses seen in
-    let low4 : n < length (map seen courses) = omega arith in
-    let step = step_taken net events (record { net = c.self.inside.net.now; ports = held; courses = map seen courses; looks = c.self.inside.looks }) e n conn c.in-Ok.outcome (seen new) ports looks before c.asks_rate.ensures own known low4 leaves in
-    let set : slice_set (map seen courses) n (seen new) ≡ map seen (slice_set courses c.counting.result new) =
-    ap (λ (p : ℕ). slice_set (map seen courses) p (seen new)) (sym place) ∙ sym (map_set seen courses c.counting.result new) in (
+    let number : length (map seen connections) ≡ length connections = length-map connections seen in
+    let low4 : n < length (map seen connections) = omega arith in
+    let step = step_taken net events (record { net = c.self.inside.net.now; ports = held; connections = map seen connections; looks = c.self.inside.looks }) e n conn c.in-Ok.outcome (seen new) ports looks before c.asks_rate.ensures own known low4 leaves in
+    let set : slice_set (map seen connections) n (seen new) ≡ map seen (slice_set connections c.counting.result new) =
+    ap (λ (p : ℕ). slice_set (map seen connections) p (seen new)) (sym place) ∙ sym (map_set seen connections c.counting.result new) in (
       step.0,
-      subst (λ (ps : List Table). StandsFor net (events ++ e ∷ []) (record { net = c.self.inside.net.now; ports = ps; courses = map seen (slice_set courses c.counting.result new); looks = looks })) (sym written)
-          (subst (λ (cs : List CourseView). StandsFor net (events ++ e ∷ []) (record { net = c.self.inside.net.now; ports = ports; courses = cs; looks = looks })) set step.1),
+      subst (λ (ps : List Table). StandsFor net (events ++ e ∷ []) (record { net = c.self.inside.net.now; ports = ps; connections = map seen (slice_set connections c.counting.result new); looks = looks })) (sym written)
+          (subst (λ (cs : List ConnectionView). StandsFor net (events ++ e ∷ []) (record { net = c.self.inside.net.now; ports = ports; connections = cs; looks = looks })) set step.1),
     )
 
 pub returns-in_default-clause-headline : goal.returns-in_default-clause-headline
@@ -147,10 +147,10 @@ pub invariant_of-self-in-Ok : goal.invariant_of-self-in-Ok
 invariant_of-self-in-Ok c =
     let net = c.self.inside.net.now in
     let conn = c.index-conns-place.result in
-    let courses = c.self.inside.courses.items in
+    let connections = c.self.inside.connections.items in
     let held = c.self.inside.ports.items in
     let ports = c.take.new.ports in
-    let old = c.index_mut-course.result.now in
+    let old = c.index_mut-connection.result.now in
     let new = c.take.new.self in
     let port = visited conn c.args.event.now in
     let rules = c.self.invariant.1 in
@@ -163,20 +163,20 @@ invariant_of-self-in-Ok c =
     let known : slice_get net.conns c.counting.result ≡ Some conn =
     ap (slice_get net.conns) same_place ∙ sym (ap (λ (l : List Conn). slice_get l c.in-Some.place) c.conns-2.ensures.value)
     ∙ slice_get-get_or c.conns-2.result.now c.in-Some.place conn low2 ∙ ap Some (sym c.index-conns-place.is) in
-    let low3 : c.counting.result < length courses = omega arith in
-    let there : slice_get courses c.counting.result ≡ Some old = slice_get-get_or courses c.counting.result old low3 ∙ ap Some (sym c.index_mut-course.ensures.value) in
-    let was : slice_get (map seen courses) c.counting.result ≡ Some (seen old) = slice_get-map seen courses c.counting.result ∙ ap (option_map seen) there in
+    let low3 : c.counting.result < length connections = omega arith in
+    let there : slice_get connections c.counting.result ≡ Some old = slice_get-get_or connections c.counting.result old low3 ∙ ap Some (sym c.index_mut-connection.ensures.value) in
+    let was : slice_get (map seen connections) c.counting.result ≡ Some (seen old) = slice_get-map seen connections c.counting.result ∙ ap (option_map seen) there in
     let touches : Touches port conn.vc held ports = subst (λ (ps : List Table). Touches port conn.vc ps ports) c.deref_mut.ensures.value c.in-Ok.ensures.touches in
     let written = written_over c.self.inside.ports.len ports held c.self.inside.ports.ok.0 (rewrites_length port held ports touches.0) in
-    let some = counted_before net held ports (map seen courses) c.counting.result port conn (seen old) c.self.inside.tally
+    let some = counted_before net held ports (map seen connections) c.counting.result port conn (seen old) c.self.inside.violations
     c.self.invariant.2 rules.own_channels known was touches in
     let over_is : over_at c.visited-port.result c.deref.result.now ≡ over_at port held =
     ap (λ (o : Option ℕ). over_at o c.deref.result.now) c.visited-port.ensures ∙ ap (over_at port) c.deref.ensures.value in
     let above_is : shapes_above c.deref.result.now (conn, seen old) ≡ shapes_above held (conn, seen old) =
     ap (λ (ps : List Table). shapes_above ps (conn, seen old)) c.deref.ensures.value in
     let before : AreMarks net held conn (seen old) port c.counted_marks-before.result = record {
-      above = c.counted_marks-before.ensures.above (subst (λ b. one_if b ≤ c.self.inside.tally.above) (sym above_is) some.0) ∙ above_is;
-      over = c.counted_marks-before.ensures.over (subst (λ b. one_if b ≤ c.self.inside.tally.over) (sym over_is) some.1) ∙ over_is;
+      above = c.counted_marks-before.ensures.above (subst (λ b. one_if b ≤ c.self.inside.violations.above) (sym above_is) some.0) ∙ above_is;
+      over = c.counted_marks-before.ensures.over (subst (λ b. one_if b ≤ c.self.inside.violations.over) (sym over_is) some.1) ∙ over_is;
       broken = c.counted_marks-before.ensures.broken some.2;
     } in
     let changes : ChangesOne c.visited-port.result conn.vc conn.path held c.deref-in-Ok.result.now =
@@ -192,40 +192,40 @@ invariant_of-self-in-Ok c =
     } in
     let few : length net.conns < 2 ^ 63 = omega (arith, rules.connections) in
     let few_ports : length held < 2 ^ 63 = omega (arith, rules.ports, c.self.invariant.3) in
-    let told = tallied_after net held ports (map seen courses) c.counting.result port conn (seen old) (seen new) c.self.inside.tally c.after-self-inside.result c.counted_marks-before.result c.marks_after-after.result
-    c.self.invariant.2 rules.own_channels (length-map courses seen ∙ many) few few_ports known was touches before after
+    let told = tallied_after net held ports (map seen connections) c.counting.result port conn (seen old) (seen new) c.self.inside.violations c.after-self-inside.result c.counted_marks-before.result c.marks_after-after.result
+    c.self.invariant.2 rules.own_channels (length-map connections seen ∙ many) few few_ports known was touches before after
     c.after-self-inside.ensures.above c.after-self-inside.ensures.over c.after-self-inside.ensures.broken in (
-      length-set courses c.counting.result new ∙ many,
+      length-set connections c.counting.result new ∙ many,
       rules,
-      subst (λ (ps : List Table). IsTallied net ps (map seen (slice_set courses c.counting.result new)) c.after-self-inside.result) (sym written)
-          (subst (λ (cs : List CourseView). IsTallied net ports cs c.after-self-inside.result) (sym (map_set seen courses c.counting.result new)) told),
+      subst (λ (ps : List Table). IsTallied net ps (map seen (slice_set connections c.counting.result new)) c.after-self-inside.result) (sym written)
+          (subst (λ (cs : List ConnectionView). IsTallied net ports cs c.after-self-inside.result) (sym (map_set seen connections c.counting.result new)) told),
       ap length written ∙ rewrites_length port held ports touches.0 ∙ c.self.invariant.3,
     )
 
 pub invariant_of-self-in-Err : goal.invariant_of-self-in-Err
 invariant_of-self-in-Err c =
     let net = c.self.inside.net.now in
-    let courses = c.self.inside.courses.items in
+    let connections = c.self.inside.connections.items in
     let held = c.self.inside.ports.items in
-    let old = c.index_mut-course.result.now in
+    let old = c.index_mut-connection.result.now in
     let new = c.take.new.self in
     let low = c.in-Some.ensures.some.1 in
     let count = ap length c.conns.ensures.value in
     let same_place = c.counting.ensures.value in
     let many = c.self.invariant.0 in
-    let low3 : c.counting.result < length courses = omega arith in
-    let there : slice_get courses c.counting.result ≡ Some old = slice_get-get_or courses c.counting.result old low3 ∙ ap Some (sym c.index_mut-course.ensures.value) in
-    let was : slice_get (map seen courses) c.counting.result ≡ Some (seen old) = slice_get-map seen courses c.counting.result ∙ ap (option_map seen) there in
+    let low3 : c.counting.result < length connections = omega arith in
+    let there : slice_get connections c.counting.result ≡ Some old = slice_get-get_or connections c.counting.result old low3 ∙ ap Some (sym c.index_mut-connection.ensures.value) in
+    let was : slice_get (map seen connections) c.counting.result ≡ Some (seen old) = slice_get-map seen connections c.counting.result ∙ ap (option_map seen) there in
     let same = c.in-Err.ensures.memory in
     let kept : c.take.new.ports ≡ held = same.2 ∙ c.deref_mut.ensures.value in
     let written = written_over c.self.inside.ports.len c.take.new.ports held c.self.inside.ports.ok.0 (ap length kept) ∙ kept in
     let seen_same : seen new ≡ seen old = ap (λ (a : ActorView). record { actor = a; index = new.log.index }) same.0 ∙ ap (λ (i : Index). record { actor = old.actor; index = i }) same.1 in
-    let left : map seen (slice_set courses c.counting.result new) ≡ map seen courses =
-    map_set seen courses c.counting.result new ∙ ap (slice_set (map seen courses) c.counting.result) seen_same ∙ set_same (map seen courses) c.counting.result (seen old) was in (
-      length-set courses c.counting.result new ∙ many,
+    let left : map seen (slice_set connections c.counting.result new) ≡ map seen connections =
+    map_set seen connections c.counting.result new ∙ ap (slice_set (map seen connections) c.counting.result) seen_same ∙ set_same (map seen connections) c.counting.result (seen old) was in (
+      length-set connections c.counting.result new ∙ many,
       c.self.invariant.1,
-      subst (λ (ps : List Table). IsTallied net ps (map seen (slice_set courses c.counting.result new)) c.self.inside.tally) (sym written)
-          (subst (λ (cs : List CourseView). IsTallied net held cs c.self.inside.tally) (sym left) c.self.invariant.2),
+      subst (λ (ps : List Table). IsTallied net ps (map seen (slice_set connections c.counting.result new)) c.self.inside.violations) (sym written)
+          (subst (λ (cs : List ConnectionView). IsTallied net held cs c.self.inside.violations) (sym left) c.self.invariant.2),
       ap length written ∙ c.self.invariant.3,
     )
 
@@ -234,16 +234,16 @@ returns-in-Ok-clause-counted c net events stands =
     let e = c.args.event.now in
     let past = facts_after net events in
     let conn = c.index-conns-place.result in
-    let courses = c.self.inside.courses.items in
+    let connections = c.self.inside.connections.items in
     let held = c.self.inside.ports.items in
     let ports = c.deref-in-Ok.result.now in
-    let old = c.index_mut-course.result.now in
+    let old = c.index_mut-connection.result.now in
     let new = c.take.new.self in
     let low = c.in-Some.ensures.some.1 in
-    let before : StandsFor net events (record { net = c.self.inside.net.now; ports = held; courses = map seen courses; looks = c.self.inside.looks }) = subst (StandsFor net events) (sym c.self.view_is) stands in
+    let before : StandsFor net events (record { net = c.self.inside.net.now; ports = held; connections = map seen connections; looks = c.self.inside.looks }) = subst (StandsFor net events) (sym c.self.view_is) stands in
     let net_is : c.self.inside.net.now ≡ net = before.stands.net_is in
-    let here : StandsFor net events (record { net = net; ports = held; courses = map seen courses; looks = c.self.inside.looks }) =
-    subst (λ (n : Topology). StandsFor net events (record { net = n; ports = held; courses = map seen courses; looks = c.self.inside.looks })) net_is before in
+    let here : StandsFor net events (record { net = net; ports = held; connections = map seen connections; looks = c.self.inside.looks }) =
+    subst (λ (n : Topology). StandsFor net events (record { net = n; ports = held; connections = map seen connections; looks = c.self.inside.looks })) net_is before in
     let rules : IsWithinRules net = subst IsWithinRules net_is c.conns.ensures.rules in
     let n = c.in-Some.place in
     let own : conn_of e ≡ Some n = c.in-Some.ensures.some.0 in
@@ -255,16 +255,16 @@ returns-in-Ok-clause-counted c net events stands =
     let low2 : c.in-Some.place < length c.conns-2.result.now = omega arith in
     let known : conn_at net n ≡ Some conn =
     sym (ap (λ (l : List Conn). slice_get l n) conns2) ∙ slice_get-get_or c.conns-2.result.now c.in-Some.place conn low2 ∙ ap Some (sym c.index-conns-place.is) in
-    let many : length courses ≡ length net.conns = c.self.invariant.0 ∙ ap (λ (n : Topology). length n.conns) net_is in
-    let low3 : c.counting.result < length courses = omega arith in
-    let low4 : n < length courses = omega arith in
-    let there : slice_get courses c.counting.result ≡ Some old = slice_get-get_or courses c.counting.result old low3 ∙ ap Some (sym c.index_mut-course.ensures.value) in
-    let r = ready net events n held courses c.self.inside.looks conn old rules here known (sym (ap (slice_get courses) place) ∙ there) in
+    let many : length connections ≡ length net.conns = c.self.invariant.0 ∙ ap (λ (n : Topology). length n.conns) net_is in
+    let low3 : c.counting.result < length connections = omega arith in
+    let low4 : n < length connections = omega arith in
+    let there : slice_get connections c.counting.result ≡ Some old = slice_get-get_or connections c.counting.result old low3 ∙ ap Some (sym c.index_mut-connection.ensures.value) in
+    let r = ready net events n held connections c.self.inside.looks conn old rules here known (sym (ap (slice_get connections) place) ∙ there) in
     let are : ArePorts net past c.deref_mut.result.now = subst (ArePorts net past) (sym c.deref_mut.ensures.value) here.stands.ports in
-    let kept : IsTallied net held (map seen courses) c.self.inside.tally = subst (λ (n : Topology). IsTallied n held (map seen courses) c.self.inside.tally) net_is c.self.invariant.2 in
-    let none = past_counts_nothing net events courses held c.self.inside.tally (record { rules = rules; looks = c.self.inside.looks; stands = here }) kept in
+    let kept : IsTallied net held (map seen connections) c.self.inside.violations = subst (λ (n : Topology). IsTallied n held (map seen connections) c.self.inside.violations) net_is c.self.invariant.2 in
+    let none = past_counts_nothing net events connections held c.self.inside.violations (record { rules = rules; looks = c.self.inside.looks; stands = here }) kept in
     let after = (returns-in-Ok-clause-outcome c net events stands).1 in
-    let left : AreOfPast net (events ++ e ∷ []) (slice_set courses c.counting.result new) ports = record {
+    let left : AreOfPast net (events ++ e ∷ []) (slice_set connections c.counting.result new) ports = record {
       rules = rules;
       looks = c.count-self-inside.result;
       stands = record {
@@ -272,12 +272,12 @@ returns-in-Ok-clause-counted c net events stands =
         stands = record {
           net_is = refl;
           ports = subst (ArePorts net (facts_after net (events ++ e ∷ []))) (sym c.deref-in-Ok.ensures.value) after.stands.ports;
-          courses = after.stands.courses;
+          connections = after.stands.connections;
         };
       };
     } in
-    let set : slice_get (slice_set courses c.counting.result new) n ≡ Some new = ap (λ (p : ℕ). slice_get (slice_set courses p new) n) place ∙ set_here courses n new low4 in
-    let looked = path_looked net (events ++ e ∷ []) (slice_set courses c.counting.result new) ports n conn new left known set in
+    let set : slice_get (slice_set connections c.counting.result new) n ≡ Some new = ap (λ (p : ℕ). slice_get (slice_set connections p new) n) place ∙ set_here connections n new low4 in
+    let looked = path_looked net (events ++ e ∷ []) (slice_set connections c.counting.result new) ports n conn new left known set in
     let few : length conn.path ≤ 16 = few_hops net past n conn (facts_of n past) r.at in
     let first = c.counting.ensures.count in
     let start = c.new-looks.ensures in

@@ -17,7 +17,7 @@ use Rattle.abt_world.proofs.world.World.at_port.Goals as goal
 
 pub returns-then-place-len-clause-outcome : goal.returns-then-place-len-clause-outcome
 returns-then-place-len-clause-outcome c net events stands =
-    let world : WorldView = record { net = c.self.inside.net.now; ports = c.self.inside.ports.items; courses = map seen c.self.inside.courses.items; looks = c.self.inside.looks } in
+    let world : WorldView = record { net = c.self.inside.net.now; ports = c.self.inside.ports.items; connections = map seen c.self.inside.connections.items; looks = c.self.inside.looks } in
     let before : StandsFor net events world = subst (StandsFor net events) (sym c.self.view_is) stands in
     let count = c.len.ensures in
     let behind = c.if-place-len.true in
@@ -33,7 +33,7 @@ pub invariant_of-self-2 : goal.invariant_of-self-2
 invariant_of-self-2 c =
     let net = c.self.inside.net.now in
     let ports = c.self.inside.ports.items in
-    let courses = c.self.inside.courses.items in
+    let connections = c.self.inside.connections.items in
     let p = c.counting.result in
     let old = c.index_mut-link.result.now in
     let new = c.set_capacity-outcome.new.port in
@@ -45,8 +45,8 @@ invariant_of-self-2 c =
     let at : slice_get ports c.counting.result ≡ Some old = slice_get-get_or ports c.counting.result old low ∙ ap Some (sym c.index_mut-link.ensures.value) in
     let few : length net.conns < 2 ^ 63 = omega (arith, rules.connections) in
     let few_ports : length ports < 2 ^ 63 = omega (arith, rules.ports, c.self.invariant.3) in
-    let told = tallied_alone net ports (map seen courses) c.counting.result old new c.self.inside.tally c.after-self-inside.result c.of_port-was.result c.of_port-is.result
-    c.self.invariant.2 (length-map courses seen ∙ c.self.invariant.0) few few_ports at
+    let told = tallied_alone net ports (map seen connections) c.counting.result old new c.self.inside.violations c.after-self-inside.result c.of_port-was.result c.of_port-is.result
+    c.self.invariant.2 (length-map connections seen ∙ c.self.invariant.0) few few_ports at
     (λ vc q. subst (λ (t : Table). held_by_port vc (slice_set ports p t) q ≡ held_by_port vc ports q) (sym c.set_capacity-outcome.ensures.table) (held_capped ports p c.args.capacity old at vc q))
     (c.of_port-was.ensures.above, c.of_port-was.ensures.over, c.of_port-was.ensures.broken)
     (c.of_port-is.ensures.above, c.of_port-is.ensures.over, c.of_port-is.ensures.broken)
@@ -59,7 +59,7 @@ returns-clause-outcome c net events stands =
     let old = c.index_mut-link.result.now in
     let new = c.set_capacity-outcome.new.port in
     let looks = c.count-self-inside-2.result in
-    let world : WorldView = record { net = c.self.inside.net.now; ports = ports; courses = map seen c.self.inside.courses.items; looks = c.self.inside.looks } in
+    let world : WorldView = record { net = c.self.inside.net.now; ports = ports; connections = map seen c.self.inside.connections.items; looks = c.self.inside.looks } in
     let before : StandsFor net events world = subst (StandsFor net events) (sym c.self.view_is) stands in
     let rules : IsWithinRules net = subst IsWithinRules before.stands.net_is c.self.invariant.1 in
     let count = c.len.ensures in
@@ -69,7 +69,7 @@ returns-clause-outcome c net events stands =
     let at : slice_get ports c.counting.result ≡ Some old = slice_get-get_or ports c.counting.result old low ∙ ap Some (sym c.index_mut-link.ensures.value) in
     let step = step_capped net events world c.counting.result c.args.capacity looks c.set_capacity-outcome.result old new rules before at c.set_capacity-outcome.ensures.outcome c.set_capacity-outcome.ensures.table in
     subst (λ (n : ℕ). (c.set_capacity-outcome.result ≡ outcome_of net (facts_after net events) (Capacity n c.args.capacity))
-    × StandsFor net (events ++ Capacity n c.args.capacity ∷ []) (record { net = world.net; ports = slice_set ports c.counting.result new; courses = world.courses; looks = looks }))
+    × StandsFor net (events ++ Capacity n c.args.capacity ∷ []) (record { net = world.net; ports = slice_set ports c.counting.result new; connections = world.connections; looks = looks }))
     (c.counting.ensures.value ∙ c.from-place.ensures) step
 
 pub returns-clause-headline : goal.returns-clause-headline

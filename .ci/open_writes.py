@@ -1,0 +1,183 @@
+"""Audits logs that can't tell whether a write that failed was stored.
+
+Sources are drawn that start, ask over a store which fails, emit and crash. The slow model writes their journals, and those of each sample. Then
+each store that failed says no more than that. The model tries all ways to settle these, `before` first: of those in which every source answers
+what the log tells, the first is wanted, in the scenario that `abt audit --events` writes. With a number that no way shows, no list of events is
+woven.
+
+usage: open_writes.py PROGRAM..
+"""
+import itertools
+import json
+import random
+import sys
+import tempfile
+from pathlib import Path
+
+ROOT = Path(__file__).resolve().parent.parent
+sys.path.insert(0, str(ROOT / "scenarios" / "model"))
+sys.path.insert(0, str(ROOT / ".ci"))
+from audits import END, WHOLE, Auditor, by_actor, text_of  # noqa: E402
+from journals import Writer, journals  # noqa: E402
+from reading import Fault, rate, read  # noqa: E402
+
+DRAWN = 400
+TOGETHER = 8
+PORTS = [512000]
+CONNS = [{"vc": (1, 100), "path": [0], "delay": 1000, "tau": 200, "script": []}]
+RATES = [rate(one) for one in ("0000", "4000", "5120", "5258", "53e8")]
+GAPS = [0, 1, 10**9, 2_500_000_000, 10**12]
+
+
+def entries(ports, conns, events):
+    """The lines of the journals that events leave, as objects, without the end."""
+    writer = Writer(ports, conns)
+    for event in events:
+        writer.happen(event)
+    return writer.lines
+
+
+def fails(event):
+    return event[0] == "ask" and event[3] in ("before", "after")
+
+
+def opened(lines):
+    """The lines, where each store that failed says no more than that; and without any word of it."""
+    left, told = [], []
+    for one in lines:
+        did = one.get("did")
+        if type(did) is not dict or did.get("store") not in ("before", "after"):
+            left.append(one)
+            told.append(one)
+        else:
+            left.append({**one, "did": {**did, "store": "failed"}})
+            told.append({**one, "did": {"ask": did["ask"]}})
+    return left, told
+
+
+def settled(ports, conns, events):
+    """The events with the first plans under which each source answers the same."""
+    places = [at for at, event in enumerate(events) if fails(event)]
+    told = opened(entries(ports, conns, events))[1]
+    for plans in itertools.product(("before", "after"), repeat=len(places)):
+        other = list(events)
+        for at, plan in zip(places, plans):
+            other[at] = (*events[at][:3], plan)
+        if opened(entries(ports, conns, other))[1] == told:
+            return other
+    raise AssertionError("the plans that were drawn fit")
+
+
+class Draw:
+    """The life of one source over a store that fails now and then."""
+
+    def __init__(self, seed):
+        self.draw, self.writer, self.events, self.clock = random.Random(seed), Writer(PORTS, CONNS), [], 0
+
+    def happen(self, *event):
+        self.events.append(event)
+        self.writer.happen(event)
+
+    def later(self):
+        self.clock += self.draw.choice(GAPS)
+        return self.clock
+
+    def ask(self):
+        plan = self.draw.choice(("works", "before", "after", "after"))
+        self.happen("ask", 0, self.draw.choice(RATES), plan)
+        asked = self.writer.lines[-1]["outcome"]
+        if type(asked) is dict and "asked" in asked and self.draw.random() < 0.6:
+            seq = asked["asked"]["seq"]
+            self.happen("request", 0, 1, seq)
+            if self.draw.random() < 0.8:
+                self.happen("turn", 0, seq)
+                self.happen("answer", 0, 1, seq, True)
+                self.happen("told", 0, seq, True)
+        if asked == {"refused": "Keep"} and self.draw.random() < 0.5:
+            self.happen("crash", 0)
+            self.happen("start", 0, self.later())
+
+    def stride(self):
+        """All numbers of the first write are used, and a cell left: the next write has another spacing than the hold-off of a second."""
+        asked = ("ask", 0, rate("53e8"), "works")
+        for event in (asked, ("request", 0, 1, 1), ("turn", 0, 1), ("answer", 0, 1, 1, True), ("told", 0, 1, True), ("emit", 0, 10**12)):
+            self.happen(*event)
+        self.clock = 10**12
+        for _ in range(63):
+            self.happen(*asked)
+
+    def live(self):
+        self.happen("start", 0, 0)
+        if self.draw.random() < 0.3:
+            self.stride()
+        for _ in range(self.draw.randrange(4, 20)):
+            match self.draw.choice(("start", "ask", "ask", "ask", "crash", "emit", "emit", "again")):
+                case "start":
+                    self.happen("start", 0, self.later())
+                case "ask":
+                    self.ask()
+                case "emit":
+                    self.happen("emit", 0, self.later())
+                case other:
+                    self.happen(other, 0)
+        return self.events
+
+
+def texts_of(lines):
+    return [*(json.dumps(one, separators=(",", ":")) for one in lines), END]
+
+
+def try_run(auditor, name, ports, conns, events):
+    """One run, its failing stores opened: woven, and settled as the model settles it. How many stores were."""
+    count = sum(map(fails, events))
+    if not 0 < count <= TOGETHER:
+        return 0
+    lines = texts_of(opened(entries(ports, conns, events))[0])
+    wanted = texts_of(entries(ports, conns, settled(ports, conns, events)))
+    out = auditor.folder / "settled.toml"
+    out.unlink(missing_ok=True)
+    if (given := auditor.save(out, text_of(lines))) != WHOLE:
+        auditor.found.append(f"{name}: {given} in place of {WHOLE}")
+    elif by_actor(journals(out.read_bytes())) != by_actor(wanted):
+        auditor.found.append(f"{name}: {out.read_text()} in place of {wanted}")
+    return count
+
+
+def try_strange(auditor, name, ports, conns, events):
+    """The last number of the source is one that no way to settle its open writes shows."""
+    lines = opened(entries(ports, conns, events))[0]
+    asked = [at for at, one in enumerate(lines) if "asked" in one.get("outcome", ())]
+    if not any(map(fails, events)) or not asked:
+        return 0
+    cell = lines[asked[-1]]["outcome"]["asked"]
+    cell["seq"] += 100_000
+    status, out, told = auditor.audit(text_of(texts_of(lines)))
+    if status != 1 or out or not told.startswith(("fault: Mismatch\n", "fault: NoOrder\n")):
+        auditor.found.append(f"{name}, a number changed: {(status, out, told)} in place of a fault of weaving")
+    return 1
+
+
+def main(program):
+    with tempfile.TemporaryDirectory() as folder:
+        auditor = Auditor(Path(program).resolve(), folder)
+        runs = []
+        for sample in sorted((ROOT / "scenarios").glob("*.toml")):
+            try:
+                ports, conns, events, _ = read(sample.read_bytes())
+            except Fault:
+                continue
+            runs.append((sample.name, ports, conns, events))
+        runs += [(f"draw {seed}", PORTS, CONNS, Draw(seed).live()) for seed in range(DRAWN)]
+        counts = [try_run(auditor, *run) for run in runs]
+        strange = sum(try_strange(auditor, *run) for run in runs)
+    for difference in auditor.found:
+        print(f"open_writes: {difference}")
+    print(
+        f"open_writes: {sum(map(bool, counts))} logs with {sum(counts)} open writes settled, {strange} with a number changed, "
+        f"{len(auditor.found)} differences"
+    )
+    return not auditor.found
+
+
+if __name__ == "__main__":
+    sys.exit(0 if all([main(program) for program in sys.argv[1:]]) else 1)

@@ -1,4 +1,0 @@
-pub mod Emitted
-pub mod Doing
-pub mod Hearing
-pub mod Running

@@ -1,6 +1,0 @@
-use Rattle.abt_access.proofs.Hearing.{heard_once}
-use Rattle.abt_access.proofs.site.Site.hear.Goals as goal
-
-pub returns : goal.returns
-returns g c =
-    heard_once c.args.line.now.conn.now.vc c.args.line.now.number c.args.answer c.args.self.now _ c.carry_out.new.self c.requires (λ facts. c.in_ok-carry_out.ensures c.args.line.now.conn.now.vc facts)

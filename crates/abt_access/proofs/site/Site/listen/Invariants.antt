@@ -1,5 +1,0 @@
-use Rattle.abt_access.specs.Sites.{Listened}
-use Rattle.abt_access.proofs.site.Site.listen.Given as goal
-
-abbrev pub invariant-loop-turn : goal.invariant-loop-turn
-invariant-loop-turn g l = Listened l.line.conn.now.vc l.line.number l._turn l.initial.self l.self

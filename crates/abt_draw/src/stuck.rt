@@ -1,0 +1,84 @@
+//! The rows of the entries at which journals are stuck, below those of the events.
+use crate::mark::push_cross;
+use crate::sheet::{Sheet, line_of};
+use crate::words::clipped;
+use crate::{
+    Actor, Point, Size, StuckMark, column_of, push_circle, push_group, push_label, push_rect,
+};
+use std::alloc::AllocError;
+
+/// Adds a row for each entry at which a journal is stuck.
+pub(crate) fn push_stuck(sheet: &Sheet<'_>, out: &mut String) -> Result<(), AllocError> {
+    for (place, mark) in sheet.stuck.iter().enumerate() {
+        push_row(sheet, out, (place as u64).saturating_add(1), mark)?;
+    }
+    Ok(())
+}
+
+// The row of such an entry, with its mark on the lifeline of whose journal it is, or, if that isn't shown, beside the lifelines.
+fn push_row(
+    sheet: &Sheet<'_>,
+    out: &mut String,
+    number: u64,
+    mark: &StuckMark<'_>,
+) -> Result<(), AllocError> {
+    let alloc = sheet.alloc;
+    let mut content = String::new(alloc);
+    push_words(sheet, &mut content, number, mark)?;
+    let x = match column_of(sheet.columns, mark.actor) {
+        Some(column) => sheet.x(column),
+        None => sheet.beside(),
+    };
+    let at = Point {
+        x,
+        y: sheet.stuck_y(number),
+    };
+    push_circle(alloc, &mut content, "mark stuck", at, 70)?;
+    push_cross(sheet, &mut content, "stuck", at, 40)?;
+    let name = format!(in alloc; "s{number}")?;
+    push_group(
+        alloc,
+        out,
+        "stuck",
+        name.as_str(),
+        mark.text,
+        content.as_str(),
+    )
+}
+
+// Whose journal is stuck, and below that the entry, as far as there is room.
+fn push_words(
+    sheet: &Sheet<'_>,
+    out: &mut String,
+    number: u64,
+    mark: &StuckMark<'_>,
+) -> Result<(), AllocError> {
+    let alloc = sheet.alloc;
+    let y = sheet.stuck_y(number);
+    let corner = Point {
+        x: 0,
+        y: y.saturating_sub(120),
+    };
+    let size = Size {
+        width: sheet.width(),
+        height: 240,
+    };
+    push_rect(alloc, out, "row", corner, size)?;
+    let words = match mark.actor {
+        Actor::Source(conn) => format!(in alloc; "stuck: source {conn}")?,
+        Actor::Port(port) => format!(in alloc; "stuck: port {port}")?,
+        Actor::End(conn) => format!(in alloc; "stuck: end {conn}")?,
+    };
+    let at = Point {
+        x: 60,
+        y: y.saturating_sub(15),
+    };
+    push_label(alloc, out, "told", at, words.as_str())?;
+    let (entry, _) = line_of(mark.text);
+    let entry = clipped(alloc, entry)?;
+    let at = Point {
+        x: 160,
+        y: y.saturating_add(80),
+    };
+    push_label(alloc, out, "answer", at, entry.as_str())
+}

@@ -1,0 +1,12 @@
+pub mod EntryWritten
+pub mod Words
+pub mod PortLines
+pub mod SourceLines
+pub mod NetLines
+pub mod Lines
+pub mod ObjectMembers
+pub mod Members
+pub mod Reading
+pub mod Values
+pub mod Cells
+pub mod Written

@@ -1,0 +1,9 @@
+pub mod EventText
+pub mod Measures
+pub mod Names
+pub mod OutcomeText
+pub mod Report
+pub mod Values
+pub mod EventTexts
+pub mod CommandTexts
+pub mod OperationTexts

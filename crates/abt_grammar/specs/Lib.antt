@@ -1,4 +1,0 @@
-pub mod Values
-pub mod EventTexts
-pub mod CommandTexts
-pub mod OperationTexts

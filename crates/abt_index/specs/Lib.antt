@@ -1,0 +1,4 @@
+pub mod Kept
+pub mod Hops
+pub mod Index
+pub mod FactIndex

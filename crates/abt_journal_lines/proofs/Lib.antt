@@ -1,9 +1,0 @@
-pub mod Arrays
-pub mod Entries
-pub mod Keys
-pub mod NetSays
-pub mod Plain
-pub mod Readings
-pub mod Sending
-pub mod Steps
-pub mod Whole

@@ -1,0 +1,11 @@
+pub mod Fitting
+pub mod Opened
+pub mod Tables
+pub mod Promised
+pub mod Ended
+mod Handed
+pub mod Emitted
+pub mod Doing
+pub mod Hearing
+pub mod Running
+mod Grown

@@ -1,0 +1,13 @@
+pub mod Runs
+pub mod Faults
+pub mod Promises
+pub mod Stopping
+pub mod Operations
+pub mod CommandEffects
+pub mod Scripts
+pub mod SourceWorkers
+pub mod Plan
+pub mod Messages
+pub mod Cells
+pub mod Deliveries
+pub mod Counting

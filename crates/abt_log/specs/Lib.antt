@@ -1,4 +1,0 @@
-pub mod Kept
-pub mod Hops
-pub mod Index
-pub mod Log

@@ -1,0 +1,22 @@
+//! Traces.
+use crate::{Outcome, Sequence};
+use abt_rate::Rate;
+
+/// What a run of events answered, and the state of the net in the end.
+///
+/// Contracts see its lists as lists, of rates as their units of 1/512 cell/s.
+#[derive(Debug, Drop)]
+pub struct Trace {
+    /// What each event answered, in the order of the events.
+    pub outcomes: Sequence<Outcome>,
+    /// The rate at which each connection's source shapes in the end.
+    pub rates: Sequence<Rate>,
+    /// For each connection, what each hop of its path holds for it in the end, the first hop's first.
+    pub held: Sequence<Sequence<Rate>>,
+    /// The sum of what each port holds in the end, in units of 1/512 cell/s.
+    pub totals: Sequence<u64>,
+    /// The capacity of each port in the end, in units of 1/512 cell/s.
+    pub capacities: Sequence<u64>,
+    /// Whether the state in the end and all verdicts are safe (docs/GUARANTEES.md).
+    pub safe: bool,
+}

@@ -1,7 +1,0 @@
--- If the events that are left are said at the places that are left, all are.
-use Rattle.std.proofs.Common.{drop}
-use Rattle.abt_placed.specs.Placed.{SayEvents}
-use Rattle.abt_placed.proofs.lines.say_events.Given as goal
-
-abbrev pub invariant-loop-index : goal.invariant-loop-index
-invariant-loop-index l = SayEvents l.text (drop l.index l.places) (drop l.index l.events) → SayEvents l.text l.places l.events

@@ -1,5 +1,0 @@
-use Rattle.abt_ports.proofs.Through.{IsCounted}
-use Rattle.abt_ports.proofs.looks.opening.has_connections.Given as goal
-
-abbrev pub invariant-loop-conn : goal.invariant-loop-conn
-invariant-loop-conn l = IsCounted l.state.opening l.port l.net.conns l.conn-index l.through

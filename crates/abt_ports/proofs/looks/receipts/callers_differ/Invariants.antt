@@ -1,5 +1,0 @@
-use Rattle.abt_ports.proofs.Marks.{AreMarked}
-use Rattle.abt_ports.proofs.looks.receipts.callers_differ.Given as goal
-
-abbrev pub invariant-loop-seat : goal.invariant-loop-seat
-invariant-loop-seat l = AreMarked l.seats l.seat-index l.taken

@@ -1,6 +1,0 @@
-use Rattle.abt_ports.specs.Gathered.{journals_of}
-use Rattle.abt_ports.proofs.Walk.{IsWalked}
-use Rattle.abt_ports.proofs.looks.receipts.first_missing_in.Given as goal
-
-abbrev pub invariant-loop-receipt : goal.invariant-loop-receipt
-invariant-loop-receipt l = IsWalked (journals_of l.states) l.seat l.receipt-index l.seen

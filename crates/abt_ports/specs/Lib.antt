@@ -1,4 +1,0 @@
-pub mod Gathered
-pub mod Missing
-pub mod Foreign
-pub mod Faults

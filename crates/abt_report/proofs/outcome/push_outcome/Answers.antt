@@ -1,4 +1,0 @@
-use Rattle.abt_report.proofs.outcome.push_outcome.Goals as goal
-
-pub returns-in-NotEnabled : goal.returns-in-NotEnabled
-returns-in-NotEnabled c = rw (c.in-NotEnabled.is, ← c.cause_name.ensures) c.push_both-in-NotEnabled.ensures

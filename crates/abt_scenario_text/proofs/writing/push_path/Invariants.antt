@@ -1,8 +1,0 @@
--- The text so far, and the numbers that are left, are the whole text.
-use Rattle.std.proofs.Common.{◌≡◌, ◌++◌, drop, string_bytes}
-use Rattle.abt_scenario_text.specs.ScenarioText.{numbers_from}
-use Rattle.abt_scenario_text.proofs.writing.push_path.Given as goal
-
-abbrev pub invariant-loop-index : goal.invariant-loop-index
-invariant-loop-index l =
-    string_bytes l.text ++ numbers_from l.index (drop l.index l.path) ≡ string_bytes l.initial.text ++ numbers_from 0 l.path

@@ -1,4 +1,0 @@
-pub mod ScenarioText
-pub mod Samples
-pub mod Faults
-pub mod Sent

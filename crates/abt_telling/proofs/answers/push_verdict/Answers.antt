@@ -1,4 +1,0 @@
-use Rattle.abt_telling.proofs.answers.push_verdict.Goals as goal
-
-pub returns : goal.returns
-returns c = rw (← c.in_ok-rate.ensures) c.write.ensures.bytes

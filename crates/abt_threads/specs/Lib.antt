@@ -1,4 +1,0 @@
-pub mod Runs
-pub mod Faults
-pub mod Promises
-pub mod Stopping

@@ -1,2 +1,0 @@
-pub mod EventText
-pub mod Measures

@@ -1,8 +1,0 @@
-use Rattle.std.proofs.Common.{◌≡◌, [], map, take}
-use Rattle.abt_net.specs.declared.conn.Conn.{Conn}
-use Rattle.abt_world.specs.Seen.{seen}
-use Rattle.abt_world.specs.Courses.{course_of}
-use Rattle.abt_world.proofs.fresh.fresh_courses.Given as goal
-
-abbrev pub invariant-loop-conn : goal.invariant-loop-conn
-invariant-loop-conn l = map seen l.courses.items ≡ map (λ (conn : Conn). course_of conn.vc []) (take l.conn-index l.conns)

@@ -1,4 +1,0 @@
-pub mod Beginnings
-pub mod Placing
-pub mod Turns
-pub mod Asked

@@ -1,4 +1,0 @@
-pub mod Projections
-pub mod Woven
-pub mod Stuck
-pub mod Asked
