@@ -10,7 +10,7 @@ use Rattle.abt_model.specs.declared.entry.SourceEntry.{SourceEntry}
 use Rattle.abt_model.specs.declared.entry.SourceEntry.TheVariants.{Did, Sent, Arrived}
 use Rattle.abt_model.specs.declared.event.Event.TheVariants.{Start, Ask, Again, Crash, Emit, Arrive, Request, Turn, Answer, Told, Capacity}
 use Rattle.abt_audit.specs.Protocol.{answer_in, facts_past}
-use Rattle.abt_audit.specs.Settling.{with_plan, plan_of, planned, IsSettled, told_in, FitsFrom, FitsTo, IsReach, IsFarthest, Prefers, SettlesSource}
+use Rattle.abt_audit.specs.Settling.{with_plan, plan_of, planned, IsSettled, told_in, FitsFrom, FitsTo, IsReach, IsFarthest, IsNeeded, Prefers, FitsAsFar, StoredIfNeeded, SettlesSource}
 
 -- if so many entries fit, fewer do
 pub fits_fewer : (vc : Channel) (facts : List Fact) (entries : List SourceEntry) (k n : ℕ) → k ≤ n → FitsFrom vc facts entries n → FitsFrom vc facts entries k
@@ -127,23 +127,47 @@ farthest_after vc place places entries before after low one two = record {
   most = most_of_both vc place places entries after (λ other m is fits. let most = one.most other m is fits in omega (arith, most, low)) two.most;
 }
 
--- a plan under which as many entries fit as can
-pub prefers : (vc : Channel) (place : ℕ) (next : List ℕ) (entries : List SourceEntry) (plan : StorePlan) (n : ℕ) → (plan ≡ FailsBefore) ⊎ (plan ≡ FailsAfter)
-    → IsFarthest vc (place ∷ next) entries n → IsFarthest vc next (planned plan place entries) n → Prefers vc place next entries plan
-prefers vc place next entries plan n failed all far = record {
-  failed = failed;
-  as_far = λ other m is fits. (far.settled, far.settles, fits_fewer vc [] far.settled m n (all.most other m is fits) far.fits);
+-- under a plan of a place as many entries fit as can
+as_far_as_can : (vc : Channel) (place : ℕ) (next : List ℕ) (entries : List SourceEntry) (plan : StorePlan) (n : ℕ) → IsFarthest vc (place ∷ next) entries n
+    → IsFarthest vc next (planned plan place entries) n → (other : List SourceEntry) (m : ℕ) → IsSettled (place ∷ next) entries other → FitsTo vc other m
+    → (settled : List SourceEntry) × IsSettled next (planned plan place entries) settled × FitsTo vc settled m
+as_far_as_can vc place next entries plan n all far other m is fits =
+    (far.settled, far.settles, fits_fewer vc [] far.settled m n (all.most other m is fits) far.fits)
+
+pub prefers_before : (vc : Channel) (place : ℕ) (next : List ℕ) (entries : List SourceEntry) (n : ℕ)
+    → IsFarthest vc (place ∷ next) entries n → IsFarthest vc next (planned FailsBefore place entries) n → Prefers vc place next entries FailsBefore
+prefers_before vc place next entries n all far = record {
+  failed = inl refl;
+  as_far = as_far_as_can vc place next entries FailsBefore n all far;
+  needed = λ is. absurd (cc);
 }
 
--- The writes that are left are settled of what they leave so far, which is one way to settle all; and if there are few, as many entries fit.
+pub prefers_after : (vc : Channel) (place : ℕ) (next : List ℕ) (entries : List SourceEntry) (before after : ℕ) → before < after
+    → IsFarthest vc (place ∷ next) entries after → IsFarthest vc next (planned FailsBefore place entries) before
+    → IsFarthest vc next (planned FailsAfter place entries) after → Prefers vc place next entries FailsAfter
+prefers_after vc place next entries before after more all one two = record {
+  failed = inr refl;
+  as_far = as_far_as_can vc place next entries FailsAfter after all two;
+  needed = λ is. (two.settled, two.settles, record {
+    count = after;
+    fits = two.fits;
+    not_before = λ other so fits. (let most = one.most other after so fits in absurd (omega (arith, most, more)));
+  });
+}
+
+-- The writes that are left are settled of what they leave so far, which is one way to settle all; and if there are few, as many entries fit, and
+-- each that is taken as stored has to be, if as many fit in the end.
 pub record IsUnderWay (vc : Channel) (places : List ℕ) (entries : List SourceEntry) (left : List ℕ) (now : List SourceEntry) : Type 0 where
   pub settles : (settled : List SourceEntry) → IsSettled left now settled → IsSettled places entries settled
   pub few : length left ≤ length places
   pub as_far : length places ≤ 8 → (other : List SourceEntry) (n : ℕ) → IsSettled places entries other → FitsTo vc other n
       → (settled : List SourceEntry) × IsSettled left now settled × FitsTo vc settled n
+  pub needed : length places ≤ 8 → (settled : List SourceEntry) → FitsAsFar vc left now settled → StoredIfNeeded vc left now settled
+      → StoredIfNeeded vc places entries settled
 
 pub under_way_first : (vc : Channel) (places : List ℕ) (entries : List SourceEntry) → IsUnderWay vc places entries places entries
-under_way_first vc places entries = record { settles = λ settled is. is; few = omega arith; as_far = λ few other n is fits. (other, is, fits) }
+under_way_first vc places entries = record { settles = λ settled is. is; few = omega arith; as_far = λ few other n is fits. (other, is, fits);
+  needed = λ few settled far is. is }
 
 -- the next place is behind the end
 pub under_way_past : (vc : Channel) (places : List ℕ) (entries : List SourceEntry) (place : ℕ) (rest : List ℕ) (now : List SourceEntry) → length now ≤ place
@@ -152,6 +176,8 @@ under_way_past vc places entries place rest now past p = record {
   settles = λ settled is. p.settles settled (past_settled place rest now settled past is);
   few = let few = p.few in omega (arith, few);
   as_far = λ few other n is fits. (let far = p.as_far few other n is fits in (far.0, settled_past place rest now far.0 past far.1, far.2));
+  needed = λ few settled far is. p.needed few settled (λ other n so fits. far other n (settled_past place rest now other past so) fits)
+      (inl (subst (λ (es : List SourceEntry). StoredIfNeeded vc rest es settled) (sym (planned_past FailsBefore place now past)) is));
 }
 
 take_few : (n : ℕ) (xs : List ℕ) → length xs ≤ n → take n xs ≡ xs
@@ -164,6 +190,28 @@ one_way : (place : ℕ) (rest : List ℕ) (now settled : List SourceEntry) (plan
     → IsSettled rest (planned plan place now) settled → IsSettled (place ∷ rest) now settled
 one_way place rest now settled plan (inl before) is = inl (subst (λ (p : StorePlan). IsSettled rest (planned p place now) settled) before is)
 one_way place rest now settled plan (inr after) is = inr (subst (λ (p : StorePlan). IsSettled rest (planned p place now) settled) after is)
+
+-- a way that fits as far under a preferred plan does so however else all are settled
+fits_preferred : (vc : Channel) (place : ℕ) (rest : List ℕ) (now settled : List SourceEntry) (plan : StorePlan) → Prefers vc place rest now plan
+    → FitsAsFar vc rest (planned plan place now) settled → FitsAsFar vc (place ∷ rest) now settled
+fits_preferred vc place rest now settled plan best far other n is fits = let so = best.as_far other n is fits in far so.0 n so.1 so.2
+
+-- the write of a place is taken as stored only where it has to be
+stored_if_needed : (vc : Channel) (place : ℕ) (rest : List ℕ) (now settled : List SourceEntry) (plan : StorePlan) → Prefers vc place rest now plan
+    → (plan ≡ FailsBefore) ⊎ (plan ≡ FailsAfter) → FitsAsFar vc rest (planned plan place now) settled
+    → StoredIfNeeded vc rest (planned plan place now) settled → StoredIfNeeded vc (place ∷ rest) now settled
+stored_if_needed vc place rest now settled plan best (inl before) far is =
+    inl (subst (λ (p : StorePlan). StoredIfNeeded vc rest (planned p place now) settled) before is)
+stored_if_needed vc place rest now settled plan best (inr after) far is =
+    let so = best.needed after in
+    let need = so.2 in
+    let same = ap (λ (p : StorePlan). planned p place now) after in
+    let tried = subst (λ (es : List SourceEntry). IsSettled rest es so.0) (sym same) so.1 in
+    inr (subst (λ (es : List SourceEntry). StoredIfNeeded vc rest es settled) same is, record {
+      count = need.count;
+      fits = far so.0 need.count tried need.fits;
+      not_before = need.not_before;
+    })
 
 -- the write of the next place is settled so that as many entries fit as can
 pub under_way_more : (vc : Channel) (places : List ℕ) (entries : List SourceEntry) (place : ℕ) (rest : List ℕ) (now : List SourceEntry) (plan : StorePlan)
@@ -180,12 +228,19 @@ under_way_more vc places entries place rest now plan best p = record {
       let tried : IsSettled (place ∷ take 7 rest) now far.0 = subst (λ (ps : List ℕ). IsSettled (place ∷ ps) now far.0) (sym all) far.1 in
       let so = best.as_far far.0 n tried far.2 in
       (so.0, subst (λ (ps : List ℕ). IsSettled ps (planned plan place now) so.0) all so.1, so.2));
+  needed = λ few settled far is. (
+      let left = p.few in
+      let short : length rest ≤ 7 = omega (arith, few, left) in
+      let best_of_all = subst (λ (ps : List ℕ). Prefers vc place ps now plan) (take_few 7 rest short) best in
+      p.needed few settled (fits_preferred vc place rest now settled plan best_of_all far)
+      (stored_if_needed vc place rest now settled plan best_of_all best.failed far is));
 }
 
 pub settles_all : (vc : Channel) (places : List ℕ) (entries now : List SourceEntry) → IsUnderWay vc places entries [] now → SettlesSource vc places entries now
 settles_all vc places entries now p = record {
   settles = p.settles now refl;
   farthest = λ few other n is fits. (let far = p.as_far few other n is fits in subst (λ (es : List SourceEntry). FitsTo vc es n) far.1 far.2);
+  needed = λ few. p.needed few now (λ other n is fits. subst (λ (es : List SourceEntry). FitsTo vc es n) is fits) refl;
 }
 
 -- Entries fit so far, and no more than the others do.

@@ -70,20 +70,37 @@ pub record IsFarthest (vc : Channel) (places : List ℕ) (entries : List SourceE
 abbrev pub together : ℕ
 together = 8
 
--- However the writes of a place and of the next ones are settled, as many entries fit where that of the place is settled so.
+-- So many entries fit, and fewer do if the write of a place wasn't stored, however the next ones are settled.
+pub record IsNeeded (vc : Channel) (place : ℕ) (next : List ℕ) (entries settled : List SourceEntry) : Type 0 where
+  pub count : ℕ
+  pub fits : FitsTo vc settled count
+  pub not_before : (other : List SourceEntry) → IsSettled next (planned FailsBefore place entries) other → FitsTo vc other count → ⊥
+
+-- However the writes of a place and of the next ones are settled, as many entries fit where that of the place is settled so; and it is taken
+-- as stored only where it has to be.
 pub record Prefers (vc : Channel) (place : ℕ) (next : List ℕ) (entries : List SourceEntry) (plan : StorePlan) : Type 0 where
   pub failed : (plan ≡ FailsBefore) ⊎ (plan ≡ FailsAfter)
   pub as_far : (other : List SourceEntry) (n : ℕ) → IsSettled (place ∷ next) entries other → FitsTo vc other n
       → (settled : List SourceEntry) × IsSettled next (planned plan place entries) settled × FitsTo vc settled n
+  pub needed : plan ≡ FailsAfter
+      → (settled : List SourceEntry) × IsSettled next (planned FailsAfter place entries) settled × IsNeeded vc place next entries settled
 
 -- However else the writes of these places are settled, as many entries fit where they are settled so.
 abbrev pub FitsAsFar : Channel → List ℕ → List SourceEntry → List SourceEntry → Type 0
 FitsAsFar vc places entries settled = (other : List SourceEntry) (n : ℕ) → IsSettled places entries other → FitsTo vc other n → FitsTo vc settled n
 
--- The writes of these places are settled, and so that as many entries fit as can, if there are few of them.
+-- Each write of these places, in their order, wasn't stored; or it was, and had to be.
+abbrev pub StoredIfNeeded : Channel → List ℕ → List SourceEntry → List SourceEntry → Type 0
+StoredIfNeeded vc [] entries settled = settled ≡ entries
+StoredIfNeeded vc (place ∷ places) entries settled = StoredIfNeeded vc places (planned FailsBefore place entries) settled
+    ⊎ (StoredIfNeeded vc places (planned FailsAfter place entries) settled × IsNeeded vc place places entries settled)
+
+-- The writes of these places are settled, and if there are few of them, so that as many entries fit as can, and that none is taken as stored
+-- which doesn't have to be.
 pub record SettlesSource (vc : Channel) (places : List ℕ) (entries settled : List SourceEntry) : Type 0 where
   pub settles : IsSettled places entries settled
   pub farthest : length places ≤ together → FitsAsFar vc places entries settled
+  pub needed : length places ≤ together → StoredIfNeeded vc places entries settled
 
 -- the places of the writes that a source leaves open
 abbrev pub places_on : ℕ → List OpenWrite → List ℕ

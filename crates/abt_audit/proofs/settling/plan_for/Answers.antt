@@ -1,9 +1,9 @@
 -- As many entries fit under this plan as can.
-use Rattle.std.proofs.Common.{◌≡◌, ◌∙◌, inl, inr, List, length, refl, ap, subst, arith}
+use Rattle.std.proofs.Common.{◌≡◌, ◌∙◌, List, length, refl, ap, subst, arith}
 use Rattle.abt_keep.specs.declared.plan.StorePlan.TheVariants.{FailsBefore, FailsAfter}
 use Rattle.abt_model.specs.declared.entry.SourceEntry.{SourceEntry}
 use Rattle.abt_audit.specs.Settling.{planned, IsFarthest}
-use Rattle.abt_audit.proofs.Settled.{farthest_whole, farthest_before, farthest_after, prefers, put_back}
+use Rattle.abt_audit.proofs.Settled.{farthest_whole, farthest_before, farthest_after, prefers_before, prefers_after, put_back}
 use Rattle.abt_audit.proofs.settling.plan_for.Goals as goal
 
 pub returns-then-before-entries-clause-same : goal.returns-then-before-entries-clause-same
@@ -28,7 +28,7 @@ returns-then-before-entries-clause-value c =
     c.plan_of-kept.ensures c.plan_at.ensures c.farthest-before.ensures.same c.plan_at-2.ensures in
     let before = subst (λ (es : List SourceEntry). IsFarthest c.args.vc rest es c.farthest-before.result) c.plan_at.ensures c.farthest-before.ensures.value in
     let all : c.farthest-before.result ≡ length entries = c.if-before-entries.true ∙ ap (λ (es : List SourceEntry). length es) back in
-    prefers c.args.vc place rest entries FailsBefore c.farthest-before.result (inl refl)
+    prefers_before c.args.vc place rest entries c.farthest-before.result
     (farthest_whole c.args.vc place rest entries c.farthest-before.result all before) before
 
 pub returns-then-after-before-clause-same : goal.returns-then-after-before-clause-same
@@ -56,8 +56,9 @@ returns-then-after-before-clause-value c =
     let before = subst (λ (es : List SourceEntry). IsFarthest c.args.vc rest es c.farthest-before.result) c.plan_at.ensures c.farthest-before.ensures.value in
     let planned_after : c.plan_at-3.new.entries ≡ planned FailsAfter place entries = c.plan_at-3.ensures ∙ ap (planned FailsAfter place) back in
     let after = subst (λ (es : List SourceEntry). IsFarthest c.args.vc rest es c.farthest-after.result) planned_after c.farthest-after.ensures.value in
-    prefers c.args.vc place rest entries FailsAfter c.farthest-after.result (inr refl)
-    (farthest_after c.args.vc place rest entries c.farthest-before.result c.farthest-after.result (omega (arith, c.if-after-before.true)) before after) after
+    prefers_after c.args.vc place rest entries c.farthest-before.result c.farthest-after.result (omega (arith, c.if-after-before.true))
+    (farthest_after c.args.vc place rest entries c.farthest-before.result c.farthest-after.result (omega (arith, c.if-after-before.true)) before after)
+    before after
 
 pub returns-clause-same : goal.returns-clause-same
 returns-clause-same c =
@@ -84,5 +85,5 @@ returns-clause-value c =
     let before = subst (λ (es : List SourceEntry). IsFarthest c.args.vc rest es c.farthest-before.result) c.plan_at.ensures c.farthest-before.ensures.value in
     let planned_after : c.plan_at-3.new.entries ≡ planned FailsAfter place entries = c.plan_at-3.ensures ∙ ap (planned FailsAfter place) back in
     let after = subst (λ (es : List SourceEntry). IsFarthest c.args.vc rest es c.farthest-after.result) planned_after c.farthest-after.ensures.value in
-    prefers c.args.vc place rest entries FailsBefore c.farthest-before.result (inl refl)
+    prefers_before c.args.vc place rest entries c.farthest-before.result
     (farthest_before c.args.vc place rest entries c.farthest-before.result c.farthest-after.result (omega (arith, c.if-after-before.false)) before after) before
