@@ -1,5 +1,5 @@
 -- What becomes of writing a net and events as a scenario.
-use Rattle.std.specs.Prelude.{⊤, List, Option}
+use Rattle.std.specs.Prelude.{List, Option}
 use Rattle.std.specs.Io.KnownBytes.{Appends, Keeps}
 use Rattle.std.specs.declared.io.ErrorKind.{ErrorKind}
 use Rattle.std.specs.declared.io.ErrorKind.TheVariants.{OutOfMemory}
@@ -35,16 +35,23 @@ pub record IsSaved (net : Topology) (events : List Event) : Type 0 where
   pub new : Option Text
   pub sent : IsSent net events old new
 
-pub record IsUnsentTo (net : Topology) (events : List Event) (fault : EventsFault) : Type 0 where
+-- There is a sample, which went to no file, since none could be made.
+pub record IsUnmade (net : Topology) (events : List Event) : Type 0 where
+  pub text : Text
+  pub sample : IsSample net events text
+
+-- A part of a sample went out to some writer, which stands for the file.
+pub record IsPartlySaved (net : Topology) (events : List Event) : Type 0 where
   pub old : Option Text
   pub new : Option Text
-  pub unsent : IsUnsent net events fault old new
+  pub sent : IsPartlySent net events old new
 
--- why no file has all of it: it can't be made, or memory for that is refused; or else what became of writing it
+-- why no file has all of it: there is no sample; or there is one, and no file can be made, or it can't be written to its end; or memory was
+-- refused
 abbrev pub IsUnsaved : Topology → List Event → EventsFault → Type 0
-IsUnsaved net events Open = ⊤
-IsUnsaved net events Memory = ⊤
-IsUnsaved net events fault = IsUnsentTo net events fault
+IsUnsaved net events Open = IsUnmade net events
+IsUnsaved net events Write = IsPartlySaved net events
+IsUnsaved net events fault = IsWhyNone net events fault
 
 -- why a file can't be made, by what the error is to the system
 abbrev pub unmade : ErrorKind → EventsFault

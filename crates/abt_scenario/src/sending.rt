@@ -34,13 +34,13 @@ pub fn write_events<W: Write>(
     }
 }
 
-#[tactic(auto, using(crate::proofs::Unsaved::unsent_unsaved))]
-/// Makes a file, or empties the one of that name, and writes a net and events to it, as [`write_events`] does: for every command with an
-/// option `--events OUT`. Its fault is told by [`EventsFault::line`].
+#[tactic(auto, using(crate::proofs::Unsaved::unsampled_unsaved))]
+/// Writes a net and events as the text of a scenario, [`sample_text`], to a file: for every command with an option `--events OUT`. The file
+/// is made, or the one of that name emptied, once there is such a text. A fault is told by [`EventsFault::line`].
 ///
 /// # Errors
-/// [`EventsFault::Open`] if the file can't be made, or [`EventsFault::Memory`] if memory for that is refused; else those of
-/// [`write_events`].
+/// Those of [`sample_text`], with which the file is left as it was; [`EventsFault::Open`] if the file can't be made, or
+/// [`EventsFault::Memory`] if memory for that is refused; [`EventsFault::Write`] if writing failed behind a part of the text.
 pub fn save_events<T: Files + AllocGlobal>(
     rt: &T,
     name: &str,
@@ -50,9 +50,14 @@ pub fn save_events<T: Files + AllocGlobal>(
     ensures ok { OnOk result (IsSaved net.now events.now) }
     ensures err { IfErr result (IsUnsaved net.now events.now) }
 {
-    match File::create(rt, name) {
-        Ok(mut file) => write_events(rt.alloc(), net, events, &mut file),
-        Err(error) => Err(fault_unmade(error.kind())),
+    let text = sample_text(rt.alloc(), net, events)?;
+    let mut file = match File::create(rt, name) {
+        Ok(file) => file,
+        Err(error) => return Err(fault_unmade(error.kind())),
+    };
+    match put(&mut file, text.as_bytes()) {
+        Ok(()) => Ok(()),
+        Err(_) => Err(EventsFault::Write),
     }
 }
 
