@@ -1,5 +1,5 @@
 -- An actor that asks goes on to the actor of the facts with that request.
-use Rattle.std.proofs.Common.{◌≡◌, ◌≢◌, ℕ, ◌+◌, ◌≤◌, Bool, true, false, List, [], ◌∷◌, Result, Ok, Err, refl, sym, subst, ap, ◌∙◌, arith}
+use Rattle.std.proofs.Common.{◌≡◌, ◌≢◌, ℕ, Bool, true, false, List, [], ◌∷◌, Result, Ok, Err, refl, sym, subst, ap, ◌∙◌, arith}
 use Rattle.std.specs.Prelude.{◌==◌, ◌++◌, if◌then◌else◌, Option, None, Some, IsSome}
 use Rattle.std.proofs.lemmas.Bool.{cond-true, cond-false, eq-eqb, ne_eqb}
 use Rattle.std.proofs.lemmas.Bool.Decides.{nat_tests}
@@ -25,7 +25,7 @@ use Rattle.abt_model.specs.Answers.{kept_answer, ask_answer}
 use Rattle.abt_model.specs.Outcomes.{write_adds}
 use Rattle.abt_actor.specs.declared.any_source.AnySource.{AnySource}
 use Rattle.abt_actor.specs.Commands.{command_answer, command_adds}
-use Rattle.abt_actor.specs.Actor.{ActorView, actor_of, IsSound}
+use Rattle.abt_actor.specs.Actor.{ActorView, actor_of}
 use Rattle.abt_actor.specs.Sources.{source_in, asked_by, goes_from, result_of_asking}
 use Rattle.abt_actor.proofs.Emitting.{up_answers}
 

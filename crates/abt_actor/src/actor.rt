@@ -7,7 +7,6 @@ ghost use Rattle.abt_actor.specs.Facts.{facts_in};
 
 use crate::added::Added;
 use crate::any_source::AnySource;
-use crate::carried::Carried;
 use abt_cell::{Answer, Vc};
 use abt_facts::Fact;
 use abt_keep::{MemoryStore, StorePlan};
@@ -68,14 +67,14 @@ impl SourceActor {
     pub fn carry_out(&mut self, command: &SourceCommand) -> (Outcome, Added)
         ensures { Carries self.old command.now result.0 (facts_in result.1) self.new }
     {
-        let actor = mem::replace(self, SourceActor::new(self.vc));
-        let Carried {
-            actor,
-            outcome,
-            added,
-        } = actor.obey(command);
-        *self = actor;
-        (outcome, added)
+        match *command {
+            SourceCommand::Start { now } => self.start(now),
+            SourceCommand::Ask { rate, plan } => self.ask(rate, plan),
+            SourceCommand::Again => (self.again(), Added::Nothing),
+            SourceCommand::Crash => self.crash(),
+            SourceCommand::Emit { now } => self.emit(now),
+            SourceCommand::Told(answer) => self.told(&answer),
+        }
     }
 
     /// The rate at which the source shapes, which is zero while it is down.
@@ -113,186 +112,141 @@ impl SourceActor {
         self.clock
     }
 
-    // An actor to which nothing more happened.
-    fn unmoved(self, outcome: Outcome) -> Carried
-        ensures { result ≡ record { actor = self; outcome = outcome; added = Added.Nothing } }
-    {
-        Carried {
-            actor: self,
-            outcome,
-            added: Added::Nothing,
-        }
-    }
-
-    fn start(self, now: u64) -> Carried
-        ensures { Carries self (SourceCommand.Start now) result.outcome (facts_in result.added) result.actor }
+    fn start(&mut self, now: u64) -> (Outcome, Added)
+        ensures { Carries self.old (SourceCommand.Start now) result.0 (facts_in result.1) self.new }
     {
         if !self.running.is_down() {
-            return self.unmoved(Outcome::NotEnabled(Cause::Running));
+            return not_enabled(Cause::Running);
         }
         if now < self.clock {
-            return self.unmoved(Outcome::NotEnabled(Cause::ClockBack));
+            return not_enabled(Cause::ClockBack);
         }
-        let running = self.running;
-        let mut store = self.store;
-        let AnySource::Down(source) = running else {
+        let AnySource::Down(source) = taken_out(&mut self.running, self.vc) else {
             unreachable!()
         };
-        match source.start(&mut store, now) {
-            Ok(source) => Carried {
-                added: Added::One(Fact::Started {
-                    now,
-                    kept: source.kept(),
-                }),
-                actor: SourceActor {
-                    running: AnySource::Idle(source),
-                    store,
-                    clock: now,
-                    ..self
-                },
-                outcome: Outcome::Started,
-            },
-            Err(StartRefused { source, fault }) => Carried {
-                actor: SourceActor {
-                    running: AnySource::Down(source),
-                    store,
-                    ..self
-                },
-                outcome: Outcome::StartRefused(fault),
-                added: Added::Nothing,
-            },
+        match source.start(&mut self.store, now) {
+            Ok(source) => {
+                let kept = source.kept();
+                self.running = AnySource::Idle(source);
+                self.clock = now;
+                (Outcome::Started, Added::One(Fact::Started { now, kept }))
+            }
+            Err(StartRefused { source, fault }) => {
+                self.running = AnySource::Down(source);
+                (Outcome::StartRefused(fault), Added::Nothing)
+            }
         }
     }
 
-    fn ask(mut self, rate: Rate, plan: StorePlan) -> Carried
-        ensures { Carries self (SourceCommand.Ask rate plan) result.outcome (facts_in result.added)
-            result.actor }
+    fn ask(&mut self, rate: Rate, plan: StorePlan) -> (Outcome, Added)
+        ensures { Carries self.old (SourceCommand.Ask rate plan) result.0 (facts_in result.1) self.new }
     {
         if self.running.is_down() {
-            return self.unmoved(Outcome::NotEnabled(Cause::Down));
+            return not_enabled(Cause::Down);
         }
         let written = self.running.record_to_write(rate);
         self.store.plan(plan);
-        let asked = self.running.ask(&mut self.store, rate);
+        let asked = taken_out(&mut self.running, self.vc).ask(&mut self.store, rate);
         self.store.plan(StorePlan::Works);
         match asked {
-            Ok((source, request)) => Carried {
-                added: Added::of_request(&request, self.cells, written),
-                actor: SourceActor {
-                    running: AnySource::Asking(source),
-                    ..self
-                },
-                outcome: Outcome::Asked(request),
-            },
-            Err((running, fault)) => Carried {
-                actor: SourceActor { running, ..self },
-                outcome: Outcome::AskRefused(fault),
-                added: Added::of_refusal(fault, plan, written),
-            },
+            Ok((source, request)) => {
+                self.running = AnySource::Asking(source);
+                let added = Added::of_request(&request, self.cells, written);
+                (Outcome::Asked(request), added)
+            }
+            Err((running, fault)) => {
+                self.running = running;
+                let added = Added::of_refusal(fault, plan, written);
+                (Outcome::AskRefused(fault), added)
+            }
         }
     }
 
-    fn again(self) -> Carried
-        ensures { Carries self SourceCommand.Again result.outcome (facts_in result.added) result.actor }
+    fn again(&self) -> Outcome
+        ensures { Carries self.now SourceCommand.Again result [] self.now }
     {
-        let outcome = match &self.running {
+        match &self.running {
             AnySource::Down(_) => Outcome::NotEnabled(Cause::Down),
             AnySource::Idle(_) => Outcome::NotEnabled(Cause::NotAsking),
             AnySource::Asking(source) => Outcome::Repeated(source.again()),
-        };
-        self.unmoved(outcome)
-    }
-
-    fn crash(self) -> Carried
-        ensures { Carries self SourceCommand.Crash result.outcome (facts_in result.added) result.actor }
-    {
-        if self.running.is_down() {
-            return self.unmoved(Outcome::NotEnabled(Cause::Down));
-        }
-        let source = self.running.crash();
-        Carried {
-            actor: SourceActor {
-                running: AnySource::Down(source),
-                ..self
-            },
-            outcome: Outcome::Crashed,
-            added: Added::One(Fact::Crashed),
         }
     }
 
-    fn emit(mut self, at: u64) -> Carried
-        ensures { Carries self (SourceCommand.Emit at) result.outcome (facts_in result.added) result.actor }
+    fn crash(&mut self) -> (Outcome, Added)
+        ensures { Carries self.old SourceCommand.Crash result.0 (facts_in result.1) self.new }
     {
         if self.running.is_down() {
-            return self.unmoved(Outcome::NotEnabled(Cause::Down));
+            return not_enabled(Cause::Down);
+        }
+        let source = taken_out(&mut self.running, self.vc).crash();
+        self.running = AnySource::Down(source);
+        (Outcome::Crashed, Added::One(Fact::Crashed))
+    }
+
+    fn emit(&mut self, at: u64) -> (Outcome, Added)
+        ensures { Carries self.old (SourceCommand.Emit at) result.0 (facts_in result.1) self.new }
+    {
+        if self.running.is_down() {
+            return not_enabled(Cause::Down);
         }
         if at < self.clock {
-            return self.unmoved(Outcome::NotEnabled(Cause::ClockBack));
+            return not_enabled(Cause::ClockBack);
         }
         let rate = self.running.rate();
         let cell = self.cells;
         match self.running.emit(at) {
-            Ok(next) => Carried {
-                actor: SourceActor {
-                    cells: cell + 1,
-                    clock: at,
-                    ..self
-                },
-                outcome: Outcome::Emitted { cell, next },
-                added: Added::One(Fact::Emitted { cell, at, rate }),
-            },
-            Err(fault) => Carried {
-                actor: self,
-                outcome: Outcome::EmitRefused(fault),
-                added: Added::Nothing,
-            },
+            Ok(next) => {
+                self.cells = cell + 1;
+                self.clock = at;
+                let added = Added::One(Fact::Emitted { cell, at, rate });
+                (Outcome::Emitted { cell, next }, added)
+            }
+            Err(fault) => (Outcome::EmitRefused(fault), Added::Nothing),
         }
     }
 
-    fn told(self, answer: &Answer) -> Carried
-        ensures { Carries self (SourceCommand.Told answer.now) result.outcome (facts_in result.added)
-            result.actor }
+    fn told(&mut self, answer: &Answer) -> (Outcome, Added)
+        ensures { Carries self.old (SourceCommand.Told answer.now) result.0 (facts_in result.1) self.new }
     {
+        if !self.is_asking() {
+            return (Outcome::Told(Heard::Ignored), Added::Nothing);
+        }
         let seq = answer.seq();
-        let running = self.running;
-        let (running, heard, added) = match running {
-            AnySource::Asking(source) => match source.answer(answer) {
-                Answered::Raised(source) => (
-                    AnySource::Idle(source),
-                    Heard::Raised,
-                    Added::One(Fact::Heard { seq, granted: true }),
-                ),
-                Answered::Refused(source) => (
-                    AnySource::Idle(source),
-                    Heard::Refused,
-                    Added::One(Fact::Heard {
-                        seq,
-                        granted: false,
-                    }),
-                ),
-                Answered::Ignored(source) => {
-                    (AnySource::Asking(source), Heard::Ignored, Added::Nothing)
-                }
-            },
-            running => (running, Heard::Ignored, Added::Nothing),
+        let AnySource::Asking(source) = taken_out(&mut self.running, self.vc) else {
+            unreachable!()
         };
-        Carried {
-            actor: SourceActor { running, ..self },
-            outcome: Outcome::Told(heard),
-            added,
+        match source.answer(answer) {
+            Answered::Raised(source) => {
+                self.running = AnySource::Idle(source);
+                let added = Added::One(Fact::Heard { seq, granted: true });
+                (Outcome::Told(Heard::Raised), added)
+            }
+            Answered::Refused(source) => {
+                self.running = AnySource::Idle(source);
+                let added = Added::One(Fact::Heard {
+                    seq,
+                    granted: false,
+                });
+                (Outcome::Told(Heard::Refused), added)
+            }
+            Answered::Ignored(source) => {
+                self.running = AnySource::Asking(source);
+                (Outcome::Told(Heard::Ignored), Added::Nothing)
+            }
         }
     }
+}
 
-    fn obey(self, command: &SourceCommand) -> Carried
-        ensures { Carries self command.now result.outcome (facts_in result.added) result.actor }
-    {
-        match *command {
-            SourceCommand::Start { now } => self.start(now),
-            SourceCommand::Ask { rate, plan } => self.ask(rate, plan),
-            SourceCommand::Again => self.again(),
-            SourceCommand::Crash => self.crash(),
-            SourceCommand::Emit { now } => self.emit(now),
-            SourceCommand::Told(answer) => self.told(&answer),
-        }
-    }
+// Takes a source out of its place, in which one of the same connection stands meanwhile that is down.
+fn taken_out(running: &mut AnySource, vc: Vc) -> AnySource
+    ensures { result ≡ running.old }
+{
+    mem::replace(running, AnySource::Down(Source::new(vc)))
+}
+
+// A command that can't be carried out.
+fn not_enabled(cause: Cause) -> (Outcome, Added)
+    ensures { result ≡ (Outcome.NotEnabled cause, Added.Nothing) }
+{
+    (Outcome::NotEnabled(cause), Added::Nothing)
 }

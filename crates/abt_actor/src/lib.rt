@@ -4,7 +4,6 @@
 mod actor;
 mod added;
 mod any_source;
-mod carried;
 
 pub use abt_model::{Cause, Heard, Outcome, SourceCommand};
 pub use actor::SourceActor;
