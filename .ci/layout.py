@@ -73,6 +73,22 @@ def citations(file):
     return re.findall(r'(docs/[\w/.-]+\.md)(?:, "([^"]*)")?', plain)
 
 
+def faults_of_edit(edit):
+    """What a must-fail edit has wrong: each text that it replaces stands once in its file, behind what it replaced before."""
+    text, old = "", ""
+    for line in edit.read_text().split("\n"):
+        word, _, rest = line.partition(": ")
+        if word == "file":
+            file = edit.parent.parent / rest.strip()
+            text = file.read_text() if file.is_file() else ""
+        elif word == "old":
+            old = rest
+            if text.count(old) != 1:
+                yield f"{edit} replaces a text that stands {text.count(old)} times: {old.strip()}"
+        elif line.startswith("new:"):
+            text = text.replace(old, rest, 1)
+
+
 def headings(document):
     return {line.lstrip("#").strip() for line in document.read_text().split("\n") if line.startswith("#")}
 
@@ -94,6 +110,8 @@ def faults():
             yield f"{name} has no README.md"
         if name not in WITHOUT_BODIES and not any((root / "must-fail").glob("*.edit")):
             yield f"{name} has no edit that must fail"
+        for edit in sorted(root.glob("must-fail/*.edit")):
+            yield from faults_of_edit(edit)
         for source in sorted(root.glob("src/**/*.rt")):
             # The numbers of a table stand one a line and aren't counted.
             length = len(re.findall(r"^(?!\s*[\d_]+,$).*\n", source.read_text(), re.M))
