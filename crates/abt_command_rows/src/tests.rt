@@ -1,10 +1,12 @@
 //! Rows of the program from its words to its octets. Cells and their changes are those of docs/FORMATS.md, "Test cells".
 mod cells;
+mod explained;
 mod memory;
 mod plans;
 mod ports;
 mod rates;
 mod runs;
+mod said;
 mod streams;
 mod threads;
 mod told;

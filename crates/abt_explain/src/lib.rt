@@ -5,8 +5,6 @@ mod answers;
 mod explaining;
 mod plan;
 mod telling;
-#[cfg(test)]
-mod tests;
 
 pub use explaining::{explain_text, perform_explain};
 pub use plan::{ExplainPlan, add_commands, plan_of};

@@ -7,6 +7,7 @@ mod runs;
 mod sources;
 mod streams;
 mod text_faults;
+mod whole_texts;
 
 use abt_cell::{Answer, Request, Vc};
 use abt_entry::{Line, LineFault, read_line};

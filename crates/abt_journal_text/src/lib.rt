@@ -15,8 +15,6 @@ mod put_line;
 mod reading;
 mod run;
 mod spot;
-#[cfg(test)]
-mod tests;
 mod write_fault;
 mod writing;
 

@@ -18,5 +18,3 @@ pub use rate::rate_json;
 pub use report::report_json;
 pub use scenario::scenario_json;
 
-#[cfg(test)]
-mod tests;

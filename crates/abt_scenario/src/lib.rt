@@ -11,8 +11,6 @@ mod reports;
 mod sample;
 mod scenario;
 mod sending;
-#[cfg(test)]
-mod tests;
 mod text;
 mod text_fault;
 mod value;

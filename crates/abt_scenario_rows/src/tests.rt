@@ -4,6 +4,7 @@ mod faults;
 mod rows;
 mod runs;
 mod streams;
+mod written;
 
 use abt_scenario::{Scenario, ScenarioFault, read};
 use std::alloc::{AllocError, Global};

@@ -1,7 +1,6 @@
 //! A net with an event of each kind, whose text was written by hand from docs/FORMATS.md.
-use super::*;
-use crate::{Scenario, read};
 use abt_model::Event;
+use abt_scenario::{EventsFault, Scenario, read, sample_text, scenario_text};
 use std::alloc::Global;
 use std::fmt::Debug;
 use std::process::Abort;

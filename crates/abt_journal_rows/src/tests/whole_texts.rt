@@ -1,5 +1,6 @@
 //! Whole texts, read. They are written by hand from docs/JOURNALS.md.
-use crate::{Book, Cause, LineFault, Member, Run, Spot, read_text};
+use abt_entry::{LineFault, Member};
+use abt_journal_text::{Book, Cause, Run, Spot, read_text};
 use std::alloc::Global;
 use std::test::Fail;
 

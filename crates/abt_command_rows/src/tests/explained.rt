@@ -1,5 +1,5 @@
 //! A scenario with three sources and four ports, whose explanation was worked out by hand from docs/RULES.md and docs/EXPLAIN.md.
-use super::*;
+use abt_explain::{ExplainPlan, explain_text, perform_explain};
 use abt_scenario::EngineFault;
 use std::alloc::Global;
 use std::process::Abort;

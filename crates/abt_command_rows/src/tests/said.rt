@@ -1,5 +1,5 @@
 //! Objects that were written by hand from docs/FORMATS.md, "JSON", and docs/RULES.md.
-use super::*;
+use abt_json::{JsonPlan, perform_json};
 use std::alloc::Global;
 use std::process::Abort;
 use std::test::Fail;
