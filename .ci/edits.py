@@ -240,7 +240,7 @@ def judge(edit, ran, texts):
         return
     names = "|".join(it.name for it in changed)
     own = ran.not_proved(names)
-    folder = str(Path(edit.home.proofs).parent / edit.copy) if edit.copy else rf".*/({names})"
+    folder = str(Path(edit.home.proofs).parent / edit.copy) if edit.copy else rf".*/\+?({names})"
     proofs = [at for at in map(OF_A_PROOF.match, ran.lines) if at and re.match(f"{folder}/", at[1])]
     telling = [at for at in proofs if at[2] and not NAMES_ALONE.search(at[3])]
     answers = {(at[1].replace(f"/{edit.copy}/", f"/{edit.home.name}/") if edit.copy else at[1], at[2]) for at in proofs if at[2]}
