@@ -1,3 +1,5 @@
 pub mod Stacked
 pub mod Escaping
+pub mod Within
+pub mod Shown
 mod Ranges

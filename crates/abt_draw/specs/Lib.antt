@@ -3,4 +3,9 @@ pub mod Placed
 pub mod Blocks
 pub mod Escapes
 pub mod Elements
+pub mod Within
+pub mod Lines
+pub mod Marks
+pub mod Rows
+pub mod Lifelines
 pub mod Drawn

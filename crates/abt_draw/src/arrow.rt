@@ -106,8 +106,8 @@ pub fn lost_of(
     })
 }
 
-// The column of somebody.
-fn standing(columns: &[Actor], who: Option<Actor>) -> Option<u32>
+/// The column of somebody.
+pub(crate) fn standing(columns: &[Actor], who: Option<Actor>) -> Option<u32>
     requires { length columns.now ≤ 1024 }
     ensures some { IfSome result (Stands columns.now who) }
     ensures none { IfNone result (IsAbsent columns.now who) }

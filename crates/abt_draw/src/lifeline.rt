@@ -1,23 +1,35 @@
 //! The lifelines: one for each column, with its name above.
+ghost use Rattle.std.specs.Prelude.{◌≡◌, ◌<◌, OnOk, string_bytes};
+ghost use Rattle.abt_draw.specs.Lifelines as spec;
+ghost use Rattle.abt_draw.specs.Lifelines.{HasLifeline, HasLifelines};
+ghost use Rattle.abt_draw.specs.Within.{Grows};
+
 use crate::sheet::Sheet;
 use crate::{Actor, Point, level_of, push_label, push_line, y_of};
 use abt_world::Outcome;
 use std::alloc::AllocError;
 
 /// Adds all lifelines.
-pub(crate) fn push_lifelines(sheet: &Sheet<'_>, out: &mut String) -> Result<(), AllocError> {
-    for (column, actor) in sheet.columns.iter().enumerate() {
+pub(crate) fn push_lifelines(sheet: &Sheet<'_>, out: &mut String) -> Result<(), AllocError>
+    ensures { OnOk result (HasLifelines sheet.now (string_bytes out.new)) }
+{
+    let columns = sheet.columns;
+    for (column, actor) in columns.iter().enumerate() {
         push_lifeline(sheet, out, column as u32, *actor)?;
     }
     Ok(())
 }
 
+#[tactic(auto, using(crate::proofs::Within::growing))]
 fn push_lifeline(
     sheet: &Sheet<'_>,
     out: &mut String,
     column: u32,
     actor: Actor,
-) -> Result<(), AllocError> {
+) -> Result<(), AllocError>
+    ensures grows { OnOk result (Grows (string_bytes out.old) (string_bytes out.new)) }
+    ensures drawn { OnOk result (HasLifeline sheet.now column actor (string_bytes out.new)) }
+{
     let alloc = sheet.alloc;
     let x = sheet.x(column);
     let (kind, number) = name_of(actor);
@@ -30,6 +42,14 @@ fn push_lifeline(
         y: sheet.bottom(),
     };
     push_line(alloc, out, "life", from, to)?;
+    push_work(sheet, out, x, actor)
+}
+
+// Where an actor is up, if it is one that may be down.
+#[tactic(auto, using(crate::proofs::Within::growing))]
+fn push_work(sheet: &Sheet<'_>, out: &mut String, x: u64, actor: Actor) -> Result<(), AllocError>
+    ensures { OnOk result (Grows (string_bytes out.old) (string_bytes out.new)) }
+{
     match actor {
         Actor::Source(conn) => push_up(sheet, out, x, conn),
         Actor::Port(_) | Actor::End(_) => Ok(()),
@@ -37,7 +57,10 @@ fn push_lifeline(
 }
 
 // What an actor is, and its number.
-fn name_of(actor: Actor) -> (&'static str, u16) {
+fn name_of(actor: Actor) -> (&'static str, u16)
+    ensures kind { result.0.now ≡ spec.kind_name actor }
+    ensures number { result.1 ≡ spec.number_of actor }
+{
     match actor {
         Actor::Source(conn) => ("source", conn),
         Actor::Port(port) => ("port", port),
@@ -46,7 +69,10 @@ fn name_of(actor: Actor) -> (&'static str, u16) {
 }
 
 // Where a source is up: from each start to the next crash.
-fn push_up(sheet: &Sheet<'_>, out: &mut String, x: u64, conn: u16) -> Result<(), AllocError> {
+#[tactic(auto, using(crate::proofs::Within::growing))]
+fn push_up(sheet: &Sheet<'_>, out: &mut String, x: u64, conn: u16) -> Result<(), AllocError>
+    ensures { OnOk result (Grows (string_bytes out.old) (string_bytes out.new)) }
+{
     let mut up = None;
     for (event, told) in sheet.chart.told.as_slice().iter().enumerate() {
         if told.event.conn() != Some(conn) {
@@ -69,13 +95,16 @@ fn push_up(sheet: &Sheet<'_>, out: &mut String, x: u64, conn: u16) -> Result<(),
 }
 
 // Such a part, if any of it is in the picture.
+#[tactic(auto, using(crate::proofs::Within::growing))]
 fn push_up_part(
     sheet: &Sheet<'_>,
     out: &mut String,
     x: u64,
     from: u64,
     to: u64,
-) -> Result<(), AllocError> {
+) -> Result<(), AllocError>
+    ensures { OnOk result (Grows (string_bytes out.old) (string_bytes out.new)) }
+{
     if from >= to {
         return Ok(());
     }

@@ -1,10 +1,15 @@
 //! The marks of events on the lifelines.
+ghost use Rattle.std.specs.Prelude.{◌≡◌, ◌++◌, IfSome, OnOk, string_bytes};
+ghost use Rattle.abt_draw.specs.Marks as spec;
+ghost use Rattle.abt_draw.specs.Rows.{DrawsMark, IsBeside};
+ghost use Rattle.abt_draw.specs.Within.{Grows};
+
+use crate::arrow::standing;
 use crate::sheet::Sheet;
-use crate::{
-    Actor, Point, Size, actor_at, column_of, level_of, push_circle, push_line, push_rect, y_of,
-};
+use crate::{Actor, Point, Size, actor_at, level_of, push_circle, push_line, push_rect, y_of};
 use abt_chart::{Stop, Told};
 use abt_gcra::Verdict;
+use abt_net::Net;
 use abt_node::{Back, Onward};
 use abt_world::{Event, Heard, Outcome};
 use std::alloc::AllocError;
@@ -22,7 +27,9 @@ pub(crate) enum Mark {
 }
 
 /// The mark of what an event answered, if it has one.
-pub(crate) fn mark_of(outcome: &Outcome) -> Option<Mark> {
+pub(crate) fn mark_of(outcome: &Outcome) -> Option<Mark>
+    ensures { result ≡ spec.mark_of outcome.now }
+{
     match *outcome {
         Outcome::Started => Some(Mark::Start),
         Outcome::Crashed => Some(Mark::Crash),
@@ -47,7 +54,9 @@ pub(crate) fn mark_of(outcome: &Outcome) -> Option<Mark> {
 }
 
 /// The class of a mark.
-pub(crate) fn class_of(mark: Mark) -> &'static str {
+pub(crate) fn class_of(mark: Mark) -> &'static str
+    ensures { result.now ≡ spec.class_of mark }
+{
     match mark {
         Mark::Start => "mark start",
         Mark::Crash => "mark crash",
@@ -60,8 +69,9 @@ pub(crate) fn class_of(mark: Mark) -> &'static str {
 }
 
 // On whose lifeline an event happens.
-fn actor_of(sheet: &Sheet<'_>, event: &Event) -> Option<Actor> {
-    let net = sheet.net;
+fn actor_of(net: &Net, event: &Event) -> Option<Actor>
+    ensures { result ≡ spec.actor_of net.now event.now }
+{
     match *event {
         Event::Start { conn, .. }
         | Event::Ask { conn, .. }
@@ -79,33 +89,38 @@ fn actor_of(sheet: &Sheet<'_>, event: &Event) -> Option<Actor> {
 }
 
 /// Adds the mark of an event, if it has one. What happens on no lifeline of the picture is marked beside them, on the left.
+#[tactic(auto, using(crate::proofs::Within::growing))]
 pub(crate) fn push_mark(
     sheet: &Sheet<'_>,
     out: &mut String,
     event: usize,
     told: &Told,
-) -> Result<(), AllocError> {
+) -> Result<(), AllocError>
+    ensures grows { OnOk result (Grows (string_bytes out.old) (string_bytes out.new)) }
+    ensures drawn { OnOk result (IfSome (spec.mark_of told.now.outcome)
+        (λ mark. DrawsMark sheet.now event told.now mark (string_bytes out.new))) }
+{
     let Some(mark) = mark_of(&told.outcome) else {
         return Ok(());
     };
-    let column = match actor_of(sheet, &told.event) {
-        Some(actor) => column_of(sheet.columns, actor),
-        None => None,
-    };
-    let x = match column {
-        Some(column) => sheet.x(column),
-        None => sheet.beside(),
-    };
+    let x = x_beside(sheet, actor_of(sheet.net, &told.event));
     let y = y_of(level_of(&sheet.rows, event));
     push_shape(sheet, out, mark, Point { x, y })
 }
 
-fn push_shape(
-    sheet: &Sheet<'_>,
-    out: &mut String,
-    mark: Mark,
-    at: Point,
-) -> Result<(), AllocError> {
+// The middle of the column of somebody, or a place beside all of them where there is none.
+fn x_beside(sheet: &Sheet<'_>, who: Option<Actor>) -> u64
+    ensures { IsBeside sheet.now who result }
+{
+    match standing(sheet.columns, who) {
+        Some(column) => sheet.x(column),
+        None => sheet.beside(),
+    }
+}
+
+fn push_shape(sheet: &Sheet<'_>, out: &mut String, mark: Mark, at: Point) -> Result<(), AllocError>
+    ensures { OnOk result (string_bytes out.new ≡ string_bytes out.old ++ spec.shape_text mark at) }
+{
     let alloc = sheet.alloc;
     let class = class_of(mark);
     match mark {
@@ -119,37 +134,73 @@ fn push_shape(
 }
 
 /// Adds a cross.
+#[tactic(auto, unfolding(crate::specs::Marks::cross_text))]
 pub(crate) fn push_cross(
     sheet: &Sheet<'_>,
     out: &mut String,
     class: &str,
     at: Point,
     arm: u64,
-) -> Result<(), AllocError> {
-    let (left, right) = (at.x.saturating_sub(arm), at.x.saturating_add(arm));
-    let (above, below) = (at.y.saturating_sub(arm), at.y.saturating_add(arm));
+) -> Result<(), AllocError>
+    ensures { OnOk result (string_bytes out.new ≡ string_bytes out.old ++ spec.cross_text class.now at arm) }
+{
     push_line(
         sheet.alloc,
         out,
         class,
-        Point { x: left, y: above },
-        Point { x: right, y: below },
+        above_left(at, arm),
+        below_right(at, arm),
     )?;
     push_line(
         sheet.alloc,
         out,
         class,
-        Point { x: left, y: below },
-        Point { x: right, y: above },
+        below_left(at, arm),
+        above_right(at, arm),
     )
 }
 
-fn push_tick(
-    sheet: &Sheet<'_>,
-    out: &mut String,
-    class: &str,
-    at: Point,
-) -> Result<(), AllocError> {
+// The points so far from another one to both sides.
+fn above_left(at: Point, far: u64) -> Point
+    ensures { result ≡ spec.above_left at far }
+{
+    Point {
+        x: at.x.saturating_sub(far),
+        y: at.y.saturating_sub(far),
+    }
+}
+
+fn below_right(at: Point, far: u64) -> Point
+    ensures { result ≡ spec.below_right at far }
+{
+    Point {
+        x: at.x.saturating_add(far),
+        y: at.y.saturating_add(far),
+    }
+}
+
+fn below_left(at: Point, far: u64) -> Point
+    ensures { result ≡ spec.below_left at far }
+{
+    Point {
+        x: at.x.saturating_sub(far),
+        y: at.y.saturating_add(far),
+    }
+}
+
+fn above_right(at: Point, far: u64) -> Point
+    ensures { result ≡ spec.above_right at far }
+{
+    Point {
+        x: at.x.saturating_add(far),
+        y: at.y.saturating_sub(far),
+    }
+}
+
+#[tactic(auto, unfolding(crate::specs::Marks::tick_text))]
+fn push_tick(sheet: &Sheet<'_>, out: &mut String, class: &str, at: Point) -> Result<(), AllocError>
+    ensures { OnOk result (string_bytes out.new ≡ string_bytes out.old ++ spec.tick_text class.now at) }
+{
     let from = Point {
         x: at.x.saturating_sub(60),
         y: at.y,
@@ -161,14 +212,13 @@ fn push_tick(
     push_line(sheet.alloc, out, class, from, to)
 }
 
-fn push_box(sheet: &Sheet<'_>, out: &mut String, class: &str, at: Point) -> Result<(), AllocError> {
-    let corner = Point {
-        x: at.x.saturating_sub(40),
-        y: at.y.saturating_sub(40),
-    };
+#[tactic(auto, unfolding(crate::specs::Marks::box_text))]
+fn push_box(sheet: &Sheet<'_>, out: &mut String, class: &str, at: Point) -> Result<(), AllocError>
+    ensures { OnOk result (string_bytes out.new ≡ string_bytes out.old ++ spec.box_text class.now at) }
+{
     let size = Size {
         width: 80,
         height: 80,
     };
-    push_rect(sheet.alloc, out, class, corner, size)
+    push_rect(sheet.alloc, out, class, above_left(at, 40), size)
 }

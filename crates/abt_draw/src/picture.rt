@@ -1,4 +1,10 @@
 //! Whole pictures.
+ghost use Rattle.std.specs.Prelude.{◌≡◌, ◌+◌, ◌<◌, ℕ, Some, OnOk, slice_get, string_bytes};
+ghost use Rattle.abt_chart.specs.declared.crossings.Crossing.{Crossing};
+ghost use Rattle.abt_draw.specs.Lifelines.{HasLifelines};
+ghost use Rattle.abt_draw.specs.Rows.{HasRow, HasRows};
+ghost use Rattle.abt_draw.specs.Within.{Grows};
+
 use crate::band::{BAND_STEP, Band, edge_of, push_ground};
 use crate::lifeline::push_lifelines;
 use crate::rates::{most_of, push_rates};
@@ -7,6 +13,7 @@ use crate::sheet::{Sheet, line_of};
 use crate::stack::{most_at, push_stacks};
 use crate::stuck::push_stuck;
 use crate::{Actor, BAND_HEIGHT, Point, push_label, push_line};
+use abt_chart::Told;
 use std::alloc::AllocError;
 
 /// Adds all of a picture, and gives the lower edge of it. The explanation is that of the whole run.
@@ -14,32 +21,57 @@ pub(crate) fn push_picture(
     sheet: &Sheet<'_>,
     out: &mut String,
     explanation: &str,
-) -> Result<u64, AllocError> {
+) -> Result<u64, AllocError>
+    ensures lifelines { OnOk result (HasLifelines sheet.now (string_bytes out.new)) }
+    ensures rows { OnOk result (HasRows sheet.now explanation.now (string_bytes out.new)) }
+{
     push_lifelines(sheet, out)?;
     push_rows(sheet, out, explanation)?;
-    push_stuck(sheet, out)?;
-    push_bands(sheet, out)
+    let mut below = String::new(sheet.alloc);
+    push_stuck(sheet, &mut below)?;
+    let lower = push_bands(sheet, &mut below)?;
+    out.push_str(below.as_str())?;
+    Ok(lower)
 }
 
 // The rows of the events that are shown.
-fn push_rows(sheet: &Sheet<'_>, out: &mut String, explanation: &str) -> Result<(), AllocError> {
+fn push_rows(sheet: &Sheet<'_>, out: &mut String, explanation: &str) -> Result<(), AllocError>
+    ensures grows { OnOk result (Grows (string_bytes out.old) (string_bytes out.new)) }
+    ensures rows { OnOk result (HasRows sheet.now explanation.now (string_bytes out.new)) }
+{
+    let events = sheet.chart.told.as_slice();
     let mut rest = explanation;
-    for (event, told) in sheet.chart.told.as_slice().iter().enumerate() {
+    for (event, told) in events.iter().enumerate() {
         let (line, behind) = line_of(rest);
+        push_shown(sheet, out, event, told, line)?;
         rest = behind;
-        if event < sheet.rows.first {
-            continue;
-        }
-        if let Some(crossing) = sheet
-            .chart
-            .crossings
-            .as_slice()
-            .get(event - sheet.rows.first)
-        {
-            push_row(sheet, out, event, told, crossing, line)?;
-        }
     }
     Ok(())
+}
+
+// The row of an event, if it is shown.
+#[tactic(auto, using(crate::proofs::Within::growing))]
+fn push_shown(
+    sheet: &Sheet<'_>,
+    out: &mut String,
+    event: usize,
+    told: &Told,
+    line: &str,
+) -> Result<(), AllocError>
+    requires { event < usize.MAX }
+    ensures grows { OnOk result (Grows (string_bytes out.old) (string_bytes out.new)) }
+    ensures row { (k : ℕ) (crossing : Crossing) → sheet.now.rows.first + k ≡ event →
+        slice_get sheet.now.chart.now.crossings k ≡ Some crossing →
+        OnOk result (HasRow sheet.now event told.now crossing line.now (string_bytes out.new)) }
+{
+    if event < sheet.rows.first {
+        return Ok(());
+    }
+    let crossings = sheet.chart.crossings.as_slice();
+    match crossings.get(event - sheet.rows.first) {
+        Some(crossing) => push_row(sheet, out, event, told, crossing, line),
+        None => Ok(()),
+    }
 }
 
 // The bands of the ports, then those of the sources, and the axis below them.

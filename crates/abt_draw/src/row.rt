@@ -1,16 +1,24 @@
 //! The rows of a picture: what each event sent, brought and answered.
+ghost use Rattle.std.specs.Prelude.{◌≡◌, ◌<◌, nat_lt, None, IfSome, OnOk, codes, string_bytes};
+ghost use Rattle.abt_text.specs.Text.{◌⋅◌};
+ghost use Rattle.abt_draw.specs.Places as places;
+ghost use Rattle.abt_draw.specs.Rows.{DrawsArrow, DrawsArrival, DrawsLost, DrawsStump, DrawsDeparture, HasRow};
+ghost use Rattle.abt_draw.specs.Rows as spec;
+ghost use Rattle.abt_draw.specs.Within.{Grows};
+
 use crate::mark::{Mark, mark_of, push_cross, push_mark};
 use crate::sheet::Sheet;
 use crate::words::{answer_in, clipped, message_words};
 use crate::{
-    Arrow, Point, Size, actor_at, arrow_of, column_of, level_of, lost_of, push_group, push_label,
-    push_line, push_rect, y_of,
+    Arrow, Lost, Point, Size, actor_at, arrow_of, column_of, level_of, lost_of, push_group,
+    push_label, push_line, push_rect, y_of,
 };
 use abt_chart::{Arrival, Crossing, Departure, Kind, Message, Told};
 use abt_format::push_event;
 use std::alloc::AllocError;
 
 /// Adds the row of an event, whose line in the explanation of its run this is.
+#[tactic(auto, using(crate::proofs::Within::growing))]
 pub(crate) fn push_row(
     sheet: &Sheet<'_>,
     out: &mut String,
@@ -18,22 +26,57 @@ pub(crate) fn push_row(
     told: &Told,
     crossing: &Crossing,
     line: &str,
-) -> Result<(), AllocError> {
+) -> Result<(), AllocError>
+    requires { event < usize.MAX }
+    ensures grows { OnOk result (Grows (string_bytes out.old) (string_bytes out.new)) }
+    ensures row { OnOk result (HasRow sheet.now event told.now crossing.now line.now (string_bytes out.new)) }
+{
     let alloc = sheet.alloc;
-    let number = (event as u64).saturating_add(1);
+    let number = event + 1;
     let mut content = String::new(alloc);
     push_words(sheet, &mut content, event, number, told, line)?;
-    if let Some(arrival) = &crossing.arrival {
-        let departure = crossing.departure.as_ref();
-        push_arrival(sheet, &mut content, event, arrival, departure)?;
-    }
-    if let Some(departure) = &crossing.departure {
-        push_departure(sheet, &mut content, event, departure)?;
-    }
+    push_brought(sheet, &mut content, event, crossing)?;
+    push_sent(sheet, &mut content, event, crossing)?;
     push_mark(sheet, &mut content, event, told)?;
     let name = format!(in alloc; "e{number}")?;
     let class = class_of(told);
     push_group(alloc, out, class, name.as_str(), line, content.as_str())
+}
+
+// What an event brings, if it brings a message.
+#[tactic(auto, using(crate::proofs::Within::growing))]
+fn push_brought(
+    sheet: &Sheet<'_>,
+    out: &mut String,
+    event: usize,
+    crossing: &Crossing,
+) -> Result<(), AllocError>
+    ensures grows { OnOk result (Grows (string_bytes out.old) (string_bytes out.new)) }
+    ensures drawn { OnOk result (IfSome crossing.now.arrival
+        (λ arrival. DrawsArrival sheet.now event arrival (string_bytes out.new))) }
+{
+    match &crossing.arrival {
+        Some(arrival) => push_arrival(sheet, out, event, arrival, crossing.departure.as_ref()),
+        None => Ok(()),
+    }
+}
+
+// What an event sends, if it sends a message.
+#[tactic(auto, using(crate::proofs::Within::growing))]
+fn push_sent(
+    sheet: &Sheet<'_>,
+    out: &mut String,
+    event: usize,
+    crossing: &Crossing,
+) -> Result<(), AllocError>
+    ensures grows { OnOk result (Grows (string_bytes out.old) (string_bytes out.new)) }
+    ensures drawn { OnOk result (IfSome crossing.now.departure
+        (λ departure. DrawsDeparture sheet.now event departure (string_bytes out.new))) }
+{
+    match &crossing.departure {
+        Some(departure) => push_departure(sheet, out, event, departure),
+        None => Ok(()),
+    }
 }
 
 fn class_of(told: &Told) -> &'static str {
@@ -45,14 +88,17 @@ fn class_of(told: &Told) -> &'static str {
 }
 
 // The number and the text of the event, and below them what it answered.
+#[tactic(auto, using(crate::proofs::Within::growing))]
 fn push_words(
     sheet: &Sheet<'_>,
     out: &mut String,
     event: usize,
-    number: u64,
+    number: usize,
     told: &Told,
     line: &str,
-) -> Result<(), AllocError> {
+) -> Result<(), AllocError>
+    ensures grows { OnOk result (Grows (string_bytes out.old) (string_bytes out.new)) }
+{
     let alloc = sheet.alloc;
     let y = y_of(level_of(&sheet.rows, event));
     let corner = Point {
@@ -82,13 +128,17 @@ fn push_words(
 }
 
 // The arrow of the message that an event brings.
+#[tactic(auto, using(crate::proofs::Within::growing))]
 fn push_arrival(
     sheet: &Sheet<'_>,
     out: &mut String,
     event: usize,
     arrival: &Arrival,
     departure: Option<&Departure>,
-) -> Result<(), AllocError> {
+) -> Result<(), AllocError>
+    ensures grows { OnOk result (Grows (string_bytes out.old) (string_bytes out.new)) }
+    ensures drawn { OnOk result (DrawsArrival sheet.now event arrival.now (string_bytes out.new)) }
+{
     match arrow_of(sheet.net, sheet.columns, &sheet.rows, event, arrival) {
         Some(arrow) => push_arrow(sheet, out, &arrow, departure),
         None => Ok(()),
@@ -96,34 +146,44 @@ fn push_arrival(
 }
 
 // An arrow, with its words below its head: on the side from which it comes, or on the other one, if what the event sends goes back there.
+#[tactic(auto, using(crate::proofs::Within::growing))]
 fn push_arrow(
     sheet: &Sheet<'_>,
     out: &mut String,
     arrow: &Arrow,
     departure: Option<&Departure>,
-) -> Result<(), AllocError> {
+) -> Result<(), AllocError>
+    ensures grows { OnOk result (Grows (string_bytes out.old) (string_bytes out.new)) }
+    ensures drawn { OnOk result (DrawsArrow sheet.now arrow.now (string_bytes out.new)) }
+{
     let alloc = sheet.alloc;
     let from = sheet.point(arrow.from);
     let to = sheet.point(arrow.to);
     push_line(alloc, out, arrow_class(arrow), from, to)?;
     let words = message_words(sheet, &arrow.message, arrow.again, arrow.late)?;
     let y = to.y.saturating_add(95);
-    let from_left = from.x < to.x;
-    let target = match departure {
-        Some(departure) => target_x(sheet, departure),
-        None => None,
-    };
-    let returns = match target {
-        Some(x) => (x < to.x) == from_left,
-        None => false,
-    };
-    if from_left == returns {
+    if is_noted_behind(sheet, from.x, to.x, departure) {
         let x = to.x.saturating_add(60);
         push_label(alloc, out, "note", Point { x, y }, words.as_str())
     } else {
         let x = to.x.saturating_sub(60);
         push_label(alloc, out, "note end", Point { x, y }, words.as_str())
     }
+}
+
+// Whether the words of an arrow stand to the right of its head: so they do where it comes from there, and what the event sends doesn't go
+// back, or where it comes from the left, and that goes back.
+fn is_noted_behind(sheet: &Sheet<'_>, from: u64, to: u64, departure: Option<&Departure>) -> bool {
+    let from_left = from < to;
+    let target = match departure {
+        Some(departure) => target_x(sheet, departure),
+        None => None,
+    };
+    let returns = match target {
+        Some(x) => (x < to) == from_left,
+        None => false,
+    };
+    from_left == returns
 }
 
 // Where the lifeline is to which a message goes.
@@ -134,7 +194,9 @@ fn target_x(sheet: &Sheet<'_>, departure: &Departure) -> Option<u64> {
     Some(sheet.x(column))
 }
 
-fn arrow_class(arrow: &Arrow) -> &'static str {
+fn arrow_class(arrow: &Arrow) -> &'static str
+    ensures { result.now ≡ spec.arrow_class arrow.now }
+{
     match (arrow.message.kind, arrow.again || arrow.late) {
         (Kind::Request, false) => "arrow request",
         (Kind::Request, true) => "arrow request old",
@@ -146,12 +208,16 @@ fn arrow_class(arrow: &Arrow) -> &'static str {
 }
 
 // What an event sends: nothing is drawn of it where it comes in a row of the picture, since its arrow is drawn there.
+#[tactic(auto, using(crate::proofs::Within::growing))]
 fn push_departure(
     sheet: &Sheet<'_>,
     out: &mut String,
     event: usize,
     departure: &Departure,
-) -> Result<(), AllocError> {
+) -> Result<(), AllocError>
+    ensures grows { OnOk result (Grows (string_bytes out.old) (string_bytes out.new)) }
+    ensures drawn { OnOk result (DrawsDeparture sheet.now event departure.now (string_bytes out.new)) }
+{
     match departure.came {
         Some(came) if is_behind(sheet, came) => {
             let leaving = Arrival {
@@ -168,25 +234,38 @@ fn push_departure(
 }
 
 // Whether an event comes behind the last row.
-fn is_behind(sheet: &Sheet<'_>, event: usize) -> bool {
+fn is_behind(sheet: &Sheet<'_>, event: usize) -> bool
+    ensures { result ≡ nat_lt sheet.now.rows.count (places.level_of sheet.now.rows event) }
+{
     level_of(&sheet.rows, event) > sheet.rows.count
 }
 
-// A message that never comes: half of its way, a cross, and its words above.
+// A message that never comes, if those between whom it goes are shown.
+#[tactic(auto, using(crate::proofs::Within::growing))]
 fn push_lost(
     sheet: &Sheet<'_>,
     out: &mut String,
     event: usize,
     departure: &Departure,
-) -> Result<(), AllocError> {
-    let Some(lost) = lost_of(sheet.net, sheet.columns, &sheet.rows, event, departure) else {
-        return Ok(());
-    };
+) -> Result<(), AllocError>
+    ensures grows { OnOk result (Grows (string_bytes out.old) (string_bytes out.new)) }
+    ensures drawn { departure.now.came ≡ None →
+        OnOk result (DrawsStump sheet.now event departure.now (string_bytes out.new)) }
+{
+    match lost_of(sheet.net, sheet.columns, &sheet.rows, event, departure) {
+        Some(lost) => push_stump(sheet, out, &lost),
+        None => Ok(()),
+    }
+}
+
+// A message that never comes: half of its way, a cross, and its words above.
+#[tactic(auto, using(crate::proofs::Within::growing))]
+fn push_stump(sheet: &Sheet<'_>, out: &mut String, lost: &Lost) -> Result<(), AllocError>
+    ensures grows { OnOk result (Grows (string_bytes out.old) (string_bytes out.new)) }
+    ensures drawn { OnOk result (DrawsLost sheet.now lost.now (string_bytes out.new)) }
+{
     let from = sheet.point(lost.from);
-    let middle = Point {
-        x: (from.x / 2).saturating_add(sheet.x(lost.toward) / 2),
-        y: from.y,
-    };
+    let middle = half_way(sheet, lost);
     push_line(sheet.alloc, out, lost_class(&lost.message), from, middle)?;
     push_cross(sheet, out, "lost", middle, 35)?;
     let words = message_words(sheet, &lost.message, false, false)?;
@@ -197,7 +276,20 @@ fn push_lost(
     push_label(sheet.alloc, out, "note middle", at, words.as_str())
 }
 
-fn lost_class(message: &Message) -> &'static str {
+// Half of the way that a message that never comes was to go.
+fn half_way(sheet: &Sheet<'_>, lost: &Lost) -> Point
+    ensures { result ≡ spec.half_way sheet.now lost.now }
+{
+    let from = sheet.point(lost.from);
+    Point {
+        x: from.x / 2 + sheet.x(lost.toward) / 2,
+        y: from.y,
+    }
+}
+
+fn lost_class(message: &Message) -> &'static str
+    ensures { result.now ≡ codes "stump " ⋅ spec.kind_class message.now.kind }
+{
     match message.kind {
         Kind::Request => "stump request",
         Kind::Yes => "stump yes",

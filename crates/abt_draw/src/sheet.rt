@@ -1,5 +1,6 @@
 //! What a picture is drawn of, and where.
-ghost use Rattle.std.specs.Prelude.{◌≤◌, length};
+ghost use Rattle.std.specs.Prelude.{◌≡◌, ◌≤◌, length};
+ghost use Rattle.abt_draw.specs.Lines.{first_line, behind_line};
 
 use crate::words::answer_in;
 use crate::{Actor, Point, Rows, Spot, StuckMark, x_of, y_of};
@@ -56,8 +57,14 @@ pub(crate) fn step_of(columns: usize) -> u32 {
 }
 
 impl Sheet<'_> {
+    ghost use Rattle.std.specs.Prelude.{◌≡◌, ◌≤◌, ◌+◌, ◌-◌, ◌/◌};
+    ghost use Rattle.abt_draw.specs.Places as places;
+    ghost use Rattle.abt_draw.specs.Rows.{point_of};
+
     /// The point of a column and a level.
-    pub(crate) fn point(&self, spot: Spot) -> Point {
+    pub(crate) fn point(&self, spot: Spot) -> Point
+        ensures { result ≡ point_of self.now spot }
+    {
         Point {
             x: self.x(spot.column),
             y: y_of(spot.level),
@@ -65,12 +72,16 @@ impl Sheet<'_> {
     }
 
     /// The middle of a column.
-    pub(crate) fn x(&self, column: u32) -> u64 {
+    pub(crate) fn x(&self, column: u32) -> u64
+        ensures { result ≡ places.x_of self.now.left self.now.step column }
+    {
         x_of(self.left, self.step, column)
     }
 
     /// A place beside the lifelines, between them and the words of the rows.
-    pub(crate) fn beside(&self) -> u64 {
+    pub(crate) fn beside(&self) -> u64
+        ensures { result ≡ self.now.left - self.now.step / 2 - 20 }
+    {
         u64::from(self.left.saturating_sub(self.step / 2).saturating_sub(20))
     }
 
@@ -81,18 +92,24 @@ impl Sheet<'_> {
     }
 
     /// The lower edge of the rows of events.
-    fn edge(&self) -> u64 {
+    fn edge(&self) -> u64
+        ensures { result ≡ places.y_of (self.now.rows.count + 1) }
+    {
         y_of(self.rows.count.saturating_add(1))
     }
 
     /// The middle of the row of a stuck entry, which counts from 1.
-    pub(crate) fn stuck_y(&self, number: u64) -> u64 {
+    pub(crate) fn stuck_y(&self, number: u64) -> u64
+        ensures { places.y_of self.now.rows.count ≤ result }
+    {
         self.edge()
             .saturating_add(ROW_HEIGHT.saturating_mul(number))
     }
 
     /// The lower edge of the chart of messages.
-    pub(crate) fn bottom(&self) -> u64 {
+    pub(crate) fn bottom(&self) -> u64
+        ensures { places.y_of self.now.rows.count ≤ result }
+    {
         match self.stuck.len() {
             0 => self.edge(),
             count => self.stuck_y((count as u64).saturating_add(1)),
@@ -140,8 +157,11 @@ fn left_behind(signs: usize, step: u32) -> u32 {
 }
 
 /// The first line of a text, and what stands behind it.
-pub(crate) fn line_of(text: &str) -> (&str, &str) {
-    match text.split_once("\n") {
+pub(crate) fn line_of(text: &str) -> (&str, &str)
+    ensures line { result.0.now ≡ first_line text.now }
+    ensures behind { result.1.now ≡ behind_line text.now }
+{
+    match text.split_once('\n') {
         Some(cut) => cut,
         None => (text, ""),
     }

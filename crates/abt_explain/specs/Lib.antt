@@ -1,3 +1,4 @@
 pub mod Answers
 pub mod Told
 pub mod Explained
+pub mod Plans

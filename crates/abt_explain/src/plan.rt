@@ -1,4 +1,7 @@
 //! The words of `abt explain`.
+ghost use Rattle.std.specs.Prelude.{◌≡◌, Some, IfOk, IfSome, IsSome, IsNone, codes};
+ghost use Rattle.abt_explain.specs.Plans.{IsPlanOf, json_in};
+
 use abt_perform::WordsFault;
 use clap::{Arg, ArgAction, ArgMatches, Command};
 use std::alloc::{AllocError, Global};
@@ -45,7 +48,13 @@ pub fn plan_of(
     alloc: Global,
     name: &str,
     found: &ArgMatches<'_>,
-) -> Result<Option<ExplainPlan>, WordsFault> {
+) -> Result<Option<ExplainPlan>, WordsFault>
+    ensures plan { IfOk result (λ asked. IfSome asked (IsPlanOf found.now)) }
+    ensures name { IfOk result (λ asked. IsSome asked → name.now ≡ codes "explain") }
+    ensures json { json_in found.now ≡ Some (codes "true") → IfOk result IsNone }
+    ensures some { name.now ≡ codes "explain" → json_in found.now ≡ Some (codes "false") →
+        IfOk result IsSome }
+{
     if name != "explain" || found.get_flag(JSON) {
         return Ok(None);
     }
