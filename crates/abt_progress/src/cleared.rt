@@ -1,5 +1,5 @@
 //! Writers before whose octets the line is taken away.
-ghost use Rattle.std.specs.Prelude.{◌≡◌};
+ghost use Rattle.std.specs.Prelude.{◌≡◌, ◌↔◌, ◌++◌, ◌∷◌, [], List, ℕ, IsTrue};
 ghost use Rattle.std.specs.Io.{WritesAtMost};
 ghost use Rattle.std.specs.Io.KnownBytes.{WriteAppends, Keeps};
 
@@ -41,6 +41,8 @@ impl<'a, W: Write, E: Write + Drop> Write for Cleared<'a, W, E> {
 }
 
 // Whether octets end with a line.
-fn ends_line(octets: &[u8]) -> bool {
+fn ends_line(octets: &[u8]) -> bool
+    ensures { IsTrue result ↔ ((before : List ℕ) × (octets.now ≡ before ++ 10 ∷ [])) }
+{
     octets.last() == Some(&b'\n')
 }

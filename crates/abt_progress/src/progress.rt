@@ -1,4 +1,9 @@
 //! How far a task is, shared by what it reads and what it writes.
+ghost use Rattle.std.specs.Prelude.{◌≡◌, ◌==◌, ◌⊎◌, if◌then◌else◌, true, false};
+ghost use Rattle.std.specs.Io.KnownBytes.{Keeps};
+ghost use Rattle.abt_progress.specs.Line.{Draws, line_text};
+ghost use Rattle.abt_progress.specs.Meter.{counted, is_due};
+
 use crate::drawing::Drawing;
 use crate::meter::Meter;
 use std::alloc::Global;
@@ -69,14 +74,35 @@ impl<E: Write + Drop> Progress<E> {
 }
 
 impl<E: Write> State<E> {
-    fn count(&mut self, alloc: Global, octets: usize) {
+    // Counts the octets of a read, none at the end of an input, and draws the line anew where it is time for that.
+    fn count(&mut self, alloc: Global, octets: usize)
+        ensures octets { self.new.meter.octets ≡ counted self.old.meter.octets octets }
+        ensures ended { self.new.ended ≡ (octets == 0) }
+        ensures told { self.new.meter.told ≡ (if is_due self.old.meter.octets self.old.meter.told octets
+            then self.new.meter.octets else self.old.meter.told) }
+        ensures draws { is_due self.old.meter.octets self.old.meter.told octets ≡ true →
+            Keeps (E.contents self.old.drawing.terminal) (E.contents self.new.drawing.terminal)
+            ⊎ Draws (line_text self.new.meter.octets self.new.ended)
+            (E.contents self.old.drawing.terminal) (E.contents self.new.drawing.terminal) }
+        ensures stands { is_due self.old.meter.octets self.old.meter.told octets ≡ true →
+            self.new.drawing.stands ≡ true }
+        ensures early { is_due self.old.meter.octets self.old.meter.told octets ≡ false →
+            self.new.drawing ≡ self.old.drawing }
+    {
         self.ended = octets == 0;
         if self.meter.count(octets) {
             self.draw(alloc);
         }
     }
 
-    fn draw(&mut self, alloc: Global) {
+    // Draws the line of what was counted.
+    fn draw(&mut self, alloc: Global)
+        ensures draws { Keeps (E.contents self.old.drawing.terminal) (E.contents self.new.drawing.terminal)
+            ⊎ Draws (line_text self.old.meter.octets self.old.ended)
+            (E.contents self.old.drawing.terminal) (E.contents self.new.drawing.terminal) }
+        ensures stands { self.new.drawing.stands ≡ true }
+        ensures same { (self.new.meter ≡ self.old.meter) × (self.new.ended ≡ self.old.ended) }
+    {
         self.drawing.draw(alloc, self.meter.octets(), self.ended);
     }
 }
