@@ -128,13 +128,14 @@ class Run:
 
 
 class Picture:
-    """A picture, as an XML parser has it."""
+    """A picture, as an XML parser has it. Rows for entries at which journals are stuck may stand below those of the events."""
 
     def __init__(self, text, run, first, last, only):
         self.root = ElementTree.fromstring(text)
         self.run, self.first, self.last, self.only = run, first, last, only
         self.width = tenths(self.root.get("width"))
-        self.bottom = self.y(last - first + 1)
+        self.stuck = self.shapes(self.root, "g", "stuck")
+        self.bottom = self.y(last - first + 1 + (len(self.stuck) + 1 if self.stuck else 0))
 
     def y(self, level):
         return TOP + ROW * level
@@ -158,7 +159,7 @@ class Picture:
 
     def check(self):
         places = self.lifelines()
-        groups = {one.get("id"): one for one in self.root.iter(SVG + "g")}
+        groups = {one.get("id"): one for one in self.shapes(self.root, "g", "event")}
         assert list(groups) == [f"e{event + 1}" for event in range(self.first, self.last)], "events"
         for event in range(self.first, self.last):
             self.check_arrows(groups[f"e{event + 1}"], event, places)

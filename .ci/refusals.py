@@ -21,6 +21,7 @@ FOLDER = ROOT / "scenarios"
 CELL = "0010064c02045258000000000000000000000001" + "6a" * 30 + "038c"
 MEMORY = "fault: memory\n"
 LINES = ("", "gathered\n", "gathered\nwoven\n")
+WOVEN = b'{"net":{"ports":[1],"connections":[]}}\n{"port":0,"place":0,"input":{"capacity":2},"reply":"set"}\n{"end":true}\n'
 # The words of a command, and what it is given on standard input.
 COMMANDS = [
     (["rate", "53e8"], b""),
@@ -38,8 +39,10 @@ COMMANDS = [
     (["run", "none.toml"], b""),
     (["run", "."], b""),
     (["police", "--tau", "0", "--rate", "53e8"], b"5\n"),
-    (["audit"], b'{"net":{"ports":[1],"connections":[]}}\n{"port":0,"place":0,"input":{"capacity":2},"reply":"set"}\n{"end":true}\n'),
-    (["audit"], b'{"net":{"ports":[1],"connections":[]}}\n{"port":0,"place":0,"input":{"capacity":2},"reply":"passed"}\n{"end":true}\n'),
+    (["audit"], WOVEN),
+    (["audit"], WOVEN.replace(b'"set"', b'"passed"')),
+    (["audit", "--draw", "PICTURE.svg"], WOVEN),
+    (["audit", "--draw", "PICTURE.svg"], WOVEN.replace(b'"set"', b'"passed"')),
     (["shape", "--rate", "53e8"], b"x\n"),
     (["shape", "--rate", "53e"], b""),
     (["check"], b"ports = [\n"),
@@ -117,6 +120,9 @@ def faults(program, preload, folder, command):
     with_threads = command in (THREADS, DRAWN_THREADS)
     texts = LINES if command is THREADS else beginnings(without[0]) if "--stdin" in command[0] else ("",)
     allowed = [(text, MEMORY, 1, {}) for text in texts]
+    if "--draw" in command[0]:
+        # The picture comes behind what is printed; and it is drawn though the words of a fault were refused memory.
+        allowed += [(without[0], MEMORY, 1, {}), (without[0], without[1] + MEMORY, 1, {}), ("", MEMORY, 1, without[3])]
     if with_threads:
         allowed.append(("", "fault: Thread\n", 1, {}))
     ends = ends_of(program, preload, folder, command, THREADS_TRIED if with_threads else MOST_TRIED)

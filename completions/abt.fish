@@ -43,6 +43,10 @@ complete -c abt -n '__fish_seen_subcommand_from check' -l json -d 'Answer as JSO
 complete -c abt -n '__fish_seen_subcommand_from check' -s h -l help -d 'Print help'
 complete -c abt -n '__fish_seen_subcommand_from check' -F
 complete -c abt -n '__fish_seen_subcommand_from audit' -l events -x -d 'Write the net and the events to this file as a scenario, once all is shown'
+complete -c abt -n '__fish_seen_subcommand_from audit' -l draw -x -d 'Draw the events, or those before journals are stuck, to this file: a picture if it ends in .svg, a page if in .html'
+complete -c abt -n '__fish_seen_subcommand_from audit' -l only -x -d 'With --draw, show these connections alone, as 0,2'
+complete -c abt -n '__fish_seen_subcommand_from audit' -l from -x -d 'With --draw, show the events from this one on, counted from 1'
+complete -c abt -n '__fish_seen_subcommand_from audit' -l to -x -d 'With --draw, show the events up to this one'
 complete -c abt -n '__fish_seen_subcommand_from audit' -l quiet -d 'Draw no progress line; one is drawn on standard error where that is a terminal'
 complete -c abt -n '__fish_seen_subcommand_from audit' -s h -l help -d 'Print help'
 complete -c abt -n '__fish_seen_subcommand_from audit' -F

@@ -1,6 +1,6 @@
 -- What an audit shows of what was told, or doesn't.
 use Rattle.std.proofs.Common.{◌≡◌, ◌⊎◌, ◌∙◌, inl, inr, List, length, map, Option, Some, refl, sym, ap, subst}
-use Rattle.std.specs.Prelude.{String}
+use Rattle.std.specs.Prelude.{String, IfSome}
 use Rattle.std.specs.declared.alloc.Global.{Global}
 use Rattle.std.specs.Io.KnownBytes.{Appends, Keeps}
 use Rattle.abt_text.specs.Text.{Text}
@@ -17,7 +17,8 @@ use Rattle.abt_journal_text.specs.declared.fault.TextFault.{TextFault}
 use Rattle.abt_journal_text.specs.declared.open_write.OpenWrite.{OpenWrite}
 use Rattle.abt_journal_text.specs.declared.run.Run.{Run}
 use Rattle.abt_audit.specs.Audits.{AreRead, IsUnreadAmong, IsAudited, IsToldAs, IsSafelyTold, IsReadAs, journals_with}
-use Rattle.abt_audit.specs.Performing.{IsStuckRun, IsNoRun, EndsBy, IsShownAs, IsShownWhole, shown_text}
+use Rattle.abt_audit.specs.Parts.{IsSizedRun}
+use Rattle.abt_audit.specs.Performing.{IsStuckRun, IsNoRun, EndsBy, IsShownAs, IsShownWhole, run_in, shown_text}
 use Rattle.abt_audit.specs.Protocol.{fault_lines}
 use Rattle.abt_audit.specs.Settling.{AreSettled, IsSettledRun}
 use Rattle.abt_audit.proofs.SettledRuns.{as_many}
@@ -51,11 +52,10 @@ told_as told read run audited r s p = record {
 pub stuck_so : (names : List (String Global)) (told : Told) (read run : Run) (why : WeaveFault) (lines : Text) → IsToldRun told read → IsSettledRun read run
     → IsWeaveFault run.net (record { ports = run.journals; sources = run.sources.items }) why
     → SaysNoneIsWoven run.net (record { ports = run.journals; sources = run.sources.items }) why → lines ≡ fault_lines names run why
-    → IsStuckRun names told why lines
+    → IsStuckRun names told why lines run
 stuck_so names told read run why lines r s p q is = record {
   read = read;
   is_run = r;
-  run = run;
   settled = s;
   is_fault = as_told (λ (journals : RunJournals). IsWeaveFault run.net journals why) told read run r s p;
   none = as_told (λ (journals : RunJournals). SaysNoneIsWoven run.net journals why) told read run r s q;
@@ -67,6 +67,24 @@ pub sources_stay : (told : Told) (read run : Run) → IsToldRun told read → Is
 sources_stay told read run r s =
     as_many read.net read.open_writes.items read.sources.items run.sources.items s.settled ∙ r.source_count
     ∙ sym (ap (λ (one : Run). length one.net.conns) s.same)
+
+-- a run that is handed out has a journal for each port and each source
+pub sized_left : (names : List (String Global)) (lefts : List (Option Text)) (why : AuditFault) (old new : Option Text) → EndsBy names lefts why old new
+    → IfSome (run_in why) IsSizedRun
+sized_left names lefts (fault.Stuck why lines run) old new (inl read) = (let other = read.0.1 in absurd (cc))
+sized_left names lefts (fault.Stuck why lines run) old new (inr (inl judged)) =
+    let s = judged.0.is in
+    let same = s.settled.same in
+    record {
+      ports = ap (λ (one : Run). length one.journals) same ∙ s.is_run.port_count ∙ sym (ap (λ (one : Run). length one.net.capacities) same);
+      conns = sources_stay judged.0.told s.read run s.is_run s.settled;
+    }
+sized_left names lefts (fault.Stuck why lines run) old new (inr (inr (inl refused))) = (let other = refused.0 in absurd (cc))
+sized_left names lefts (fault.Stuck why lines run) old new (inr (inr (inr wrote))) = (let other = wrote.0 in absurd (cc))
+sized_left names lefts (fault.Text why) old new ends = tt
+sized_left names lefts fault.Nothing old new ends = tt
+sized_left names lefts fault.Write old new ends = tt
+sized_left names lefts fault.Memory old new ends = tt
 
 pub read_as : (lefts : List (Option Text)) (told : Told) (so : Told → Type 0) → AreRead 1 blank lefts told → so told → IsReadAs lefts so
 read_as lefts told so read p = record { told = told; read = read; is = p }

@@ -3,6 +3,7 @@ pub mod Heard
 pub mod Judged
 pub mod Lists
 pub mod OwnAnswers
+pub mod Parted
 pub mod Settled
 pub mod SettledRuns
 pub mod SourcesContradicted

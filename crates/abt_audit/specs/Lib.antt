@@ -3,6 +3,7 @@ pub mod Ways
 pub mod Audits
 pub mod Names
 pub mod Stuck
+pub mod Parts
 pub mod Protocol
 pub mod Contradicted
 pub mod Performing

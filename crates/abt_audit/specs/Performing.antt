@@ -1,5 +1,5 @@
 -- What `abt audit` leaves, by its exit status.
-use Rattle.std.specs.Prelude.{◌≡◌, ◌⊎◌, ⊤, List, None, Option, String, codes}
+use Rattle.std.specs.Prelude.{◌≡◌, ◌⊎◌, ⊤, List, None, Some, Option, String, codes}
 use Rattle.std.specs.declared.alloc.Global.{Global}
 use Rattle.abt_weave.specs.Faults.{IsWeaveFault, SaysNoneIsWoven}
 use Rattle.std.specs.Io.KnownBytes.{Appends, Keeps}
@@ -29,11 +29,10 @@ use Rattle.abt_audit.specs.declared.fault.AuditFault.TheVariants as fault
 abbrev pub shown_text : Text
 shown_text = codes "woven" ⋅ newline ⋅ codes "safe" ⋅ newline
 
--- The journals that were told aren't woven once what they leave open is settled, and these are the lines of the fault.
-pub record IsStuckRun (names : List (String Global)) (told : Told) (why : WeaveFault) (lines : Text) : Type 0 where
+-- What was told is this run once what it leaves open is settled; its journals aren't woven, and these are the lines of the fault.
+pub record IsStuckRun (names : List (String Global)) (told : Told) (why : WeaveFault) (lines : Text) (run : Run) : Type 0 where
   pub read : Run
   pub is_run : IsToldRun told read
-  pub run : Run
   pub settled : IsSettledRun read run
   pub is_fault : IsWeaveFault run.net (journals_with told run.sources.items) why
   pub none : SaysNoneIsWoven run.net (journals_with told run.sources.items) why
@@ -42,7 +41,7 @@ pub record IsStuckRun (names : List (String Global)) (told : Told) (why : WeaveF
 -- why what was told isn't audited
 abbrev pub IsNoRun : List (String Global) → Told → AuditFault → Type 0
 IsNoRun names told fault.Nothing = told.net ≡ None
-IsNoRun names told (fault.Stuck why lines) = IsStuckRun names told why lines.items
+IsNoRun names told (fault.Stuck why lines run) = IsStuckRun names told why lines.items run
 IsNoRun names told fault.Memory = Unit {0}
 IsNoRun names told other = ⊥
 
@@ -77,14 +76,14 @@ weave_fault weave.Memory = program_fault.Memory
 abbrev pub fault_text : List (String Global) → AuditFault → Text
 fault_text names (fault.Text why) = text_fault_line names why
 fault_text names fault.Nothing = codes "fault: Nothing" ⋅ newline
-fault_text names (fault.Stuck why lines) = fault_line (weave_fault why) ⋅ lines.items
+fault_text names (fault.Stuck why lines run) = fault_line (weave_fault why) ⋅ lines.items
 fault_text names fault.Write = fault_line program_fault.Write
 fault_text names fault.Memory = fault_line program_fault.Memory
 
 -- what is told of a fault has the names of texts in it, so that it needs memory
 abbrev pub NeedsMemory : AuditFault → Type 0
 NeedsMemory (fault.Text why) = ⊤
-NeedsMemory (fault.Stuck why lines) = ⊤
+NeedsMemory (fault.Stuck why lines run) = ⊤
 NeedsMemory other = ⊥
 
 -- what was told of a fault, or want of memory for it
@@ -96,6 +95,18 @@ pub record IsNotShown (names : List (String Global)) (lefts : List (Option Text)
   pub fault : AuditFault
   pub ends : EndsBy names lefts fault old new
   pub told : TellsFault names fault errors_old errors_new
+
+-- the run whose journals a fault says to be stuck
+abbrev pub run_in : AuditFault → Option Run
+run_in (fault.Stuck why lines run) = Some run
+run_in other = None
+
+-- The same, and it hands out the run whose journals are stuck, if they are.
+pub record IsNotShownLeaving (names : List (String Global)) (lefts : List (Option Text)) (old new errors_old errors_new : Option Text) (left : Option Run) : Type 0 where
+  pub fault : AuditFault
+  pub ends : EndsBy names lefts fault old new
+  pub told : TellsFault names fault errors_old errors_new
+  pub is_left : left ≡ run_in fault
 
 -- An audit that shows all of this net and these events.
 pub record IsShownAs (lefts : List (Option Text)) (old new : Option Text) (run : AuditedRun) : Type 0 where

@@ -10,6 +10,16 @@ const FILES: &str = "FILES";
 // The file for the scenario of its events.
 const EVENTS: &str = "events";
 
+/// The file for a picture of its events.
+pub const DRAW: &str = "draw";
+
+// What is shown of them.
+const ONLY: &str = "only";
+
+const FROM: &str = "from";
+
+const TO: &str = "to";
+
 // Whether nothing is shown of how far it is.
 const QUIET: &str = "quiet";
 
@@ -32,12 +42,35 @@ fn audit_command<'a>(alloc: Global) -> Result<Command<'a>, AllocError> {
         .long("events")
         .value_name("OUT")
         .help("Write the net and the events to this file as a scenario, once all is shown");
-    Command::new(alloc, "audit")
+    let audit = Command::new(alloc, "audit")
         .about("Say whether journals are those of one safe run")
         .after_help(AUDIT_EXAMPLE)
         .arg(files)?
-        .arg(events)?
-        .arg(quiet)
+        .arg(events)?;
+    add_picture_words(alloc, audit)?.arg(quiet)
+}
+
+// The file for a picture, and what is shown there.
+fn add_picture_words<'a>(alloc: Global, audit: Command<'a>) -> Result<Command<'a>, AllocError> {
+    let draw = Arg::new(alloc, DRAW).long("draw").value_name("OUT").help(
+        "Draw the events, or those before journals are stuck, to this file: a picture if it ends in .svg, a page if in .html",
+    );
+    let only = Arg::new(alloc, ONLY)
+        .long("only")
+        .value_name("LIST")
+        .help("With --draw, show these connections alone, as 0,2")
+        .requires_arg(DRAW)?;
+    let from = Arg::new(alloc, FROM)
+        .long("from")
+        .value_name("N")
+        .help("With --draw, show the events from this one on, counted from 1")
+        .requires_arg(DRAW)?;
+    let to = Arg::new(alloc, TO)
+        .long("to")
+        .value_name("N")
+        .help("With --draw, show the events up to this one")
+        .requires_arg(DRAW)?;
+    audit.arg(draw)?.arg(only)?.arg(from)?.arg(to)
 }
 
 /// The plan that the words behind a command's name ask for, or `None` if the command isn't this.

@@ -1,7 +1,7 @@
 //! Why texts aren't shown to be journals of a safe run.
 ghost use Rattle.std.specs.Prelude.{◌≡◌};
 
-use abt_journal_text::TextFault;
+use abt_journal_text::{Run, TextFault};
 use abt_weave::WeaveFault;
 use std::alloc::AllocError;
 
@@ -12,8 +12,12 @@ pub enum AuditFault {
     Text(TextFault),
     /// There is no text.
     Nothing,
-    /// The journals aren't woven into events: these are the lines of the entries at which they are stuck.
-    Stuck { fault: WeaveFault, lines: Vec<u8> },
+    /// The journals of this run aren't woven into events: these are the lines of the entries at which they are stuck.
+    Stuck {
+        fault: WeaveFault,
+        lines: Vec<u8>,
+        run: Run,
+    },
     /// The output can't be written.
     Write,
     /// Memory was refused.

@@ -1,5 +1,5 @@
 //! Texts of readers, audited.
-ghost use Rattle.std.specs.Prelude.{◌≡◌, ◌⊎◌, map, IfOk, IfErr, IfSome, IsSome, IsNone, MatchResult, string_bytes};
+ghost use Rattle.std.specs.Prelude.{◌≡◌, ◌⊎◌, map, IfOk, IfErr, IfSome, IsOk, IsErr, MatchResult, string_bytes};
 ghost use Rattle.std.specs.Io.KnownBytes.{Keeps};
 ghost use Rattle.abt_perform.specs.Names.{fault_line};
 ghost use Rattle.abt_perform.specs.Plans.{Tells};
@@ -8,7 +8,8 @@ ghost use Rattle.abt_text.specs.Text.{◌⋅◌};
 ghost use Rattle.abt_audit.specs.Audits.{IsToldAs};
 ghost use Rattle.abt_audit.specs.Names.{text_fault_line};
 ghost use Rattle.abt_audit.specs.declared.fault.AuditFault.TheVariants as audit_fault;
-ghost use Rattle.abt_audit.specs.Performing.{EndsBy, IsNotShown, IsNoRun, IsShownAs, IsShownWhole, TellsFault, weave_fault};
+ghost use Rattle.abt_audit.specs.Performing.{EndsBy, IsNotShown, IsNotShownLeaving, IsNoRun, IsShownAs, IsShownWhole, TellsFault, run_in, weave_fault};
+ghost use Rattle.abt_audit.specs.Parts.{IsSizedRun};
 ghost use Rattle.abt_audit.specs.Performing as spec;
 
 use crate::auditing::{AuditedRun, audit};
@@ -41,35 +42,54 @@ pub fn perform_audit<R: Read + Drop, W: Write, E: Write>(
         (W.contents writer.old) (W.contents writer.new) (E.contents errors.old) (E.contents errors.new) }
 {
     match show_audit(alloc, names, readers, writer, errors) {
-        Some(run) => {
+        Ok(run) => {
             drop(run);
             0
         }
-        None => 1,
+        Err(left) => {
+            drop(left);
+            1
+        }
     }
 }
 
 /// Audits the texts that some readers have left, as [`perform_audit`] does, and hands out the net and the events that they are once all
-/// lines went out to `writer`; `None` where `errors` tells why not.
+/// lines went out to `writer`.
+///
+/// # Errors
+/// `errors` tells why not. If the journals are stuck, the run is handed out that they are of, what it leaves open settled.
 pub fn show_audit<R: Read + Drop, W: Write, E: Write>(
     alloc: Global,
     names: &[String],
     readers: Vec<R>,
     writer: &mut W,
     errors: &mut E,
-) -> Option<AuditedRun>
-    ensures ok { IfSome result (IsShownAs (map R.remaining readers.items) (W.contents writer.old)
+) -> Result<AuditedRun, Option<Run>>
+    ensures ok { IfOk result (IsShownAs (map R.remaining readers.items) (W.contents writer.old)
         (W.contents writer.new)) }
-    ensures quiet { IsSome result → Keeps (E.contents errors.old) (E.contents errors.new) }
-    ensures err { IsNone result → IsNotShown names.now (map R.remaining readers.items)
+    ensures quiet { IsOk result → Keeps (E.contents errors.old) (E.contents errors.new) }
+    ensures err { IsErr result → IsNotShown names.now (map R.remaining readers.items)
         (W.contents writer.old) (W.contents writer.new) (E.contents errors.old) (E.contents errors.new) }
+    ensures sized { IfErr result (λ left. IfSome left IsSizedRun) }
+    ensures left { IfErr result (IsNotShownLeaving names.now (map R.remaining readers.items)
+        (W.contents writer.old) (W.contents writer.new) (E.contents errors.old) (E.contents errors.new)) }
 {
     match audit_texts(alloc, names, readers, writer) {
-        Ok(run) => Some(run),
+        Ok(run) => Ok(run),
         Err(fault) => {
             tell(alloc, names, &fault, errors);
-            None
+            Err(run_in(fault))
         }
+    }
+}
+
+// The run whose journals a fault says to be stuck.
+fn run_in(fault: AuditFault) -> Option<Run>
+    ensures { result ≡ run_in fault }
+{
+    match fault {
+        AuditFault::Stuck { run, .. } => Some(run),
+        _ => None,
     }
 }
 
@@ -129,7 +149,7 @@ fn judge_book(alloc: Global, names: &[String], book: Book) -> Result<AuditedRun,
             let Ok(lines) = stuck_text(alloc, names, &run, &fault) else {
                 return Err(AuditFault::Memory);
             };
-            Err(AuditFault::Stuck { fault, lines })
+            Err(AuditFault::Stuck { fault, lines, run })
         }
     }
 }
@@ -141,7 +161,7 @@ fn tell<E: Write>(alloc: Global, names: &[String], fault: &AuditFault, errors: &
     match fault {
         AuditFault::Text(why) => tell_made(text_fault(alloc, names, why), errors),
         AuditFault::Nothing => tell_text(errors, "fault: Nothing\n"),
-        AuditFault::Stuck { fault, lines } => {
+        AuditFault::Stuck { fault, lines, .. } => {
             tell_made(stuck_fault(alloc, fault, lines.as_slice()), errors)
         }
         AuditFault::Write => tell_text(errors, WRITE_LINE),

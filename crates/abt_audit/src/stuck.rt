@@ -114,7 +114,8 @@ fn add_entry(
     add_line(alloc, text, names, *spot, line.as_slice())
 }
 
-fn add_stuck(
+// Adds the line of an entry at which a journal is stuck.
+pub(crate) fn add_stuck(
     alloc: Global,
     text: &mut Vec<u8>,
     names: &[String],

@@ -9,4 +9,5 @@ pub mod Showing
 pub mod Tasks
 pub mod Telling
 pub mod RunDrawing
+pub mod AuditDrawing
 pub mod Opening

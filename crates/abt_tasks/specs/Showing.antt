@@ -4,7 +4,7 @@ use Rattle.abt_json.specs.declared.plan.JsonPlan.TheVariants as json
 use Rattle.abt_perform.specs.declared.plan.Plan.TheVariants as plain
 use Rattle.abt_tasks.specs.declared.asked.Asked.{Asked}
 use Rattle.abt_tasks.specs.declared.task.Task.{Task}
-use Rattle.abt_tasks.specs.declared.task.Task.TheVariants.{Plan, Checked, Keep, Tell, Explain, Json, Audit, Sample}
+use Rattle.abt_tasks.specs.declared.task.Task.TheVariants.{Plan, Checked, Keep, Tell, Explain, Json, Audit, Sample, DrawAudit}
 
 -- the tasks that read an input that can be long: those that run a scenario, and audits
 abbrev pub reads_long : Task → Bool
@@ -18,6 +18,7 @@ reads_long (Tell plan) = true
 reads_long (Explain plan) = true
 reads_long (Audit plan) = true
 reads_long (Sample plan) = true
+reads_long (DrawAudit plan) = true
 reads_long task = false
 
 abbrev pub shows_progress : Asked → Bool

@@ -11,6 +11,7 @@ use Rattle.abt_explain.specs.Explained.{IsExplained, IsRefused}
 use Rattle.abt_explain.specs.declared.plan.ExplainPlan.{ExplainPlan}
 use Rattle.abt_codes.specs.Printed as codes_printed
 use Rattle.abt_parts.specs.Answered as parts
+use Rattle.abt_tasks.specs.AuditDrawing.{IsAuditDrawnHere, IsAuditUndrawnHere}
 use Rattle.abt_tasks.specs.Audits.{IsAuditedHere, IsUnauditedHere, TakesToAudit}
 use Rattle.abt_tasks.specs.Check.{TakesToCheck, IsCheckedHere, IsFaultyHere}
 use Rattle.abt_tasks.specs.Checked as checked
@@ -22,7 +23,7 @@ use Rattle.abt_tasks.specs.RunDrawing.{TakesToDrawRun, IsRunDrawnHere}
 use Rattle.abt_tasks.specs.Sampling.{IsSampledHere, IsUnsampledHere}
 use Rattle.abt_tasks.specs.Telling.{TakesToTell, IsToldHere, IsUntoldHere}
 use Rattle.abt_tasks.specs.declared.task.Task.{Task}
-use Rattle.abt_tasks.specs.declared.task.Task.TheVariants.{Plan, Checked, Keep, Tell, Explain, Check, Json, Audit, Sample, Parts, Codes, Draw, DrawRun}
+use Rattle.abt_tasks.specs.declared.task.Task.TheVariants.{Plan, Checked, Keep, Tell, Explain, Check, Json, Audit, Sample, Parts, Codes, Draw, DrawRun, DrawAudit}
 
 abbrev pub IsAllowed : Task → Type 0
 IsAllowed (Plan plan) = IsWithinLimits plan
@@ -38,6 +39,7 @@ IsAllowed (Parts plan) = parts.IsAllowedPlan plan
 IsAllowed (Codes plan) = ⊤
 IsAllowed (Draw plan) = ⊤
 IsAllowed (DrawRun plan) = AreWorkers plan.workers
+IsAllowed (DrawAudit plan) = ⊤
 
 -- the file whose scenario is to be explained
 abbrev pub file_of : ExplainPlan → Option Text
@@ -81,6 +83,7 @@ TakesOf (Parts plan) old new = ⊤
 TakesOf (Codes plan) old new = Keeps old new
 TakesOf (Draw plan) old new = TakesToDraw plan old new
 TakesOf (DrawRun plan) old new = TakesToDrawRun plan old new
+TakesOf (DrawAudit plan) old new = TakesToAudit plan.texts old new
 
 -- what the task prints went out, all of it; where it tells events of a run, on standard error, so did these. A picture
 -- is printed nowhere: it goes to its own file
@@ -98,6 +101,7 @@ IsCarriedOut (Parts plan) left old new errors_old errors_new = parts.IsAnswered 
 IsCarriedOut (Codes plan) left old new errors_old errors_new = codes_printed.IsPrinted plan old new
 IsCarriedOut (Draw plan) left old new errors_old errors_new = Keeps old new
 IsCarriedOut (DrawRun plan) left old new errors_old errors_new = Keeps old new × IsRunDrawnHere plan left
+IsCarriedOut (DrawAudit plan) left old new errors_old errors_new = IsAuditDrawnHere plan left old new
 
 -- what is told of a task that is carried out: a check beside a run, if it is asked for; what is told of events is said above; and else
 -- nothing
@@ -121,3 +125,4 @@ IsNotCarriedOut (Parts plan) left old new errors_old errors_new = parts.IsRefuse
 IsNotCarriedOut (Codes plan) left old new errors_old errors_new = codes_printed.IsRefused plan old new errors_old errors_new
 IsNotCarriedOut (Draw plan) left old new errors_old errors_new = Keeps old new
 IsNotCarriedOut (DrawRun plan) left old new errors_old errors_new = Keeps old new
+IsNotCarriedOut (DrawAudit plan) left old new errors_old errors_new = IsAuditUndrawnHere plan left old new errors_old errors_new

@@ -30,7 +30,7 @@ fn reads_long(task: &Task) -> bool
         Task::Plan(plan) => matches!(plan, Plan::Run(_) | Plan::Threads { .. }),
         Task::Json(plan) => matches!(plan, JsonPlan::Run(_) | JsonPlan::Explain(_)),
         Task::Checked(_) | Task::Keep(_) | Task::Tell(_) | Task::Explain(_) => true,
-        Task::Audit(_) | Task::Sample(_) => true,
+        Task::Audit(_) | Task::Sample(_) | Task::DrawAudit(_) => true,
         Task::Check(_) | Task::Parts(_) | Task::Codes(_) => false,
         Task::Draw(_) | Task::DrawRun(_) => false,
     }

@@ -1,10 +1,12 @@
 //! Audits, over the files that are named or over the input that is there.
-ghost use Rattle.std.specs.Prelude.{◌≡◌, ◌⊎◌, length, IfOk, IfSome, IsSome, IsNone};
+ghost use Rattle.std.specs.Prelude.{◌≡◌, ◌⊎◌, length, IfOk, IfErr, IfSome, IsOk, IsErr};
 ghost use Rattle.std.specs.Io.KnownBytes.{Keeps};
+ghost use Rattle.abt_audit.specs.Parts.{IsSizedRun};
 ghost use Rattle.abt_tasks.specs.Audits.{IsAuditedAs, IsAuditedHere, IsUnauditedHere, TakesToAudit};
 
 use abt_audit::{AuditPlan, AuditedRun, show_audit};
 use abt_commands::line_of_unopened;
+use abt_journal_text::Run;
 use abt_perform::{MEMORY_LINE, tell_text};
 use abt_progress::{Progress, Watched};
 use std::alloc::{AllocGlobal, Global};
@@ -31,15 +33,19 @@ pub(crate) fn audit<T: Files + AllocGlobal, R: Read, W: Write, E: Write, P: Writ
         (E.contents errors.old) (E.contents errors.new) }
 {
     match show_texts(rt, progress, plan, input, out, errors) {
-        Some(run) => {
+        Ok(run) => {
             drop(run);
             0
         }
-        None => 1,
+        Err(left) => {
+            drop(left);
+            1
+        }
     }
 }
 
-// The same, and hands out the net and the events; None where a line on `errors` tells why there are none.
+// The same, and hands out the net and the events; Err where a line on `errors` tells why there are none, with the run whose journals are stuck,
+// if they are.
 pub(crate) fn show_texts<T: Files + AllocGlobal, R: Read, W: Write, E: Write, P: Write + Drop>(
     rt: &T,
     progress: &Progress<P>,
@@ -47,12 +53,13 @@ pub(crate) fn show_texts<T: Files + AllocGlobal, R: Read, W: Write, E: Write, P:
     input: &mut R,
     out: &mut W,
     errors: &mut E,
-) -> Option<AuditedRun>
+) -> Result<AuditedRun, Option<Run>>
     ensures reads { TakesToAudit plan.now (R.remaining input.old) (R.remaining input.new) }
-    ensures ok { IfSome result (IsAuditedAs plan.now (R.remaining input.old) (W.contents out.old)
+    ensures ok { IfOk result (IsAuditedAs plan.now (R.remaining input.old) (W.contents out.old)
         (W.contents out.new)) }
-    ensures quiet { IsSome result → Keeps (E.contents errors.old) (E.contents errors.new) }
-    ensures err { IsNone result →
+    ensures quiet { IsOk result → Keeps (E.contents errors.old) (E.contents errors.new) }
+    ensures sized { IfErr result (λ left. IfSome left IsSizedRun) }
+    ensures err { IsErr result →
         IsUnauditedHere plan.now (R.remaining input.old) (W.contents out.old) (W.contents out.new)
         (E.contents errors.old) (E.contents errors.new) }
 {
@@ -64,7 +71,7 @@ pub(crate) fn show_texts<T: Files + AllocGlobal, R: Read, W: Write, E: Write, P:
         Ok(files) => show_audit(rt.alloc(), names, files, out, errors),
         Err(error) => {
             tell_text(errors, line_of_unopened(&error));
-            None
+            Err(None)
         }
     }
 }
@@ -75,18 +82,19 @@ fn show_input<R: Read, W: Write, E: Write>(
     input: &mut R,
     out: &mut W,
     errors: &mut E,
-) -> Option<AuditedRun>
-    ensures ok { IfSome result (IsAuditedAs AuditPlan.Input (R.remaining input.old) (W.contents out.old)
+) -> Result<AuditedRun, Option<Run>>
+    ensures ok { IfOk result (IsAuditedAs AuditPlan.Input (R.remaining input.old) (W.contents out.old)
         (W.contents out.new)) }
-    ensures quiet { IsSome result → Keeps (E.contents errors.old) (E.contents errors.new) }
-    ensures err { IsNone result →
+    ensures quiet { IsOk result → Keeps (E.contents errors.old) (E.contents errors.new) }
+    ensures sized { IfErr result (λ left. IfSome left IsSizedRun) }
+    ensures err { IsErr result →
         IsUnauditedHere AuditPlan.Input (R.remaining input.old) (W.contents out.old) (W.contents out.new)
         (E.contents errors.old) (E.contents errors.new) }
 {
     let mut readers = Vec::new(alloc);
     if readers.push(input).is_err() {
         tell_text(errors, MEMORY_LINE);
-        return None;
+        return Err(None);
     }
     show_audit(alloc, &[], readers, out, errors)
 }

@@ -2,6 +2,7 @@
 ghost use Rattle.std.specs.Prelude.{◌≡◌, ◌⊎◌};
 ghost use Rattle.abt_tasks.specs.Tasks.{IsAllowed, IsCarriedOut, IsNotCarriedOut, TakesOf, TellsOf};
 
+use crate::audit_drawing::draw_audit;
 use crate::auditing::audit;
 use crate::checked::carry_out_checked;
 use crate::checking::check;
@@ -61,5 +62,6 @@ where
         Task::Codes(plan) => perform_codes(rt.alloc(), plan, out, errors),
         Task::Draw(plan) => draw(rt, plan, input, errors),
         Task::DrawRun(plan) => draw_run(rt, plan, input, errors),
+        Task::DrawAudit(plan) => draw_audit(rt, progress, plan, input, out, errors),
     }
 }

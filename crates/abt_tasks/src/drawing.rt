@@ -2,6 +2,7 @@
 ghost use Rattle.std.specs.Prelude.{◌≡◌, ◌⊎◌};
 ghost use Rattle.std.specs.Io.KnownBytes.{Keeps};
 ghost use Rattle.std.specs.Option.{option_map};
+ghost use Rattle.abt_draw.specs.Drawn.{TellsSome};
 ghost use Rattle.abt_tasks.specs.Drawing.{TakesToDraw};
 ghost use Rattle.abt_tasks.specs.Drawing as spec;
 
@@ -62,6 +63,7 @@ pub(crate) fn keep_picture<T: Files + AllocGlobal, E: Write>(
 ) -> u8
     ensures status { (result ≡ 0) ⊎ (result ≡ 1) }
     ensures quiet { result ≡ 0 → Keeps (E.contents errors.old) (E.contents errors.new) }
+    ensures told { result ≡ 1 → TellsSome (E.contents errors.old) (E.contents errors.new) }
 {
     let text = match text {
         Ok(text) => text,

@@ -2,6 +2,7 @@
 #![tactic(auto)]
 
 mod asked;
+mod audit_drawing;
 mod auditing;
 mod carrying;
 mod checked;
@@ -20,6 +21,7 @@ mod telling;
 mod words;
 
 pub use asked::Asked;
+pub use audit_drawing::DrawAuditPlan;
 pub use carrying::carry_out_task;
 pub use environment::given_task;
 pub use run_drawing::DrawRunPlan;

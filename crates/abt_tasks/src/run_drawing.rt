@@ -151,21 +151,44 @@ fn keep_run<T: Files + AllocGlobal, E: Write>(
     ensures quiet { result ≡ 0 → Keeps (E.contents errors.old) (E.contents errors.new) }
 {
     let JudgedRun { ran, judged } = run;
-    let events = judged.events.as_slice();
-    let saved = save_if_named(rt, named(&plan.events), &ran.net, events, errors);
+    keep_events(
+        rt,
+        named(&plan.events),
+        &plan.picture,
+        &ran.net,
+        judged.events.as_slice(),
+        errors,
+    )
+}
+
+// Writes events as a scenario to the file of a name, if there is one, and their picture to its own, or tells why not.
+pub(crate) fn keep_events<T: Files + AllocGlobal, E: Write>(
+    rt: &T,
+    name: Option<&str>,
+    picture: &PicturePlan,
+    net: &Net,
+    events: &[Event],
+    errors: &mut E,
+) -> u8
+    ensures status { (result ≡ 0) ⊎ (result ≡ 1) }
+    ensures ok { result ≡ 0 →
+        IsSavedIfNamed (option_map (λ file. file.now) name.entry) net.now events.now }
+    ensures quiet { result ≡ 0 → Keeps (E.contents errors.old) (E.contents errors.new) }
+{
+    let saved = save_if_named(rt, name, net, events, errors);
     let scene = Scene {
-        net: &ran.net,
+        net,
         events,
         lines: &[],
         stuck: &[],
     };
-    let text = picture_of(rt.alloc(), &plan.picture, &scene);
-    let drawn = keep_picture(rt, &plan.picture, text, errors);
+    let text = picture_of(rt.alloc(), picture, &scene);
+    let drawn = keep_picture(rt, picture, text, errors);
     if saved == 0 { drawn } else { saved }
 }
 
 // Writes events as a scenario to the file of a name, if there is one, or tells why not.
-pub(crate) fn save_if_named<T: Files + AllocGlobal, E: Write>(
+fn save_if_named<T: Files + AllocGlobal, E: Write>(
     rt: &T,
     name: Option<&str>,
     net: &Net,

@@ -32,7 +32,7 @@ pub(crate) fn sample<T: Files + AllocGlobal, R: Read, W: Write, E: Write, P: Wri
         IsUnsampledHere plan.now (R.remaining input.old) (W.contents out.old) (W.contents out.new)
         (E.contents errors.old) (E.contents errors.new) }
 {
-    let Some(run) = show_texts(rt, progress, &plan.texts, input, out, errors) else {
+    let Ok(run) = show_texts(rt, progress, &plan.texts, input, out, errors) else {
         return 1;
     };
     match save_events(

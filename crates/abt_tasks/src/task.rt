@@ -1,4 +1,5 @@
 //! What the words of a command line ask for.
+use crate::audit_drawing::DrawAuditPlan;
 use crate::run_drawing::DrawRunPlan;
 use abt_audit::{AuditPlan, SamplePlan};
 use abt_check::CheckPlan;
@@ -39,4 +40,6 @@ pub enum Task {
     Draw(DrawPlan),
     /// Run a scenario in threads, and draw the events that were woven.
     DrawRun(DrawRunPlan),
+    /// Say whether journals are those of one safe run, and draw their events.
+    DrawAudit(DrawAuditPlan),
 }

@@ -3,6 +3,7 @@ ghost use Rattle.std.specs.Prelude.{IfOk, IfSome};
 ghost use Rattle.abt_tasks.specs.Tasks.{IsAllowed};
 
 use crate::asked::Asked;
+use crate::audit_drawing::draw_audit_plan_of;
 use crate::json::json_plan_of;
 use crate::keeping::keep_plan_of;
 use crate::run_drawing::draw_run_plan_of;
@@ -103,6 +104,9 @@ fn drawing_task_of(
 {
     if let Some(plan) = draw_run_plan_of(alloc, name, found)? {
         return Ok(Some(Task::DrawRun(plan)));
+    }
+    if let Some(plan) = draw_audit_plan_of(alloc, name, found)? {
+        return Ok(Some(Task::DrawAudit(plan)));
     }
     match abt_draw::plan_of(alloc, name, found)? {
         Some(plan) => Ok(Some(Task::Draw(plan))),

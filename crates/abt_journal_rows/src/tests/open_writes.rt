@@ -71,7 +71,7 @@ fn audited(alloc: Global, pieces: &[&str]) -> Result<(Vec<StorePlan>, Vec<u8>), 
     let mut told = Vec::new(alloc);
     let run = show_audit(alloc, &[], readers, &mut shown, &mut told);
     let mut plans = Vec::new(alloc);
-    let Some(run) = run else {
+    let Ok(run) = run else {
         if told.as_slice() == b"fault: memory\n".as_slice() {
             return Err(Fail::from("out of memory"));
         }

@@ -2,5 +2,5 @@
 use Rattle.abt_tasks.proofs.Audited.{audited_here}
 use Rattle.abt_tasks.proofs.auditing.audit.Goals as goal
 
-pub returns-in-Some-clause-ok : goal.returns-in-Some-clause-ok
-returns-in-Some-clause-ok g c = λ _. audited_here c.args.plan.now _ _ _ c.in-Some.run' c.in-Some.ensures.ok
+pub returns-in-Ok-clause-ok : goal.returns-in-Ok-clause-ok
+returns-in-Ok-clause-ok g c = λ _. audited_here c.args.plan.now _ _ _ c.in-Ok.run' c.in-Ok.ensures.ok
