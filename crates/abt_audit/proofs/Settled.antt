@@ -10,7 +10,7 @@ use Rattle.abt_model.specs.declared.entry.SourceEntry.{SourceEntry}
 use Rattle.abt_model.specs.declared.entry.SourceEntry.TheVariants.{Did, Sent, Arrived}
 use Rattle.abt_model.specs.declared.event.Event.TheVariants.{Start, Ask, Again, Crash, Emit, Arrive, Request, Turn, Answer, Told, Capacity}
 use Rattle.abt_audit.specs.Protocol.{answer_in, facts_past}
-use Rattle.abt_audit.specs.Settling.{with_plan, plan_of, planned, IsSettled, told_in, FitsFrom, FitsTo, IsReach, IsFarthest, IsNeeded, Prefers, FitsAsFar, StoredIfNeeded, SettlesSource}
+use Rattle.abt_audit.specs.Settling.{with_plan, plan_of, planned, IsSettled, told_in, FitsFrom, FitsTo, IsReach, IsFarthest, Prefers, FitsAsFar, StoredIfNeeded, SettlesSource}
 
 -- if so many entries fit, fewer do
 pub fits_fewer : (vc : Channel) (facts : List Fact) (entries : List SourceEntry) (k n : ℕ) → k ≤ n → FitsFrom vc facts entries n → FitsFrom vc facts entries k
@@ -148,11 +148,15 @@ pub prefers_after : (vc : Channel) (place : ℕ) (next : List ℕ) (entries : Li
 prefers_after vc place next entries before after more all one two = record {
   failed = inr refl;
   as_far = as_far_as_can vc place next entries FailsAfter after all two;
-  needed = λ is. (two.settled, two.settles, record {
-    count = after;
-    fits = two.fits;
-    not_before = λ other so fits. (let most = one.most other after so fits in absurd (omega (arith, most, more)));
-  });
+  needed = λ is. (
+    two.settled,
+    two.settles,
+    record {
+      count = after;
+      fits = two.fits;
+      not_before = λ other so fits. (let most = one.most other after so fits in absurd (omega (arith, most, more)));
+    },
+  );
 }
 
 -- The writes that are left are settled of what they leave so far, which is one way to settle all; and if there are few, as many entries fit, and
@@ -166,8 +170,12 @@ pub record IsUnderWay (vc : Channel) (places : List ℕ) (entries : List SourceE
       → StoredIfNeeded vc places entries settled
 
 pub under_way_first : (vc : Channel) (places : List ℕ) (entries : List SourceEntry) → IsUnderWay vc places entries places entries
-under_way_first vc places entries = record { settles = λ settled is. is; few = omega arith; as_far = λ few other n is fits. (other, is, fits);
-  needed = λ few settled far is. is }
+under_way_first vc places entries = record {
+  settles = λ settled is. is;
+  few = omega arith;
+  as_far = λ few other n is fits. (other, is, fits);
+  needed = λ few settled far is. is;
+}
 
 -- the next place is behind the end
 pub under_way_past : (vc : Channel) (places : List ℕ) (entries : List SourceEntry) (place : ℕ) (rest : List ℕ) (now : List SourceEntry) → length now ≤ place
@@ -207,11 +215,14 @@ stored_if_needed vc place rest now settled plan best (inr after) far is =
     let need = so.2 in
     let same = ap (λ (p : StorePlan). planned p place now) after in
     let tried = subst (λ (es : List SourceEntry). IsSettled rest es so.0) (sym same) so.1 in
-    inr (subst (λ (es : List SourceEntry). StoredIfNeeded vc rest es settled) same is, record {
-      count = need.count;
-      fits = far so.0 need.count tried need.fits;
-      not_before = need.not_before;
-    })
+    inr (
+      subst (λ (es : List SourceEntry). StoredIfNeeded vc rest es settled) same is,
+      record {
+        count = need.count;
+        fits = far so.0 need.count tried need.fits;
+        not_before = need.not_before;
+      },
+    )
 
 -- the write of the next place is settled so that as many entries fit as can
 pub under_way_more : (vc : Channel) (places : List ℕ) (entries : List SourceEntry) (place : ℕ) (rest : List ℕ) (now : List SourceEntry) (plan : StorePlan)

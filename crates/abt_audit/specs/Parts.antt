@@ -1,4 +1,4 @@
--- What journals that aren't woven are up to the entries at which they are stuck (docs/JOURNALS.md, "A picture").
+-- What journals that aren't woven are up to the entries at which they are stuck (docs/PICTURES.md, "Drawing").
 use Rattle.std.specs.Prelude.{◌≡◌, ℕ, List, [], ◌∷◌, take, flat_map, slice_set, slice_index_or, String}
 use Rattle.std.specs.declared.alloc.Global.{Global}
 use Rattle.abt_text.specs.Text.{Text}

@@ -17,4 +17,3 @@ pub use plan::{JsonPlan, Telling};
 pub use rate::rate_json;
 pub use report::report_json;
 pub use scenario::scenario_json;
-

@@ -18,8 +18,7 @@ loop-journal-preserved c =
     let before = subst (λ (journals : List SourceJournal). SettlesOn net writes all journals settled) next c.loop-journal.invariant.1 in
     let number : c.len-number.result ≡ length settled = search rules in
     let at = subst (λ (n : ℕ). SettlesAt net writes n c.in-Some.journal c.in_ok-settled_at.field-0) number c.in_ok-settled_at.ensures in
-    let more : vec_items c.push.new.self ≡ settled ++ c.in_ok-settled_at.field-0 ∷ [] = search rules in
-    (
+    let more : vec_items c.push.new.self ≡ settled ++ c.in_ok-settled_at.field-0 ∷ [] = search rules in (
       grind (arith, common_steps),
       subst (SettlesOn net writes all left) (sym more) (settles_more net writes all left settled c.in-Some.journal c.in_ok-settled_at.field-0 before at),
     )
