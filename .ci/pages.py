@@ -16,6 +16,8 @@ from roff import escaped, page_of  # noqa: E402
 
 ROOT = Path(__file__).resolve().parent.parent
 HELP = ROOT / "man" / "help"
+# What the help calls a file that an option writes.
+OUT = "OUT"
 VERSION = re.search(r"^## (\d+\.\d+\.\d+)", (ROOT / "CHANGELOG.md").read_text(), re.M)[1]
 
 
@@ -132,7 +134,7 @@ _abt() {{
         *) COMPREPLY=() ;;
     esac
 }}
-complete -F _abt abt
+complete -o filenames -F _abt abt
 """
 
 
@@ -149,7 +151,8 @@ def zsh(program, them):
         specs = []
         for option in it.options:
             for flag in option.flags:
-                specs.append(f"'{flag}[{quoted(option.help)}]" + (f":{option.value}:'" if option.value else "'"))
+                value = f":{option.value}:{'_files' if option.value == OUT else ''}" if option.value else ""
+                specs.append(f"'{flag}[{quoted(option.help)}]{value}'")
         if it.takes_a_file():
             specs.append("'*:file:_files'")
         if it.name == "help":
@@ -192,7 +195,8 @@ def fish(program, them):
     for it in them:
         within = f"-n '__fish_seen_subcommand_from {it.name}'"
         for option in it.options:
-            lines.append(f"complete -c abt {within} {flags(option)} {'-x ' if option.value else ''}-d '{told(option.help)}'")
+            value = "-r -F " if option.value == OUT else "-x " if option.value else ""
+            lines.append(f"complete -c abt {within} {flags(option)} {value}-d '{told(option.help)}'")
         if it.takes_a_file():
             lines.append(f"complete -c abt {within} -F")
         if it.name == "help":

@@ -23,4 +23,4 @@ _abt() {
         *) COMPREPLY=() ;;
     esac
 }
-complete -F _abt abt
+complete -o filenames -F _abt abt

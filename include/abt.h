@@ -313,7 +313,8 @@ static inline abt_outcome abt_table_answer(abt_table *table, const abt_rm *rm);
 
 /* Takes an RM cell that came to the port, of ABT_CELL_LENGTH octets: a request that came forward, or an answer that came backward. After
  * ABT_PASS the cell that goes on is in sent, and after ABT_REFUSE the no that goes back, of as many octets; after any other outcome nothing
- * is, and the cell goes nowhere. Cell and sent have to be different memory.
+ * is, and the cell goes nowhere. Cell and sent have to be different memory. Length and room are both ABT_CELL_LENGTH: any other number, also
+ * a greater room, is ABT_LENGTH.
  * Answers as abt_table_request and abt_table_answer do, or ABT_NULL, ABT_NO_STATE, ABT_LENGTH, ABT_NOT_RM, ABT_CRC, ABT_PROTOCOL,
  * ABT_MAINTENANCE, ABT_ELASTIC, ABT_DIRECTION, ABT_SEQ_ZERO, ABT_RATE_ORDER, ABT_DAMAGED. */
 static inline abt_outcome abt_table_cell(abt_table *table, const uint8_t *cell, size_t length, uint8_t *sent, size_t room);
