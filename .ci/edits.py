@@ -59,6 +59,9 @@ NOT_PROVED = re.compile(r"logic=not-proved|only=\d+ proved=\d+")
 WITNESS = "witness: "
 
 
+# A crate that stands on more crates than this has so many copies in a check: each takes some half a gigabyte there.
+HIGH, MOST_COPIES = 30, 6
+
 # What earlier runs refused: a file each, by the checksum of what its try rested on.
 KEPT = Path(os.environ.get("XDG_CACHE_HOME") or Path.home() / ".cache") / "gadwallbunk" / "refused"
 
@@ -296,6 +299,12 @@ def try_copied_without_answers(crate, edits, kept):
     tell_batch(crate, "copies without the answers that fail", edits, [])
 
 
+def parts_of(crate, copies):
+    """The edits in copies that share a check: all of a crate's, or so many of a crate that stands high."""
+    most = MOST_COPIES if len(crate.below()) > HIGH else max(len(copies), 1)
+    return [copies[first : first + most] for first in range(0, len(copies), most)]
+
+
 def of_code(texts):
     """Those of some files that are code: an error in a copy's hand-written proof is no error of reading."""
     return {file: text for file, text in texts.items() if file.startswith("src/")}
@@ -495,10 +504,11 @@ def try_edits(crate, edits, is_all_alone):
     with tempfile.TemporaryDirectory(prefix="edits-") as room:
         kept = copied(None, room)
         copies = [edit for edit in together if edit.home]
+        parts = parts_of(crate, copies)
         # What others take over has to carry the whole crate.
-        is_whole = len(copies) < len(edits)
-        left = try_copied(crate, copies, kept, is_whole) if copies else []
-        is_carried = is_whole and 0 < len(copies) != len(left)
+        is_whole = len(copies) < len(edits) or len(parts) > 1
+        unsaid = [try_copied(crate, part, kept if part is parts[0] else copied(kept, room), is_whole and part is parts[0]) for part in parts]
+        is_carried = is_whole and bool(copies) and len(unsaid[0]) != len(parts[0])
         kept, rounds = try_together(crate, [edit for edit in together if not edit.home], room, kept, is_carried)
         for edit in together:
             if edit.answers and edit.witness:
@@ -511,7 +521,7 @@ def try_edits(crate, edits, is_all_alone):
             kept, left = None, edits
             for edit in edits:
                 edit.is_refused, edit.verdict, edit.answers, edit.how, edit.copy = False, "", [], "", ""
-        shared = bool(copies) + rounds + bool(by_hand)
+        shared = len(parts) + rounds + bool(by_hand)
         return shared, sum(try_left(edit, kept, room) for edit in left)
 
 
