@@ -1,2 +1,4 @@
+mod Fed
+mod Stopped
 mod Lines
 mod Pieces

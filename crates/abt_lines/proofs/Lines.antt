@@ -1,5 +1,5 @@
 -- The lines of a text that begins with a part of a line.
-use Rattle.std.proofs.Common.{◌≡◌, ◌≢◌, ◌==◌, ◌∙◌, inl, inr, ℕ, ◌<◌, ◌≤◌, ◌+◌, ◌-◌, ◌++◌, List, [], ◌∷◌, length, map, take, refl, sym, ap, arith, suc, length-append, length-take, append-nil}
+use Rattle.std.proofs.Common.{◌≡◌, ◌≢◌, ◌∙◌, inl, inr, ℕ, ◌<◌, ◌≤◌, ◌+◌, ◌-◌, ◌++◌, List, [], ◌∷◌, length, map, refl, sym, ap, arith, suc, length-append, length-take, append-nil}
 use Rattle.std.proofs.lemmas.Bool.{ne_eqb, cases_Bool, lt-ltb}
 use Rattle.std.specs.Prelude.{Option, None}
 use Rattle.std.specs.Io.BufRead.{strip_last, ends_with_byte}

@@ -1,8 +1,8 @@
 -- Answers that go out piece by piece.
 use Rattle.std.proofs.Common.{◌≡◌, ◌∙◌, ℕ, ◌++◌, List, [], Option, refl, sym, ap, take, drop, append_assoc, append-nil, take-append-drop, subst, true≢false}
-use Rattle.std.proofs.KnownBytes.{Appends-trans, Consumes-trans, Consumes-kept, Consumes-nil, Appends-nil, Keeps-refl}
-use Rattle.std.specs.Prelude.{Some, None, IfSome, Result, Ok, Err, IsOk, OnOk, OnErr}
-use Rattle.std.specs.Io.KnownBytes.{Appends, Consumes, IsAtEnd, Keeps}
+use Rattle.std.proofs.KnownBytes.{Appends-trans, Consumes-trans, Consumes-nil, Appends-nil}
+use Rattle.std.specs.Prelude.{Some, None, IfSome, Result, Ok, Err, IsErrAnd, IsOk, IfErr, OnOk, OnErr}
+use Rattle.std.specs.Io.KnownBytes.{Appends, Consumes, IsAtEnd}
 use Rattle.abt_text.specs.Streams.{AppendsPrefix}
 use Rattle.abt_lines.specs.Served.{AppendsFront, Begins, IsServed, IsServedPart}
 
@@ -53,6 +53,9 @@ begins_trans a b c p q = record {
 pub begins_whole : (a b c : List ℕ) → a ++ b ≡ c → Begins a c
 begins_whole a b c e = record { rest = b; is = sym e }
 
+pub begins_none : (a b : List ℕ) → a ≡ [] → Begins a b
+begins_none a b none = record { rest = b; is = sym (ap (λ front. front ++ b) none) }
+
 pub begins_self : (a : List ℕ) → Begins a a
 begins_self a = record { rest = []; is = sym (append-nil a) }
 
@@ -91,7 +94,7 @@ at_end P None l1 taken took ended p = tt
 at_end P (Some xs) None taken took ended p = absurd took
 at_end P (Some xs) (Some ys) taken took ended p = subst P (sym (took ∙ ap (λ rest. taken ++ rest) ended ∙ append-nil taken)) p
 
-took_all : (l0 l1 l2 : Option (List ℕ)) (taken : List ℕ) → Consumes l0 l1 taken → Consumes l1 l2 [] → Consumes l0 l2 taken
+pub took_all : (l0 l1 l2 : Option (List ℕ)) (taken : List ℕ) → Consumes l0 l1 taken → Consumes l1 l2 [] → Consumes l0 l2 taken
 took_all l0 l1 l2 taken p q = subst (Consumes l0 l2) (append-nil taken) (Consumes-trans l0 l1 l2 taken [] p q)
 
 -- what is still to be answered at the end, where this has begun
@@ -148,3 +151,8 @@ of_made (Err e) Q is q = absurd (true≢false (sym is))
 pub err_holds : {T E : Type 0} (r : Result T E) (X : Type 0) → X → OnErr r X
 err_holds (Ok x) X p = tt
 err_holds (Err e) X p = p
+
+-- what is told is what was told
+pub if_err-from : {T E : Type 0} (r : Result T E) (P Q : E → Type 0) → ((y : E) → P y → Q y) → IsErrAnd r P → IfErr r Q
+if_err-from (Ok x) P Q f p = absurd p
+if_err-from (Err e) P Q f p = f e p

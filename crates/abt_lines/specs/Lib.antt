@@ -1,2 +1,4 @@
 pub mod Lines
 pub mod Served
+pub mod Stopped
+pub mod Fed

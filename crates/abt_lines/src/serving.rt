@@ -1,9 +1,13 @@
 //! Lines from any reader, answers to any writer.
-ghost use Rattle.std.specs.Prelude.{◌≡◌, List, [], ◌∷◌, Option, IsOk, OnOk, OnErr, string_bytes};
+ghost use Rattle.std.specs.Prelude.{◌≡◌, ◌<◌, ◌+◌, ◌⊎◌, List, [], ◌∷◌, ◌++◌, length, Option, Err, IfErr, IsOk, OnOk, OnErr, string_bytes};
 ghost use Rattle.std.specs.Io.KnownBytes.{Appends, IsAtEnd};
+ghost use Rattle.abt_text.specs.Streams.{AppendsPrefix};
 ghost use Rattle.abt_text.specs.Text.{Text, ◌⋅◌};
+ghost use Rattle.abt_lines.specs.Fed.{EndedPart, Fed, FedPart, IsUnanswered};
 ghost use Rattle.abt_lines.specs.Lines.{seen_lines, seen_of};
 ghost use Rattle.abt_lines.specs.Served.{AppendsFront, Begins, IsServed, IsServedPart};
+ghost use Rattle.abt_lines.specs.Stopped.{IsStopped};
+ghost use Rattle.abt_lines.specs.declared.fault.LinesFault.TheVariants.{Write as NotWritten};
 
 use crate::begun::{Begun, seen_of};
 use crate::fault::LinesFault;
@@ -27,6 +31,8 @@ pub fn serve_lines<S: LineServer, R: Read, W: Write>(
     ensures end { OnOk result (IsAtEnd (R.remaining reader.new)) }
     ensures err { OnErr result (IsServedPart (λ source. S.answers server.old 1 (seen_lines source))
         (R.remaining reader.old) (W.contents writer.old) (W.contents writer.new)) }
+    ensures fault { IfErr result (IsStopped S.answers server.old (R.remaining reader.old)
+        (R.remaining reader.new) (W.contents writer.old) (W.contents writer.new)) }
 {
     let mut begun = Begun::new(alloc);
     let mut text = String::new(alloc);
@@ -55,6 +61,11 @@ fn write_out<W: Write>(
         (string_bytes text.now)) }
     ensures err { OnErr result (AppendsFront (W.contents writer.old) (W.contents writer.new)
         (string_bytes text.now)) }
+    ensures fault { IfErr result (λ fault.
+        (fault ≡ NotWritten)
+        × AppendsPrefix (W.contents writer.old) (W.contents writer.new) (string_bytes text.now)
+        ⊎ (made ≡ Err fault)
+        × Appends (W.contents writer.old) (W.contents writer.new) (string_bytes text.now)) }
 {
     if put(writer, text.as_bytes()).is_err() {
         return Err(LinesFault::Write);
@@ -70,12 +81,10 @@ fn feed<S: LineServer>(
     piece: &[u8],
     text: &mut String,
 ) -> Result<(), LinesFault>
-    ensures ok { OnOk result ((rest : Text) →
-        string_bytes text.new ⋅ S.answers server.new begun.new.number
-        (seen_lines (begun.new.octets.items ⋅ rest))
-        ≡ S.answers server.old begun.old.number (seen_lines (begun.old.octets.items ⋅ piece.now ⋅ rest))) }
-    ensures front { (rest : Text) → Begins (string_bytes text.new)
-        (S.answers server.old begun.old.number (seen_lines (begun.old.octets.items ⋅ piece.now ⋅ rest))) }
+    ensures ok { OnOk result (Fed S.answers server.old begun.old.number begun.old.octets.items piece.now
+        server.new begun.new.number begun.new.octets.items [] (string_bytes text.new)) }
+    ensures err { IfErr result (FedPart S.answers server.old begun.old.number begun.old.octets.items
+        piece.now (string_bytes text.new)) }
 {
     text.clear();
     for octet in piece {
@@ -84,7 +93,6 @@ fn feed<S: LineServer>(
     Ok(())
 }
 
-#[tactic(auto, using(crate::proofs::Lines::line_ends))]
 // Takes the next octet, and adds the answer to the line that it ends to a text.
 fn take<S: LineServer>(
     alloc: Global,
@@ -93,12 +101,10 @@ fn take<S: LineServer>(
     octet: u8,
     text: &mut String,
 ) -> Result<(), LinesFault>
-    ensures ok { OnOk result ((rest : Text) →
-        string_bytes text.new ⋅ S.answers server.new begun.new.number
-        (seen_lines (begun.new.octets.items ⋅ rest))
-        ≡ string_bytes text.old ⋅ S.answers server.old begun.old.number
-        (seen_lines (begun.old.octets.items ⋅ octet ∷ rest))) }
     ensures err { OnErr result (string_bytes text.new ≡ string_bytes text.old) }
+    ensures ok { OnOk result (Fed S.answers server.old begun.old.number begun.old.octets.items (octet ∷ [])
+        server.new begun.new.number begun.new.octets.items (string_bytes text.old) (string_bytes text.new)) }
+    ensures fault { IfErr result (IsUnanswered begun.old.number) }
 {
     if octet != b'\n' {
         begun.add(octet)?;
@@ -119,7 +125,9 @@ fn answer<S: LineServer>(
         string_bytes text.new ⋅ S.answers server.new begun.new.number more
         ≡ string_bytes text.old ⋅ S.answers server.old begun.old.number
         (seen_of begun.old.octets.items ∷ more)) }
+    ensures number { OnOk result (begun.new.number ≡ begun.old.number + 1) }
     ensures err { OnErr result (string_bytes text.new ≡ string_bytes text.old) }
+    ensures fault { IfErr result (IsUnanswered begun.old.number) }
 {
     let Some(next) = begun.number.checked_add(1) else {
         return Err(LinesFault::TooLong);
@@ -141,6 +149,8 @@ fn end<S: LineServer>(
         ≡ S.answers server.old begun.old.number (seen_lines begun.old.octets.items)) }
     ensures front { Begins (string_bytes text.new)
         (S.answers server.old begun.old.number (seen_lines begun.old.octets.items)) }
+    ensures fault { IfErr result (EndedPart S.answers server.old begun.old.number begun.old.octets.items
+        (string_bytes text.new)) }
 {
     text.clear();
     end_line(alloc, server, begun, text)?;
@@ -156,9 +166,15 @@ fn end_line<S: LineServer>(
     begun: &mut Begun,
     text: &mut String,
 ) -> Result<(), LinesFault>
-    ensures ok { OnOk result (string_bytes text.new ⋅ S.answers server.new begun.new.number []
-        ≡ string_bytes text.old ⋅ S.answers server.old begun.old.number (seen_lines begun.old.octets.items)) }
+    ensures ok { OnOk result ((more : List (Option Text)) →
+        string_bytes text.new ⋅ S.answers server.new begun.new.number more
+        ≡ string_bytes text.old ⋅ S.answers server.old begun.old.number
+        (seen_lines begun.old.octets.items ++ more)) }
+    ensures number { OnOk result
+        (begun.new.number ≡ begun.old.number + length (seen_lines begun.old.octets.items)) }
     ensures err { OnErr result (string_bytes text.new ≡ string_bytes text.old) }
+    ensures some { OnErr result (0 < length begun.old.octets.items) }
+    ensures fault { IfErr result (IsUnanswered begun.old.number) }
 {
     if begun.octets.is_empty() {
         return Ok(());
