@@ -2,6 +2,8 @@ pub mod Contradiction
 pub mod Heard
 pub mod Judged
 pub mod Lists
+pub mod Named
+pub mod Once
 pub mod OwnAnswers
 pub mod Parted
 pub mod Settled

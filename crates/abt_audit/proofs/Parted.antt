@@ -114,7 +114,7 @@ first_there : (js : RunJournals) (all : List Stuck) → all ≢ [] → AreThere 
 first_there js [] some are = some refl
 first_there js (stuck ∷ more) some are = are.0
 
-mismatch_there : (net : Topology) (js : RunJournals) (earlier : List Event) (actor : Actor) (place : ℕ) → IsFirstMismatch net js earlier actor place → place < entry_count js actor
+pub mismatch_there : (net : Topology) (js : RunJournals) (earlier : List Event) (actor : Actor) (place : ℕ) → IsFirstMismatch net js earlier actor place → place < entry_count js actor
 mismatch_there net js earlier (Source c) place first =
     let m = first.1 in
     let low = slice_get_within (source_journal js c) _ (Did m.event m.told) m.next in

@@ -1,5 +1,5 @@
 -- What journals that aren't woven are up to the entries at which they are stuck (docs/PICTURES.md, "Drawing").
-use Rattle.std.specs.Prelude.{◌≡◌, ℕ, List, [], ◌∷◌, take, flat_map, slice_set, slice_index_or, String}
+use Rattle.std.specs.Prelude.{◌≡◌, ◌≢◌, ℕ, List, [], ◌∷◌, take, flat_map, slice_set, slice_index_or, String}
 use Rattle.std.specs.declared.alloc.Global.{Global}
 use Rattle.abt_text.specs.Text.{Text}
 use Rattle.abt_net.specs.Topology.{Topology}
@@ -54,6 +54,15 @@ abbrev pub named_in : WeaveFault → List Stuck
 named_in (Mismatch actor place) = record { actor = actor; place = place } ∷ []
 named_in (NoOrder stuck) = stuck
 named_in Memory = []
+
+-- of each actor there is one entry at most
+abbrev pub IsOfNone : Actor → List Stuck → Type 0
+IsOfNone actor [] = Unit {0}
+IsOfNone actor (stuck ∷ more) = (actor ≢ stuck.actor) × IsOfNone actor more
+
+abbrev pub NamesEachOnce : List Stuck → Type 0
+NamesEachOnce [] = Unit {0}
+NamesEachOnce (stuck ∷ more) = IsOfNone stuck.actor more × NamesEachOnce more
 
 -- The first fault is that of the journals, and each other one that of what the ones before it leave of them.
 abbrev pub AreFaults : Topology → RunJournals → List WeaveFault → Type 0

@@ -1,4 +1,8 @@
 //! The words of `abt audit`.
+ghost use Rattle.std.specs.Prelude.{◌≡◌, ◌≢◌, ◌↔◌, [], codes, map, string_bytes, IfErr, IfOk, IfSome, IsErr, IsSome};
+ghost use Rattle.abt_audit.specs.Plans.{IsPlanOf, IsSamplePlanOf, events_in, files_in};
+ghost use Rattle.abt_perform.specs.declared.plan.WordsFault.TheVariants.{Memory};
+
 use crate::plan::{AuditPlan, SamplePlan};
 use abt_perform::WordsFault;
 use clap::{Arg, ArgAction, ArgMatches, Command};
@@ -78,22 +82,40 @@ pub fn plan_of(
     alloc: Global,
     name: &str,
     found: &ArgMatches<'_>,
-) -> Result<Option<AuditPlan>, WordsFault> {
+) -> Result<Option<AuditPlan>, WordsFault>
+    ensures plan { IfOk result (λ asked. IfSome asked (IsPlanOf found.now)) }
+    ensures some { IfOk result (λ asked. IsSome asked ↔ (name.now ≡ codes "audit")) }
+    ensures memory { IfErr result (λ fault. fault ≡ Memory) }
+    ensures err { IsErr result → (name.now ≡ codes "audit") × (files_in found.now ≢ []) }
+{
     if name != "audit" {
         return Ok(None);
     }
-    let names = found.get_strs(FILES).unwrap_or(&[]);
-    if names.is_empty() {
+    let files = files_of(alloc, found)?;
+    if files.is_empty() {
         return Ok(Some(AuditPlan::Input));
     }
+    Ok(Some(AuditPlan::Files(files)))
+}
+
+// The names of the files that the words name.
+fn files_of(alloc: Global, found: &ArgMatches<'_>) -> Result<Vec<String>, AllocError>
+    ensures value { IfOk result (λ files. map string_bytes files.items ≡ files_in found.now) }
+    ensures err { IsErr result → files_in found.now ≢ [] }
+{
+    copied(alloc, found.get_strs(FILES).unwrap_or(&[]))
+}
+
+fn copied(alloc: Global, names: &[&str]) -> Result<Vec<String>, AllocError>
+    ensures value { IfOk result
+        (λ files. map string_bytes files.items ≡ map (λ name. name.now) names.now) }
+    ensures err { IsErr result → names.now ≢ [] }
+{
     let mut files = Vec::new(alloc);
     for name in names {
-        let name = String::from_str(alloc, name)?;
-        if files.push(name).is_err() {
-            return Err(WordsFault::Memory);
-        }
+        files.push(String::from_str(alloc, name)?)?;
     }
-    Ok(Some(AuditPlan::Files(files)))
+    Ok(files)
 }
 
 /// The same, if the words name a file for the events; else `None`.
@@ -101,7 +123,13 @@ pub fn sample_plan_of(
     alloc: Global,
     name: &str,
     found: &ArgMatches<'_>,
-) -> Result<Option<SamplePlan>, WordsFault> {
+) -> Result<Option<SamplePlan>, WordsFault>
+    ensures plan { IfOk result (λ asked. IfSome asked (IsSamplePlanOf found.now)) }
+    ensures some { IfOk result
+        (λ asked. IsSome asked ↔ ((name.now ≡ codes "audit") × IsSome (events_in found.now))) }
+    ensures memory { IfErr result (λ fault. fault ≡ Memory) }
+    ensures err { IsErr result → (name.now ≡ codes "audit") × IsSome (events_in found.now) }
+{
     if name != "audit" {
         return Ok(None);
     }

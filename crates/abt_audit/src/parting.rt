@@ -6,7 +6,7 @@ ghost use Rattle.abt_journal_text.specs.Books.{lists_of};
 ghost use Rattle.abt_weave.specs.OneFault.{AreJournalsOf};
 ghost use Rattle.abt_weave.specs.declared.fault.WeaveFault.TheVariants.{Memory};
 ghost use Rattle.abt_audit.specs.Parts as spec;
-ghost use Rattle.abt_audit.specs.Parts.{IsSizedRun, IsWovenPart, cut_list, cut_source, journals_in, run_journals};
+ghost use Rattle.abt_audit.specs.Parts.{IsSizedRun, IsWovenPart, NamesEachOnce, cut_list, cut_source, journals_in, run_journals};
 
 use abt_journal::{Entry, Journals};
 use abt_journal_text::Run;
@@ -157,9 +157,10 @@ fn stop_at(
 // Weaves journals up to the entries at which they are stuck.
 fn weave_cut(alloc: Global, net: &Net, mut part: Part) -> Result<WovenPart, AllocError>
     requires { AreJournalsOf net.now (journals_in part) }
-    ensures { IfOk result (IsWovenPart net.now (journals_in part)) }
+    ensures ok { IfOk result (IsWovenPart net.now (journals_in part)) }
+    ensures once { IfOk result (λ part. NamesEachOnce part.stuck) }
 {
-    let mut stuck = Vec::new(alloc);
+    let mut stuck = Vec::with_capacity(alloc, net.conns().len())?;
     'cutting: loop {
         match weave(alloc, net, &part.journals, part.sources.as_slice()) {
             Ok(events) => {
@@ -172,10 +173,11 @@ fn weave_cut(alloc: Global, net: &Net, mut part: Part) -> Result<WovenPart, Allo
 }
 
 /// Weaves the journals of a run up to the entries at which they are stuck: each journal is cut before the entry of it that a fault names,
-/// and what is left is woven again, until it is woven.
+/// and what is left is woven again, until it is woven. So no actor is named twice.
 pub fn weave_part(alloc: Global, told: &Run) -> Result<WovenPart, AllocError>
     requires { IsSizedRun told.now }
-    ensures { IfOk result (IsWovenPart told.now.net (run_journals told.now)) }
+    ensures ok { IfOk result (IsWovenPart told.now.net (run_journals told.now)) }
+    ensures once { IfOk result (λ part. NamesEachOnce part.stuck) }
 {
     let ports = copied_ports(alloc, told.journals.ports.as_slice())?;
     let part = Part {

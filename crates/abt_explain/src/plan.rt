@@ -1,6 +1,7 @@
 //! The words of `abt explain`.
-ghost use Rattle.std.specs.Prelude.{◌≡◌, Some, IfOk, IfSome, IsSome, IsNone, codes};
-ghost use Rattle.abt_explain.specs.Plans.{IsPlanOf, json_in};
+ghost use Rattle.std.specs.Prelude.{◌≡◌, Some, None, Ok, IfErr, IfOk, IfSome, IsErr, IsSome, codes};
+ghost use Rattle.abt_perform.specs.declared.plan.WordsFault.TheVariants.{Memory};
+ghost use Rattle.abt_explain.specs.Plans.{IsPlanOf, file_in, json_in};
 
 use abt_perform::WordsFault;
 use clap::{Arg, ArgAction, ArgMatches, Command};
@@ -51,9 +52,11 @@ pub fn plan_of(
 ) -> Result<Option<ExplainPlan>, WordsFault>
     ensures plan { IfOk result (λ asked. IfSome asked (IsPlanOf found.now)) }
     ensures name { IfOk result (λ asked. IsSome asked → name.now ≡ codes "explain") }
-    ensures json { json_in found.now ≡ Some (codes "true") → IfOk result IsNone }
+    ensures json { json_in found.now ≡ Some (codes "true") → result ≡ Ok None }
     ensures some { name.now ≡ codes "explain" → json_in found.now ≡ Some (codes "false") →
         IfOk result IsSome }
+    ensures memory { IfErr result (λ fault. fault ≡ Memory) }
+    ensures err { IsErr result → (name.now ≡ codes "explain") × IsSome (file_in found.now) }
 {
     if name != "explain" || found.get_flag(JSON) {
         return Ok(None);
