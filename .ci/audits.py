@@ -240,8 +240,11 @@ def try_other_ways(auditor, lines):
     if (done.returncode, done.stderr) != (1, f"fault: -:{len(lines)}: NoEnd\n".encode()):
         auditor.found.append(f"the standard input without an end: {done}")
     done = subprocess.run([auditor.program, "audit", "0", "none"], cwd=auditor.folder, capture_output=True, timeout=60)
-    if (done.returncode, done.stdout, done.stderr) != (1, b"", b"fault: open\n"):
+    if (done.returncode, done.stdout, done.stderr) != (1, b"", b"fault: open\nnone: there is no such file\n"):
         auditor.found.append(f"a file that isn't there: {done}")
+    done = subprocess.run([auditor.program, "audit", "0", "."], cwd=auditor.folder, capture_output=True, timeout=60)
+    if (done.returncode, done.stdout, done.stderr) != (1, b"", b"fault: read\n.: it is a folder\n"):
+        auditor.found.append(f"a folder: {done}")
 
 
 def try_no_events(auditor, lines, faults):

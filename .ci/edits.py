@@ -17,7 +17,9 @@ whose functions it calls. Each crate's checks hand on what they proved as a copy
 What was refused is kept below the user's cache folder, by a checksum of all that the try rests on: the kit, the crate with the crates below
 it, the edit, this script, and whether it was tried alone. With `--changed` only those are tried that have no such record.
 
-usage: edits.py [--root ROOT] [--jobs N] [--alone] [--changed] [--json FILE] [NAME..]     (NAME: a crate, or crate/edit)
+With `--every N` only each N-th edit of a crate is tried: with `--alone`, a sample to compare with what the batches said.
+
+usage: edits.py [--root ROOT] [--jobs N] [--alone] [--every N] [--changed] [--json FILE] [NAME..]     (NAME: a crate, or crate/edit)
 """
 import argparse
 import difflib
@@ -478,7 +480,7 @@ def try_crate(crate, words):
     began, shared, names, is_all_alone = time.time(), 0, set(words.names), words.alone
     good, bad = rt.edits_of(crate)
     wanted = lambda path: not names or crate.name in names or f"{crate.name}/{Path(path).stem}" in names
-    edits = [read(crate, path) for path in good if wanted(path)]
+    edits = [read(crate, path) for path in [path for path in good if wanted(path)][:: words.every]]
     edits += [Edit(crate, Path(path), fault="its name isn't one of an edit") for path in bad if wanted(path)]
     records = Records(crate, is_all_alone)
     for edit in edits:
@@ -535,6 +537,7 @@ def main():
     reader.add_argument("--root", default=str(Path(__file__).resolve().parent.parent))
     reader.add_argument("--jobs", type=int, default=rt.processors())
     reader.add_argument("--alone", action="store_true", help="each edit in a check of its own")
+    reader.add_argument("--every", type=int, default=1, metavar="N", help="each N-th edit of a crate alone")
     reader.add_argument("--changed", action="store_true", help="only those that no earlier run refused with nothing changed since")
     reader.add_argument("--json", help="writes what became of each edit to this file")
     reader.add_argument("names", nargs="*")

@@ -186,7 +186,9 @@ class Picture:
                 wanted += self.arrow(run.sent[event], event, came, places)
         drawn = [self.ends(one) for one in self.shapes(group, "line", "arrow")]
         assert drawn == wanted, ("arrows", event + 1, drawn, wanted)
-        halves = [(kind, x, y, x // 2 + to // 2, y) for kind, x, y, to, _ in stumps]
+        columns = sorted(places.values())
+        half = (columns[1] - columns[0]) // 2 if stumps else 0
+        halves = [(kind, x, y, x + half if x < to else x - half, y) for kind, x, y, to, _ in stumps]
         drawn = [self.ends(one) for one in self.shapes(group, "line", "stump")]
         assert drawn == halves, ("stumps", event + 1, drawn, halves)
         assert len(self.shapes(group, "line", "lost")) == 2 * len(halves), ("crosses", event + 1)

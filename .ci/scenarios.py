@@ -120,6 +120,35 @@ def of_words(program):
             yield f"the words {words}: the output is {output!r}, the status {status}, and {told!r} is told"
 
 
+def of_one_file(program):
+    """Words that name a file to be written which is read too, or is to be written twice: they are refused, and the file stays as it is."""
+    line = "error: a file that is read or written already can't be written to\n\nFor more information, try '--help'.\n"
+    threads = ["--workers", "4"]
+    for words in [
+        ["threads", "a.svg", *threads, "--journals", "a.svg"],
+        ["threads", "a.svg", *threads, "--events", "a.svg"],
+        ["threads", "a.svg", *threads, "--explain", "--events", "a.svg"],
+        ["draw", "a.svg", "-o", "a.svg"],
+        ["draw", "a.svg", *threads, "-o", "a.svg"],
+        ["draw", "a.svg", *threads, "-o", "b.svg", "--events", "a.svg"],
+        ["draw", "a.svg", *threads, "-o", "b.svg", "--events", "b.svg"],
+        ["draw", *threads, "-o", "a.svg", "--events", "a.svg"],
+        ["audit", "b.svg", "a.svg", "--events", "a.svg"],
+        ["audit", "a.svg", "b.svg", "--draw", "a.svg"],
+        ["audit", "a.svg", "--draw", "b.svg", "--events", "a.svg"],
+        ["audit", "a.svg", "--draw", "b.svg", "--events", "b.svg"],
+        ["audit", "--draw", "a.svg", "--events", "a.svg"],
+    ]:
+        with tempfile.TemporaryDirectory() as room:
+            file = Path(room, "a.svg")
+            file.write_bytes((FOLDER / "threads_one_source.toml").read_bytes())
+            before = file.read_bytes()
+            done = subprocess.run([program, *words], cwd=room, input=before, capture_output=True)
+            yield from differences(f"the words {words}", ("", line, 2), (done.stdout.decode(), done.stderr.decode(), done.returncode))
+            if [it.name for it in Path(room).iterdir()] != ["a.svg"] or file.read_bytes() != before:
+                yield f"the words {words}: the files aren't as they were"
+
+
 def of_explanation(program):
     """The worked explanation, of its scenario as a file and from the standard input, where a file that is named is the one that is explained."""
     scenario, explanation = re.findall(r"^```\n(.*?)^```$", EXPLAINED.read_text(), flags=re.M | re.S)[:2]
@@ -147,6 +176,7 @@ def main(programs):
         told = [line for sample in samples for line in of_sample(program, sample)]
         told += of_files_and_outputs(program)
         told += of_words(program)
+        told += of_one_file(program)
         told += of_explanation(program)
         found += [f"{program.name}: {line}" for line in told]
     for line in found:

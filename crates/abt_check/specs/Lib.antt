@@ -2,3 +2,4 @@ pub mod Check
 pub mod CheckText
 pub mod Performed
 pub mod CheckObjects
+pub mod Plans

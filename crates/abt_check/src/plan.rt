@@ -1,4 +1,7 @@
 //! The words of `abt check`.
+ghost use Rattle.std.specs.Prelude.{◌≡◌, ◌↔◌, IfOk, IfSome, IsSome, codes};
+ghost use Rattle.abt_check.specs.Plans.{IsPlanOf};
+
 use abt_perform::WordsFault;
 use clap::{Arg, ArgAction, ArgMatches, Command};
 use std::alloc::{AllocError, Global};
@@ -38,7 +41,10 @@ pub fn plan_of(
     alloc: Global,
     name: &str,
     found: &ArgMatches<'_>,
-) -> Result<Option<CheckPlan>, WordsFault> {
+) -> Result<Option<CheckPlan>, WordsFault>
+    ensures plan { IfOk result (λ asked. IfSome asked (IsPlanOf found.now)) }
+    ensures name { IfOk result (λ asked. IsSome asked ↔ name.now ≡ codes "check") }
+{
     if name != "check" {
         return Ok(None);
     }

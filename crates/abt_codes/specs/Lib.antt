@@ -3,3 +3,4 @@ pub mod Nearest
 pub mod CodeText
 pub mod Message
 pub mod Printed
+pub mod Plans

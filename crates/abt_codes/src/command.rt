@@ -1,4 +1,7 @@
 //! The words of `abt code` and `abt write`.
+ghost use Rattle.std.specs.Prelude.{◌≡◌, ◌⊎◌, IfOk, IfSome, IsSome, codes, string_bytes};
+ghost use Rattle.abt_codes.specs.Plans.{IsMessageOf, IsPlanOf, word_in};
+
 use crate::message::{Kind, MessageWords};
 use crate::plan::CodesPlan;
 use abt_perform::WordsFault;
@@ -75,11 +78,14 @@ pub fn plan_of(
     alloc: Global,
     name: &str,
     found: &ArgMatches<'_>,
-) -> Result<Option<CodesPlan>, WordsFault> {
+) -> Result<Option<CodesPlan>, WordsFault>
+    ensures plan { IfOk result (λ asked. IfSome asked (IsPlanOf name.now found.now)) }
+    ensures some { ((name.now ≡ codes "code") ⊎ (name.now ≡ codes "write")) → IfOk result IsSome }
+{
     match name {
         "code" => {
-            let word = String::from_str(alloc, found.get_str(RATE).unwrap_or(""))?;
-            Ok(Some(CodesPlan::Code(word)))
+            let rate = text_of(alloc, found, RATE)?;
+            Ok(Some(CodesPlan::Code(rate)))
         }
         "write" => Ok(Some(CodesPlan::Write(words_in(alloc, found)?))),
         _ => Ok(None),
@@ -87,7 +93,9 @@ pub fn plan_of(
 }
 
 // The words of a message.
-fn words_in(alloc: Global, found: &ArgMatches<'_>) -> Result<MessageWords, WordsFault> {
+fn words_in(alloc: Global, found: &ArgMatches<'_>) -> Result<MessageWords, WordsFault>
+    ensures { IfOk result (IsMessageOf found.now) }
+{
     let kind = match found.get_str(MESSAGE) {
         Some("request") => Kind::Request,
         Some("yes") => Kind::Yes,
@@ -109,7 +117,10 @@ fn words_in(alloc: Global, found: &ArgMatches<'_>) -> Result<MessageWords, Words
     })
 }
 
-fn text_of(alloc: Global, found: &ArgMatches<'_>, id: &str) -> Result<String, AllocError> {
+// The word that stands for a name of the help, empty if there is none.
+fn text_of(alloc: Global, found: &ArgMatches<'_>, id: &str) -> Result<String, AllocError>
+    ensures { IfOk result (λ text. string_bytes text ≡ word_in found.now id.now) }
+{
     String::from_str(alloc, found.get_str(id).unwrap_or(""))
 }
 

@@ -11,4 +11,7 @@ pub use command::{
     CODE, EVENTS, EXPLAIN, FILE, HEX, JOURNALS, JSON, QUIET, STDIN, WORKERS, add_commands, program,
 };
 pub use telling::answer_words;
-pub use words::{capacity_of, no_plan, plan_of, plan_words, refusal, workers_of};
+pub use words::{
+    NO_COMMAND, capacity_of, plan_of, plan_words, refusal, text_in, word_in, workers_of,
+    wrong_words,
+};

@@ -1,7 +1,8 @@
 //! The words of a command line, and the plans that they ask for.
-ghost use Rattle.std.specs.Prelude.{◌≤◌, IfOk, IfSome};
+ghost use Rattle.std.specs.Prelude.{◌≡◌, ◌≤◌, IfOk, IfSome, codes, map, option_map, string_bytes};
 ghost use Rattle.abt_rate.specs.Limits.{capacity_max, AreWorkers};
 ghost use Rattle.abt_perform.specs.Plans.{IsWithinLimits};
+ghost use Rattle.abt_commands.specs.Words.{IsPlanOf, text_in, word_in, words_in};
 
 use crate::command::{
     CAPACITY, CODE, EVENTS, FILE, HEX, JOURNALS, JSON, STDIN, WORKERS, add_commands, program,
@@ -11,6 +12,9 @@ use abt_rate::{CAPACITY_MAX, WORKERS_MAX};
 use clap::ArgMatches;
 use clap::error::ErrorKind;
 use std::alloc::{AllocError, Global};
+
+/// Why words are wrong that name no command.
+pub const NO_COMMAND: &str = "no such command";
 
 // What a capacity has to be.
 const CAPACITY_RULE: &str = "a capacity is a decimal number of at most 2^60, digits alone";
@@ -30,11 +34,11 @@ pub fn plan_words<'a>(alloc: Global, words: &'a [&'a str]) -> Result<Plan, Words
         Err(error) => return Err(refusal(alloc, &error)),
     };
     let Some((name, found)) = matches.subcommand() else {
-        return no_plan(alloc, "no such command");
+        return Err(wrong_words(alloc, NO_COMMAND)?);
     };
     match plan_of(alloc, name, found)? {
         Some(plan) => Ok(plan),
-        None => no_plan(alloc, "no such command"),
+        None => Err(wrong_words(alloc, NO_COMMAND)?),
     }
 }
 
@@ -46,15 +50,16 @@ pub fn plan_of(
     found: &ArgMatches<'_>,
 ) -> Result<Option<Plan>, WordsFault>
     ensures limits { IfOk result (λ plan. IfSome plan IsWithinLimits) }
+    ensures plan { IfOk result (λ plan. IfSome plan (IsPlanOf name.now found.now)) }
 {
     if found.get_flag(JSON) || found.get_flag(STDIN) || writes(found) {
         return Ok(None);
     }
     let plan = match name {
-        "rate" => Plan::Rate(text_of(alloc, found, CODE)?),
-        "cell" => Plan::Cell(text_of(alloc, found, HEX)?),
+        "rate" => Plan::Rate(word_in(alloc, found, CODE)?),
+        "cell" => Plan::Cell(word_in(alloc, found, HEX)?),
         "port" => port_plan(alloc, found)?,
-        "run" => Plan::Run(file_of(alloc, found)?),
+        "run" => Plan::Run(text_in(alloc, found, FILE)?),
         "threads" => threads_plan(alloc, found)?,
         _ => return Ok(None),
     };
@@ -67,17 +72,22 @@ fn writes(found: &ArgMatches<'_>) -> bool {
 }
 
 fn port_plan(alloc: Global, found: &ArgMatches<'_>) -> Result<Plan, WordsFault>
-    ensures { IfOk result IsWithinLimits }
+    ensures limits { IfOk result IsWithinLimits }
+    ensures plan { IfOk result (IsPlanOf (codes "port") found.now) }
 {
     let capacity = capacity_of(alloc, found)?;
-    let mut cells = Vec::new(alloc);
-    for cell in found.get_strs(HEX).unwrap_or(&[]) {
-        let cell = String::from_str(alloc, cell)?;
-        if cells.push(cell).is_err() {
-            return Err(WordsFault::Memory);
-        }
-    }
+    let cells = texts_of(alloc, found.get_strs(HEX).unwrap_or(&[]))?;
     Ok(Plan::Port { capacity, cells })
+}
+
+fn texts_of(alloc: Global, words: &[&str]) -> Result<Vec<String>, AllocError>
+    ensures { IfOk result (λ texts. map string_bytes texts.items ≡ map (λ word. word.now) words.now) }
+{
+    let mut texts = Vec::new(alloc);
+    for word in words {
+        texts.push(String::from_str(alloc, word)?)?;
+    }
+    Ok(texts)
 }
 
 /// The capacity that is named.
@@ -95,10 +105,11 @@ pub fn capacity_of(alloc: Global, found: &ArgMatches<'_>) -> Result<u64, WordsFa
 }
 
 fn threads_plan(alloc: Global, found: &ArgMatches<'_>) -> Result<Plan, WordsFault>
-    ensures { IfOk result IsWithinLimits }
+    ensures limits { IfOk result IsWithinLimits }
+    ensures plan { IfOk result (IsPlanOf (codes "threads") found.now) }
 {
     let workers = workers_of(alloc, found)?;
-    let file = file_of(alloc, found)?;
+    let file = text_in(alloc, found, FILE)?;
     Ok(Plan::Threads { file, workers })
 }
 
@@ -121,23 +132,29 @@ fn is_digits(text: &str) -> bool {
     text.bytes().all(|octet| octet.is_ascii_digit())
 }
 
-// The file that is named, if one is.
-fn file_of(alloc: Global, found: &ArgMatches<'_>) -> Result<Option<String>, AllocError> {
-    match found.get_str(FILE) {
-        Some(file) => Ok(Some(String::from_str(alloc, file)?)),
+/// The word that stands for a name of the help, if one does.
+pub fn text_in(
+    alloc: Global,
+    found: &ArgMatches<'_>,
+    name: &str,
+) -> Result<Option<String>, AllocError>
+    ensures { IfOk result (λ text. option_map string_bytes text ≡ text_in found.now name.now) }
+{
+    match found.get_str(name) {
+        Some(text) => Ok(Some(String::from_str(alloc, text)?)),
         None => Ok(None),
     }
 }
 
-/// The refusal of words for a reason of the program's own.
-pub fn no_plan(alloc: Global, why: &str) -> Result<Plan, WordsFault>
-    ensures { IfOk result IsWithinLimits }
+/// The word that stands for a name of the help, empty if none does.
+pub fn word_in(alloc: Global, found: &ArgMatches<'_>, name: &str) -> Result<String, AllocError>
+    ensures { IfOk result (λ word. string_bytes word ≡ word_in found.now name.now) }
 {
-    Err(wrong_words(alloc, why)?)
+    String::from_str(alloc, found.get_str(name).unwrap_or(""))
 }
 
-// Words that are wrong for a reason of the program's own.
-fn wrong_words(alloc: Global, why: &str) -> Result<WordsFault, AllocError> {
+/// Words that are wrong for a reason of the program's own.
+pub fn wrong_words(alloc: Global, why: &str) -> Result<WordsFault, AllocError> {
     let text = format!(in alloc; "error: {why}\n\nFor more information, try '--help'.\n")?;
     Ok(WordsFault::Words(text))
 }
@@ -152,8 +169,4 @@ pub fn refusal(alloc: Global, error: &clap::Error) -> WordsFault {
         ErrorKind::DisplayHelp | ErrorKind::DisplayVersion => WordsFault::Help(text),
         _ => WordsFault::Words(text),
     }
-}
-
-fn text_of(alloc: Global, found: &ArgMatches<'_>, id: &str) -> Result<String, AllocError> {
-    String::from_str(alloc, found.get_str(id).unwrap_or(""))
 }

@@ -1,6 +1,6 @@
 -- The rows of a picture (docs/PICTURES.md, "Drawing"): each event that is shown has one, in which all that it brings, sends and answers
 -- is drawn.
-use Rattle.std.specs.Prelude.{◌≡◌, ◌⊎◌, ℕ, ◌+◌, ◌-◌, ◌/◌, ◌<◌, ◌||◌, false, if◌then◌else◌, [], Option, None, Some, IfSome, codes, slice_get}
+use Rattle.std.specs.Prelude.{◌≡◌, ◌⊎◌, ℕ, ◌+◌, ◌-◌, ◌/◌, ◌<◌, ◌||◌, nat_lt, false, if◌then◌else◌, [], Option, None, Some, IfSome, codes, slice_get}
 use Rattle.abt_text.specs.Text.{Text, ◌⋅◌, decimal}
 use Rattle.abt_chart.specs.declared.arrow.Arrival.{Arrival}
 use Rattle.abt_chart.specs.declared.arrow.Departure.{Departure}
@@ -45,17 +45,19 @@ abbrev pub DrawsArrival : Sheet → (event : ℕ) → Arrival → Text → Type 
 DrawsArrival sheet event arrival text = IsUnseen sheet.net.now sheet.columns.now arrival.message
     ⊎ ((arrow : Arrow) × IsArrow sheet.net.now sheet.columns.now sheet.rows event arrival arrow × DrawsArrow sheet arrow text)
 
--- half of the way that a message that never comes was to go
-abbrev pub half_way : Sheet → Lost → Point
-half_way sheet lost = record {
-  x = x_of sheet.left sheet.step lost.from.column / 2 + x_of sheet.left sheet.step lost.toward / 2;
+-- where the line of a message that never comes ends: half a column on its way, where no lifeline is
+abbrev pub stump_end : Sheet → Lost → Point
+stump_end sheet lost = record {
+  x = if nat_lt lost.from.column lost.toward
+      then x_of sheet.left sheet.step lost.from.column + sheet.step / 2
+      else x_of sheet.left sheet.step lost.from.column - sheet.step / 2;
   y = y_of lost.from.level;
 }
 
--- A line goes half of that way.
+-- A line goes from where it was sent to there.
 abbrev pub DrawsLost : Sheet → Lost → Text → Type 0
 DrawsLost sheet lost text =
-    Holds text (line_text (codes "stump " ⋅ kind_class lost.message.kind) (point_of sheet lost.from) (half_way sheet lost))
+    Holds text (line_text (codes "stump " ⋅ kind_class lost.message.kind) (point_of sheet lost.from) (stump_end sheet lost))
 
 -- A message that never comes has its stump, unless one of those between whom it goes isn't shown.
 abbrev pub DrawsStump : Sheet → (event : ℕ) → Departure → Text → Type 0

@@ -258,33 +258,36 @@ fn push_lost(
     }
 }
 
-// A message that never comes: half of its way, a cross, and its words above.
+// A message that never comes: the beginning of its way, a cross, and its words above.
 #[tactic(auto, using(crate::proofs::Within::growing))]
 fn push_stump(sheet: &Sheet<'_>, out: &mut String, lost: &Lost) -> Result<(), AllocError>
     ensures grows { OnOk result (Grows (string_bytes out.old) (string_bytes out.new)) }
     ensures drawn { OnOk result (DrawsLost sheet.now lost.now (string_bytes out.new)) }
 {
     let from = sheet.point(lost.from);
-    let middle = half_way(sheet, lost);
-    push_line(sheet.alloc, out, lost_class(&lost.message), from, middle)?;
-    push_cross(sheet, out, "lost", middle, 35)?;
+    let end = stump_end(sheet, lost);
+    push_line(sheet.alloc, out, lost_class(&lost.message), from, end)?;
+    push_cross(sheet, out, "lost", end, 35)?;
     let words = message_words(sheet, &lost.message, false, false)?;
     let at = Point {
-        x: middle.x,
-        y: middle.y.saturating_sub(45),
+        x: end.x,
+        y: end.y.saturating_sub(45),
     };
     push_label(sheet.alloc, out, "note middle", at, words.as_str())
 }
 
-// Half of the way that a message that never comes was to go.
-fn half_way(sheet: &Sheet<'_>, lost: &Lost) -> Point
-    ensures { result ≡ spec.half_way sheet.now lost.now }
+// Where the line of a message that never comes ends: half a column on its way, where no lifeline is.
+fn stump_end(sheet: &Sheet<'_>, lost: &Lost) -> Point
+    ensures { result ≡ spec.stump_end sheet.now lost.now }
 {
     let from = sheet.point(lost.from);
-    Point {
-        x: from.x / 2 + sheet.x(lost.toward) / 2,
-        y: from.y,
-    }
+    let half = u64::from(sheet.step / 2);
+    let x = if lost.from.column < lost.toward {
+        from.x + half
+    } else {
+        from.x.saturating_sub(half)
+    };
+    Point { x, y: from.y }
 }
 
 fn lost_class(message: &Message) -> &'static str

@@ -3,6 +3,7 @@
 
 /// How the shapes of a picture look.
 pub(crate) const SHAPES: &str = "
+svg { background: #fff }
 text { font: 8px sans-serif; fill: #111; paint-order: stroke; stroke: #fff; stroke-width: 2px; stroke-linejoin: round }
 text.name { font: bold 9px sans-serif; text-anchor: middle }
 text.told { font: 8px monospace }

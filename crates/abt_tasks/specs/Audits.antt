@@ -1,13 +1,13 @@
 -- What an audit leaves, over the files that are named or over the input that is there.
-use Rattle.std.specs.Prelude.{◌≡◌, ◌⊎◌, ⊤, List, [], ◌∷◌, length, Option, String}
+use Rattle.std.specs.Prelude.{◌≡◌, ◌⊎◌, ⊤, Any, List, [], ◌∷◌, length, Option, String, string_bytes}
 use Rattle.std.specs.declared.alloc.Global.{Global}
 use Rattle.std.specs.Io.KnownBytes.{Keeps}
 use Rattle.abt_text.specs.Text.{Text}
 use Rattle.abt_perform.specs.Names.{fault_line}
 use Rattle.abt_perform.specs.Plans.{Tells}
 use Rattle.abt_perform.specs.declared.fault.Fault.TheVariants.{Memory}
-use Rattle.abt_commands.specs.Carried.{IsUnopened}
 use Rattle.abt_audit.specs.Performing.{IsShownAs, IsShownWhole, IsNotShown}
+use Rattle.abt_tasks.specs.Opening.{IsUnopenedFile}
 use Rattle.abt_audit.specs.declared.auditing.AuditedRun.{AuditedRun}
 use Rattle.abt_audit.specs.declared.plan.AuditPlan.{AuditPlan}
 use Rattle.abt_audit.specs.declared.plan.AuditPlan.TheVariants.{Input, Files}
@@ -27,6 +27,12 @@ pub record IsShownAsOver (names : List (String Global)) (old new : Option Text) 
   pub lefts : List (Option Text)
   pub each : length lefts ≡ length names
   pub shown : IsShownAs lefts old new run
+
+-- One of the files isn't opened, which is told of it by its name.
+pub record IsOneUnopened (names : List (String Global)) (old new errors_old errors_new : Option Text) : Type 0 where
+  pub name : Text
+  pub is_named : Any (λ file. string_bytes file ≡ name) names
+  pub unopened : IsUnopenedFile name old new errors_old errors_new
 
 -- what an audit takes of the input that is there: nothing where files are named
 abbrev pub TakesToAudit : AuditPlan → (old new : Option Text) → Type 0
@@ -48,4 +54,4 @@ abbrev pub IsUnauditedHere : AuditPlan → (left old new errors_old errors_new :
 IsUnauditedHere Input left old new errors_old errors_new =
     IsNotShown [] (left ∷ []) old new errors_old errors_new ⊎ (Keeps old new × Tells (fault_line Memory) errors_old errors_new)
 IsUnauditedHere (Files names) left old new errors_old errors_new =
-    IsUnopened old new errors_old errors_new ⊎ IsNotShownOver names.items old new errors_old errors_new
+    IsOneUnopened names.items old new errors_old errors_new ⊎ IsNotShownOver names.items old new errors_old errors_new

@@ -6,7 +6,7 @@ use Rattle.abt_text.specs.Text.{Text}
 use Rattle.abt_commands.specs.Carried.{IsUnopened}
 use Rattle.abt_json.specs.Printed.{Prints, IsRefused, ReadsFor}
 use Rattle.abt_json.specs.declared.plan.JsonPlan.{JsonPlan}
-use Rattle.abt_json.specs.declared.plan.JsonPlan.TheVariants.{Rate, Cell, Run, Explain}
+use Rattle.abt_json.specs.declared.plan.JsonPlan.TheVariants.{Run, Explain}
 use Rattle.abt_tasks.specs.Opening.{IsUnopenedFile}
 
 -- the file whose scenario is to be run

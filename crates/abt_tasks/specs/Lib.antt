@@ -11,3 +11,5 @@ pub mod Telling
 pub mod RunDrawing
 pub mod AuditDrawing
 pub mod Opening
+pub mod Overwriting
+pub mod Words

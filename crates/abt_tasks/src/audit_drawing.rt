@@ -9,9 +9,9 @@ ghost use Rattle.abt_tasks.specs.RunDrawing.{IsSavedIfNamed};
 
 use crate::auditing::show_texts;
 use crate::drawing::keep_picture;
-use crate::run_drawing::{keep_events, named, text_of};
+use crate::run_drawing::{keep_events, named};
 use abt_audit::{AuditPlan, AuditedRun, DRAW, Mark, marks_of, weave_part};
-use abt_commands::EVENTS;
+use abt_commands::{EVENTS, text_in};
 use abt_draw::{DrawFault, PicturePlan, Scene, StuckMark, picture_of, picture_plan_of};
 use abt_journal_text::Run;
 use abt_perform::WordsFault;
@@ -45,7 +45,7 @@ pub(crate) fn draw_audit_plan_of(
     let Some(texts) = abt_audit::plan_of(alloc, name, found)? else {
         return Ok(None);
     };
-    let events = text_of(alloc, found, EVENTS)?;
+    let events = text_in(alloc, found, EVENTS)?;
     let picture = picture_plan_of(alloc, found, DRAW)?;
     Ok(Some(DrawAuditPlan {
         texts,

@@ -1,17 +1,16 @@
 //! Audits, over the files that are named or over the input that is there.
-ghost use Rattle.std.specs.Prelude.{◌≡◌, ◌⊎◌, length, IfOk, IfErr, IfSome, IsOk, IsErr};
+ghost use Rattle.std.specs.Prelude.{◌≡◌, ◌⊎◌, Any, length, string_bytes, IfOk, IfErr, IfSome, IsOk, IsErr};
 ghost use Rattle.std.specs.Io.KnownBytes.{Keeps};
 ghost use Rattle.abt_audit.specs.Parts.{IsSizedRun};
 ghost use Rattle.abt_tasks.specs.Audits.{IsAuditedAs, IsAuditedHere, IsUnauditedHere, TakesToAudit};
 
+use crate::opening::{Unopened, open_named, tell_unopened};
 use abt_audit::{AuditPlan, AuditedRun, show_audit};
-use abt_commands::line_of_unopened;
 use abt_journal_text::Run;
 use abt_perform::{MEMORY_LINE, tell_text};
 use abt_progress::{Progress, Watched};
 use std::alloc::{AllocGlobal, Global};
-use std::fs::File;
-use std::io::{self, Error, ErrorKind, Read, Write};
+use std::io::{Read, Write};
 use std::rt::Files;
 
 // Audits the journals of the files that a plan names, or else of an input that is there, and gives the exit status.
@@ -69,8 +68,8 @@ pub(crate) fn show_texts<T: Files + AllocGlobal, R: Read, W: Write, E: Write, P:
     };
     match open_all(rt, progress, names) {
         Ok(files) => show_audit(rt.alloc(), names, files, out, errors),
-        Err(error) => {
-            tell_text(errors, line_of_unopened(&error));
+        Err((name, unopened)) => {
+            tell_unopened(name, unopened, errors);
             Err(None)
         }
     }
@@ -99,19 +98,24 @@ fn show_input<R: Read, W: Write, E: Write>(
     show_audit(alloc, &[], readers, out, errors)
 }
 
-// The files of these names, in their order, counted as they are read.
-fn open_all<'a, T: Files + AllocGlobal, P: Write + Drop>(
+// The files of these names, in their order, counted as they are read; or the first that can't be read, and what came in its place.
+fn open_all<'a, 'b, T: Files + AllocGlobal, P: Write + Drop>(
     rt: &T,
     progress: &'a Progress<P>,
-    names: &[String],
-) -> io::Result<Vec<Watched<'a, T::File, P>>>
-    ensures { IfOk result (λ files. length files.items ≡ length names.now) }
+    names: &'b [String],
+) -> Result<Vec<Watched<'a, T::File, P>>, (&'b str, Unopened)>
+    ensures ok { IfOk result (λ files. length files.items ≡ length names.now) }
+    ensures err { IfErr result (λ unopened. Any (λ file. string_bytes file ≡ unopened.0.now) names.now) }
 {
     let mut files = Vec::new(rt.alloc());
     for name in names {
-        let file = File::open(rt, name.as_str())?;
+        let name = name.as_str();
+        let file = match open_named(rt, name) {
+            Ok(file) => file,
+            Err(unopened) => return Err((name, unopened)),
+        };
         if files.push(Watched::new(file, progress)).is_err() {
-            return Err(Error::from(ErrorKind::OutOfMemory));
+            return Err((name, Unopened::Memory));
         }
     }
     Ok(files)

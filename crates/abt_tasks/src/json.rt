@@ -1,17 +1,18 @@
 //! What is said as JSON, over the file that is named or over the input that is there.
-ghost use Rattle.std.specs.Prelude.{◌≡◌, ◌⊎◌, true, false};
+ghost use Rattle.std.specs.Prelude.{◌≡◌, ◌⊎◌, true, false, IfOk, IfSome};
 ghost use Rattle.std.specs.Io.KnownBytes.{Keeps};
 ghost use Rattle.std.specs.Option.{option_map};
 ghost use Rattle.abt_tasks.specs.Json.{IsSaidHere, IsSaidOver, IsUnsaidHere, IsUnsaidOver, TakesToSay, explains};
 ghost use Rattle.abt_tasks.specs.Json as json;
+ghost use Rattle.abt_tasks.specs.Words.{IsJsonPlanOf};
 
 use crate::opening::{open_named, tell_unopened};
-use abt_commands::{CODE, FILE, HEX, JSON, line_of_unopened};
+use abt_commands::{CODE, FILE, HEX, JSON, line_of_unopened, text_in, word_in};
 use abt_json::{JsonPlan, perform_json};
 use abt_perform::{WordsFault, tell_text};
 use abt_progress::{Progress, Watched};
 use clap::ArgMatches;
-use std::alloc::{AllocError, AllocGlobal, Global};
+use std::alloc::{AllocGlobal, Global};
 use std::fs::File;
 use std::io::{Read, Write};
 use std::rt::Files;
@@ -21,29 +22,20 @@ pub(crate) fn json_plan_of(
     alloc: Global,
     name: &str,
     found: &ArgMatches<'_>,
-) -> Result<Option<JsonPlan>, WordsFault> {
+) -> Result<Option<JsonPlan>, WordsFault>
+    ensures { IfOk result (λ plan. IfSome plan (IsJsonPlanOf name.now found.now)) }
+{
     if !found.get_flag(JSON) {
         return Ok(None);
     }
     let plan = match name {
-        "rate" => JsonPlan::Rate(text_of(alloc, found, CODE)?),
-        "cell" => JsonPlan::Cell(text_of(alloc, found, HEX)?),
-        "run" => JsonPlan::Run(file_in(alloc, found)?),
-        "explain" => JsonPlan::Explain(file_in(alloc, found)?),
+        "rate" => JsonPlan::Rate(word_in(alloc, found, CODE)?),
+        "cell" => JsonPlan::Cell(word_in(alloc, found, HEX)?),
+        "run" => JsonPlan::Run(text_in(alloc, found, FILE)?),
+        "explain" => JsonPlan::Explain(text_in(alloc, found, FILE)?),
         _ => return Ok(None),
     };
     Ok(Some(plan))
-}
-
-fn file_in(alloc: Global, found: &ArgMatches<'_>) -> Result<Option<String>, AllocError> {
-    match found.get_str(FILE) {
-        Some(file) => Ok(Some(String::from_str(alloc, file)?)),
-        None => Ok(None),
-    }
-}
-
-fn text_of(alloc: Global, found: &ArgMatches<'_>, id: &str) -> Result<String, AllocError> {
-    String::from_str(alloc, found.get_str(id).unwrap_or(""))
 }
 
 // Says as JSON what a plan asks for, over the file that it names or over an input that is there, and gives the exit status.

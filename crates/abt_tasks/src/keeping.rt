@@ -6,8 +6,9 @@ ghost use Rattle.abt_rate.specs.Limits.{AreWorkers};
 ghost use Rattle.abt_text.specs.Streams.{ConsumesAtMost, text_max};
 ghost use Rattle.abt_tasks.specs.Keeping.{IsKeptOver, IsUnkeptOver, IsKeptHere, IsUnkeptHere, TakesToKeep};
 ghost use Rattle.abt_tasks.specs.Keeping as spec;
+ghost use Rattle.abt_tasks.specs.Words.{IsKeepPlanOf};
 
-use abt_commands::{FILE, JOURNALS, line_of_unopened, workers_of};
+use abt_commands::{FILE, JOURNALS, line_of_unopened, text_in, workers_of};
 use abt_perform::{Fault, WordsFault, tell_fault, tell_text};
 use abt_perform_threads::{KeepPlan, Unrun, keep_run};
 use abt_progress::{Progress, Watched};
@@ -25,7 +26,8 @@ pub(crate) fn keep_plan_of(
     name: &str,
     found: &ArgMatches<'_>,
 ) -> Result<Option<KeepPlan>, WordsFault>
-    ensures { IfOk result (λ plan. IfSome plan (λ kept. AreWorkers kept.workers)) }
+    ensures workers { IfOk result (λ plan. IfSome plan (λ kept. AreWorkers kept.workers)) }
+    ensures plan { IfOk result (λ plan. IfSome plan (IsKeepPlanOf found.now)) }
 {
     let Some(journals) = found.get_str(JOURNALS) else {
         return Ok(None);
@@ -35,10 +37,7 @@ pub(crate) fn keep_plan_of(
     }
     let workers = workers_of(alloc, found)?;
     let journals = String::from_str(alloc, journals)?;
-    let file = match found.get_str(FILE) {
-        Some(file) => Some(String::from_str(alloc, file)?),
-        None => None,
-    };
+    let file = text_in(alloc, found, FILE)?;
     Ok(Some(KeepPlan {
         file,
         workers,

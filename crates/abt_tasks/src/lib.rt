@@ -13,6 +13,7 @@ mod explaining;
 mod json;
 mod keeping;
 mod opening;
+mod overwriting;
 mod run_drawing;
 mod sampling;
 mod streams;

@@ -8,7 +8,7 @@ ghost use Rattle.abt_tasks.specs.RunDrawing as spec;
 
 use crate::drawing::keep_picture;
 use crate::opening::{open_named, tell_unopened};
-use abt_commands::{EVENTS, FILE, WORKERS, workers_of};
+use abt_commands::{EVENTS, FILE, WORKERS, text_in, workers_of};
 use abt_draw::{OUTPUT, PicturePlan, Scene, picture_of, picture_plan_of};
 use abt_model::Event;
 use abt_net::Net;
@@ -16,7 +16,7 @@ use abt_perform::{Fault, WordsFault, tell_fault, tell_text};
 use abt_perform_threads::{JudgedRun, show_scenario};
 use abt_scenario::save_events;
 use clap::ArgMatches;
-use std::alloc::{AllocError, AllocGlobal, Global};
+use std::alloc::{AllocGlobal, Global};
 use std::io::{Read, Write};
 use std::rt::Files;
 use std::sync::Wait;
@@ -50,8 +50,8 @@ pub(crate) fn draw_run_plan_of(
         return Ok(None);
     }
     let workers = workers_of(alloc, found)?;
-    let file = text_of(alloc, found, FILE)?;
-    let events = text_of(alloc, found, EVENTS)?;
+    let file = text_in(alloc, found, FILE)?;
+    let events = text_in(alloc, found, EVENTS)?;
     let picture = picture_plan_of(alloc, found, OUTPUT)?;
     Ok(Some(DrawRunPlan {
         file,
@@ -59,18 +59,6 @@ pub(crate) fn draw_run_plan_of(
         events,
         picture,
     }))
-}
-
-// The text that stands under a name, if one does.
-pub(crate) fn text_of(
-    alloc: Global,
-    found: &ArgMatches<'_>,
-    id: &str,
-) -> Result<Option<String>, AllocError> {
-    match found.get_str(id) {
-        Some(text) => Ok(Some(String::from_str(alloc, text)?)),
-        None => Ok(None),
-    }
 }
 
 // Runs the scenario of the file that a plan names, or else of an input that is there, draws and writes its events as the plan says, and

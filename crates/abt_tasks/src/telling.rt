@@ -7,10 +7,11 @@ ghost use Rattle.abt_tasks.specs.Telling.{IsTold, IsUntold, IsToldOver, IsUntold
 ghost use Rattle.abt_tasks.specs.Telling.{IsRunTold, IsUnfinished, IsRunSaved, IsRunUnsaved, TellsSaved, TellsUnsaved, TellsRun, TellsCheckBesides};
 ghost use Rattle.std.specs.Io.KnownBytes.{Keeps};
 ghost use Rattle.abt_tasks.specs.Telling as spec;
+ghost use Rattle.abt_tasks.specs.Words.{IsTellPlanOf};
 
 use crate::checked::{tell_check, unread};
 use crate::opening::{open_named, tell_unopened};
-use abt_commands::{EVENTS, EXPLAIN, FILE, workers_of};
+use abt_commands::{EVENTS, EXPLAIN, FILE, text_in, workers_of};
 use abt_explain::tell_events;
 use abt_perform::{WordsFault, tell_fault, tell_text};
 use abt_perform_threads::{JudgedRun, TellPlan, show_scenario};
@@ -18,7 +19,7 @@ use abt_progress::{Progress, Watched};
 use abt_scenario::save_events;
 use abt_text::octets_of;
 use clap::ArgMatches;
-use std::alloc::{AllocError, AllocGlobal, Global};
+use std::alloc::{AllocGlobal, Global};
 use std::io::{Read, Write};
 use std::rt::Files;
 use std::sync::Wait;
@@ -30,28 +31,22 @@ pub(crate) fn tell_plan_of(
     name: &str,
     found: &ArgMatches<'_>,
 ) -> Result<Option<TellPlan>, WordsFault>
-    ensures { IfOk result (λ plan. IfSome plan (λ told. AreWorkers told.workers)) }
+    ensures workers { IfOk result (λ plan. IfSome plan (λ told. AreWorkers told.workers)) }
+    ensures plan { IfOk result (λ plan. IfSome plan (IsTellPlanOf found.now)) }
 {
     let tells = found.get_flag(EXPLAIN);
-    let events = text_of(alloc, found, EVENTS)?;
+    let events = text_in(alloc, found, EVENTS)?;
     if name != "threads" || !(tells || events.is_some()) {
         return Ok(None);
     }
     let workers = workers_of(alloc, found)?;
-    let file = text_of(alloc, found, FILE)?;
+    let file = text_in(alloc, found, FILE)?;
     Ok(Some(TellPlan {
         file,
         workers,
         tells,
         events,
     }))
-}
-
-fn text_of(alloc: Global, found: &ArgMatches<'_>, id: &str) -> Result<Option<String>, AllocError> {
-    match found.get_str(id) {
-        Some(text) => Ok(Some(String::from_str(alloc, text)?)),
-        None => Ok(None),
-    }
 }
 
 // Runs the scenario of the file that a plan names, or else of an input that is there, tells and writes its events as the plan says, and

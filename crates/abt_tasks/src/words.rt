@@ -1,25 +1,34 @@
 //! The command line of the whole program, and the tasks that its words ask for.
 ghost use Rattle.std.specs.Prelude.{IfOk, IfSome};
+ghost use Rattle.abt_tasks.specs.Overwriting.{LosesText};
 ghost use Rattle.abt_tasks.specs.Tasks.{IsAllowed};
 
 use crate::asked::Asked;
 use crate::audit_drawing::draw_audit_plan_of;
 use crate::json::json_plan_of;
 use crate::keeping::keep_plan_of;
+use crate::overwriting::loses_text;
 use crate::run_drawing::draw_run_plan_of;
 use crate::streams::stream_of;
 use crate::task::Task;
 use crate::telling::tell_plan_of;
-use abt_commands::{EXPLAIN, QUIET, add_commands, no_plan, plan_of, program, refusal};
-use abt_perform::{Plan, WordsFault};
+use abt_commands::{
+    EXPLAIN, NO_COMMAND, QUIET, add_commands, plan_of, program, refusal, wrong_words,
+};
+use abt_perform::WordsFault;
 use clap::{ArgMatches, Command};
 use std::alloc::{AllocError, Global};
 
+// What is told of words that name a file to be written which is read as well, or another one to be written.
+const ONE_FILE: &str = "a file that is read or written already can't be written to";
+
 /// What the words behind the program's name ask for.
 ///
-/// `clap` decides which words are refused, and writes what is told then, and the help.
+/// `clap` decides which words are refused, and writes what is told then, and the help. Refused are also words with which a text would be
+/// lost: a file to be written is one that is read, or is to be written twice. Files are told apart by their names alone.
 pub fn task_words<'a>(alloc: Global, words: &'a [&'a str]) -> Result<Asked, WordsFault>
     ensures limits { IfOk result (λ asked. IsAllowed asked.task) }
+    ensures apart { IfOk result (λ asked. ¬ LosesText asked.task) }
 {
     let matches = match whole_program(alloc)?.try_get_matches_from(words) {
         Ok(matches) => matches,
@@ -28,13 +37,13 @@ pub fn task_words<'a>(alloc: Global, words: &'a [&'a str]) -> Result<Asked, Word
     match matches.subcommand() {
         Some((name, found)) => {
             let task = task_of(alloc, name, found)?;
+            if loses_text(&task) {
+                return Err(wrong_words(alloc, ONE_FILE)?);
+            }
             let quiet = found.get_flag(QUIET);
             Ok(Asked { task, quiet })
         }
-        None => {
-            let task = no_task(alloc)?;
-            Ok(Asked { task, quiet: true })
-        }
+        None => Err(wrong_words(alloc, NO_COMMAND)?),
     }
 }
 
@@ -91,7 +100,7 @@ fn task_of(alloc: Global, name: &str, found: &ArgMatches<'_>) -> Result<Task, Wo
     if let Some(plan) = abt_codes::plan_of(alloc, name, found)? {
         return Ok(Task::Codes(plan));
     }
-    no_task(alloc)
+    Err(wrong_words(alloc, NO_COMMAND)?)
 }
 
 // The task of a command that draws; None if it is another one.
@@ -112,11 +121,4 @@ fn drawing_task_of(
         Some(plan) => Ok(Some(Task::Draw(plan))),
         None => Ok(None),
     }
-}
-
-fn no_task(alloc: Global) -> Result<Task, WordsFault>
-    ensures { IfOk result IsAllowed }
-{
-    let plan: Plan = no_plan(alloc, "no such command")?;
-    Ok(Task::Plan(plan))
 }

@@ -5,6 +5,6 @@ use Rattle.abt_draw.proofs.row.push_stump.Goals as goal
 
 pub returns-clause-drawn : goal.returns-clause-drawn
 returns-clause-drawn c = on_ok_weaker c.push_label.result
-    (λ is. holds_line _ _ _ _ _ _ _ _ _ c.lost_class.ensures c.point-from.ensures c.half_way-middle.ensures c.in_ok-push_line.ensures
+    (λ is. holds_line _ _ _ _ _ _ _ _ _ c.lost_class.ensures c.point-from.ensures c.stump_end-end.ensures c.in_ok-push_line.ensures
     (grows_on _ _ _ (grows_by _ _ _ c.in_ok-push_cross.ensures) (grows_by _ _ _ is)))
     c.push_label.ensures
