@@ -86,10 +86,13 @@ def body_of(text, at):
 
 
 def first_line(lines, line):
-    """The first line of the attributes right above a line, both from 1."""
-    while line > 1 and lines[line - 2].strip().startswith("#["):
+    """The first line of the attributes above a line, also where comments stand between, both from 1."""
+    first = line
+    while line > 1 and lines[line - 2].strip().startswith(("#[", "//")):
         line -= 1
-    return line
+        if lines[line - 1].strip().startswith("#["):
+            first = line
+    return first
 
 
 def functions_of(text):
