@@ -166,6 +166,17 @@ def check_numbers(header):
             fail(f"{name} isn't {value}")
 
 
+def check_names(header):
+    """The name of each outcome is its own, in words that begin with capitals."""
+    named = re.findall(r"case ABT_(\w+): return \"(\w+)\";", header)
+    for outcome, name in named:
+        wanted = outcome if outcome == "OK" else "".join(word.capitalize() for word in outcome.split("_"))
+        if name != wanted:
+            fail(f"ABT_{outcome} is named {name}, not {wanted}")
+    if not named:
+        fail("no outcome has a name")
+
+
 def check_archive(functions):
     names = subprocess.run(["nm", "-g", ARCHIVE], check=True, capture_output=True, text=True).stdout
     defined = set(re.findall(r" T (\w+)", names))
@@ -202,6 +213,7 @@ def main():
     functions = check_functions(header)
     check_records(header)
     check_numbers(header)
+    check_names(header)
     check_archive(functions)
     with tempfile.TemporaryDirectory() as room:
         subprocess.run(["make", "-s", "-C", ROOT / "c", "check", f"BUILD={room}", f"ABT_LIBRARY={ARCHIVE}"], check=True)

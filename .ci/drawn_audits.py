@@ -122,6 +122,20 @@ def check_documents(drawer):
         page = Page()
         page.feed((drawer.room / "page.html").read_text())
         assert page.outside == [] and "\nstuck: 0:" in page.words, name
+    check_escapes(drawer, worked_faults()[0][1])
+
+
+def check_escapes(drawer, text):
+    """A file whose name is full of signs stands in a page and in a picture as it is called."""
+    name = "<b>&amp;'\".jsonl"
+    (drawer.room / name).write_bytes(text)
+    for out in ("signs.html", "signs.svg"):
+        done = subprocess.run([drawer.program, "audit", name, "--draw", out], cwd=drawer.room, capture_output=True, timeout=60)
+        octets = (drawer.room / out).read_text()
+        assert done.returncode == 1 and "<b>" not in octets and "&lt;b&gt;&amp;amp;" in octets, (out, done)
+    page = Page()
+    page.feed((drawer.room / "signs.html").read_text())
+    assert f"\nstuck: {name}:" in page.words, page.words[-300:]
 
 
 def check_refusals(drawer, lines):

@@ -3,8 +3,8 @@
 enough, or begins to do so from some size on.
 
 70,000 changes of a capacity are run, explained, checked, and audited as journals: in one text, in 70 texts, and with their events written. A port
-has its 1,024 connections, each of which is started and asks. 12 sources whose stores failed once each are audited together. The slow model
-says what is wanted, but for the reasons, of which the numbers are: each event has its line.
+has its 1,024 connections, each of which is started and asks. A source is audited whose store failed 20 times, each of which what it does next
+settles. The slow model says what is wanted, but for the reasons, of which the numbers are: each event has its line.
 
 usage: large.py PROGRAM
 """
@@ -23,7 +23,7 @@ sys.path.insert(0, str(ROOT / ".ci"))
 from audits import WHOLE, text_of  # noqa: E402
 from open_writes import opened, texts_of  # noqa: E402
 
-CHANGES, TEXTS, CONNECTIONS, SOURCES = 70_000, 70, 1_024, 12
+CHANGES, TEXTS, CONNECTIONS, FAILURES = 70_000, 70, 1_024, 20
 
 
 def changes():
@@ -41,14 +41,13 @@ def connections():
 
 
 def stores():
-    """The events of sources that each ask over a store that fails, once behind writing and once before, and ask once more behind a crash; and
-    their journals, which say that the store failed and no more."""
-    conns = [{"vc": (1, 100 + conn), "path": [0], "delay": 1000, "tau": 200, "script": []} for conn in range(SOURCES)]
-    writer = Writer([51_200_000], conns)
-    for conn in range(SOURCES):
-        plan = "before" if conn % 2 else "after"
-        asked = ("ask", conn, rate("5120"))
-        for event in (("start", conn, 0), (*asked, plan), ("crash", conn), ("start", conn, 10**13), (*asked, "works")):
+    """The journals of a source that asks over a store that fails, now behind writing and now before, and asks once more behind a crash; and the same
+    that say that the store failed and no more."""
+    writer = Writer([512_000], [{"vc": (1, 100), "path": [0], "delay": 1000, "tau": 200, "script": []}])
+    asked = ("ask", 0, rate("5120"))
+    for number in range(FAILURES):
+        plan = "before" if number % 2 else "after"
+        for event in (("start", 0, 2 * number * 10**13), (*asked, plan), ("crash", 0), ("start", 0, (2 * number + 1) * 10**13), (*asked, "works"), ("crash", 0)):
             writer.happen(event)
     return texts_of(writer.lines), texts_of(opened(writer.lines)[0])
 

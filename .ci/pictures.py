@@ -167,6 +167,14 @@ class Picture:
         for place, (kind, number) in enumerate(bands):
             base = self.bottom + BAND_STEP * (place + 1)
             self.check_stack(number, base) if kind == "port" else self.check_rates(number, base)
+        self.check_axis()
+
+    def check_axis(self):
+        """Each number along the axis stands where its event does; the first event has one."""
+        ticks = [(int(one.text), tenths(one.get("x"))) for one in self.shapes(self.root, "text", "tick")]
+        wanted = [(number, self.edge(number - self.first)) for number, _ in ticks]
+        assert ticks == wanted and (not ticks or ticks[0][0] == self.first + 1), ("axis", ticks, wanted)
+        assert bool(ticks) == (self.last > self.first), ("axis", ticks)
 
     def arrow(self, message, sent, came, places):
         sender, receiver = self.run.sender(message), self.run.actor(message[0], message[2])
@@ -248,7 +256,7 @@ class Page(HTMLParser):
 
     def __init__(self):
         super().__init__()
-        self.outside, self.inside, self.words, self.open = [], [], "", []
+        self.outside, self.inside, self.words, self.script, self.open = [], [], "", "", []
 
     def handle_starttag(self, tag, attributes):
         self.open.append(tag)
@@ -265,8 +273,19 @@ class Page(HTMLParser):
             self.words += data
         if "style" in self.open and "url(" in data.replace("url(#", ""):
             self.outside.append(("style", "url", data))
+        if "script" in self.open:
+            self.script += data
         if "script" in self.open and any(word in data for word in ("fetch", "XMLHttp", "import", "http:", "https:", "WebSocket")):
             self.outside.append(("script", "", data))
+
+
+def check_script(page):
+    """Each button and each key of a page steps to where its name says."""
+    buttons = re.findall(r"getElementById\('(\w+)'\)\.addEventListener\('click', function \(\) { show\((.*?), true\); }\)", page.script)
+    assert buttons == [("back", "at - 1"), ("on", "at + 1")], buttons
+    keys = re.search(r"var steps = {(.*?)};", page.script)[1]
+    assert keys == " ArrowRight: at + 1, ArrowLeft: at - 1, Home: 0, End: events.length - 1 ", keys
+    assert "addEventListener('input', function () { show(slider.value - 1, true); })" in page.script, "the slider"
 
 
 def draw(program, file, out, *words):
@@ -302,6 +321,7 @@ def check_sample(program, sample, room):
     assert (ended.returncode, ended.stdout, ended.stderr) == (0, "", ""), ended
     page = Page()
     page.feed(out.read_text())
+    check_script(page)
     assert page.outside == [], page.outside
     assert page.words == explained, "the words of a page"
     return len(events)
@@ -347,6 +367,23 @@ def check_shown(program, room):
     out = room / "shown.svg"
     draw(program, ROOT / "scenarios" / "two_ports.toml", out)
     assert out.read_text() == (ROOT / "docs" / "two_ports.svg").read_text(), "docs/two_ports.svg isn't what is drawn"
+
+
+def check_columns(program, room):
+    """A picture of 1,024 columns is drawn, and none of more."""
+    for conns, status in ((511, 0), (512, 1)):
+        sections = "".join(
+            f"[[connection]]\nvpi = 1\nvci = {32 + conn}\npath = [0, 1]\ndelay = 1000\ntau = 200\n" for conn in range(conns)
+        )
+        file, out = room / "wide.toml", room / "wide.svg"
+        file.write_text(f'ports = [1, 1]\nevents = ["start 0 0"]\n{sections}')
+        ended = draw(program, file, out)
+        assert (ended.returncode, out.exists()) == (status, status == 0), (conns, ended)
+        if status == 0:
+            assert out.read_text().count("class='life'") == 2 * conns + 2, "the lifelines of a wide picture"
+            out.unlink()
+        else:
+            assert ended.stderr.startswith("fault: Columns"), ended
 
 
 def check_refusals(program, room):
@@ -399,6 +436,7 @@ def main():
             except AssertionError as error:
                 sys.exit(f"pictures: {sample.name}, woven: {error}")
         check_shown(program, Path(room))
+        check_columns(program, Path(room))
         refusals = check_refusals(program, Path(room))
     print(f"pictures: {len(samples)} samples with {events} events are drawn as the model has them, and {refusals} refusals leave no file")
     print(f"pictures: {len(threads)} samples run in threads are drawn so too, each by 1, 4 and 64 link workers; {woven} events woven by 64")
