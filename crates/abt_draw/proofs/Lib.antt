@@ -2,4 +2,7 @@ pub mod Stacked
 pub mod Escaping
 pub mod Within
 pub mod Shown
-mod Ranges
+pub mod Columned
+pub mod Faults
+pub mod Paged
+pub mod Listed

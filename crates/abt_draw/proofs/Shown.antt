@@ -7,8 +7,10 @@ use Rattle.abt_chart.specs.declared.crossings.Crossing.{Crossing}
 use Rattle.abt_chart.specs.declared.told.Told.{Told}
 use Rattle.abt_draw.specs.Lifelines.{HasLifeline, HasLifelines}
 use Rattle.abt_draw.specs.Rows.{DrawsArrival, DrawsStump, DrawsSent, DrawsDeparture, HasRow, HasRows}
+use Rattle.abt_draw.specs.Stuck.{HasStuckRow, HasStuckRows}
 use Rattle.abt_draw.specs.Within.{Grows}
 use Rattle.abt_draw.specs.declared.actor.Actor.{Actor}
+use Rattle.abt_draw.specs.declared.scene.StuckMark.{StuckMark}
 use Rattle.abt_draw.specs.declared.sheet.Sheet.{Sheet}
 use Rattle.abt_draw.proofs.Within.{holds_still}
 
@@ -69,3 +71,12 @@ lifeline_still sheet column who old new grows has = record {
 pub lifelines_still : (sheet : Sheet) (old new : List ℕ) → Grows old new → HasLifelines sheet old → HasLifelines sheet new
 lifelines_still sheet old new grows has =
     record { each = λ column who is. lifeline_still sheet column who old new grows (has.each column who is) }
+
+pub stuck_row_still : (sheet : Sheet) (place : ℕ) (mark : StuckMark) (old new : List ℕ) → Grows old new
+    → HasStuckRow sheet place mark old → HasStuckRow sheet place mark new
+stuck_row_still sheet place mark old new grows row =
+    record { content = row.content; group = holds_still old new _ grows row.group; drawn = row.drawn }
+
+pub stuck_rows_still : (sheet : Sheet) (old new : List ℕ) → Grows old new → HasStuckRows sheet old → HasStuckRows sheet new
+stuck_rows_still sheet old new grows rows =
+    record { each = λ place mark is. stuck_row_still sheet place mark old new grows (rows.each place mark is) }

@@ -8,4 +8,9 @@ pub mod Lines
 pub mod Marks
 pub mod Rows
 pub mod Lifelines
+pub mod Stuck
+pub mod Columns
 pub mod Drawn
+pub mod Pictures
+pub mod Drawings
+pub mod Plans

@@ -1,5 +1,6 @@
 //! Those who have a lifeline, and their columns.
-ghost use Rattle.std.specs.Prelude.{◌≡◌, ◌≤◌, length, IfOk, IfSome, IfNone};
+ghost use Rattle.std.specs.Prelude.{◌≡◌, ◌<◌, ◌≤◌, fold, length, IfOk, IfSome, IfNone, OnOk};
+ghost use Rattle.abt_draw.specs.Columns as shown;
 ghost use Rattle.abt_draw.specs.Places.{IsColumn, HasNoColumn};
 ghost use Rattle.abt_draw.specs.Places as spec;
 
@@ -72,15 +73,16 @@ pub fn columns_of(
     net: &Net,
     only: &[u16],
 ) -> Result<Option<Sequence<Actor>>, AllocError>
-    ensures { IfOk result (λ columns. IfSome columns (λ found. length found ≤ 1024)) }
+    ensures some { IfOk result
+        (λ found. IfSome found (λ all. all ≡ shown.columns_of net.now only.now)) }
+    ensures few { IfOk result (λ found. IfSome found (λ all. length all ≤ 1024)) }
+    ensures none { IfOk result (λ found. IfNone found (1024 < length (shown.columns_of net.now only.now))) }
 {
     let conns = net.conns();
     let mut columns = Sequence::new(alloc);
     for place in 0..conns.len() {
         let conn = place as u16;
-        if only.is_empty() || only.contains(&conn) {
-            add_path(&mut columns, conn, conns[place].path.as_slice())?;
-        }
+        add_shown(&mut columns, only, conn, conns[place].path.as_slice())?;
         if columns.len() > COLUMNS_MAX {
             return Ok(None);
         }
@@ -88,14 +90,47 @@ pub fn columns_of(
     Ok(Some(columns))
 }
 
-// Adds the columns of a path.
-fn add_path(columns: &mut Sequence<Actor>, conn: u16, path: &[u16]) -> Result<(), AllocError> {
-    columns.push(Actor::Source(conn))?;
-    for port in path {
-        let actor = Actor::Port(*port);
-        if !columns.as_slice().contains(&actor) {
-            columns.push(actor)?;
-        }
+// Whether a connection is shown.
+fn is_shown(only: &[u16], conn: u16) -> bool
+    ensures { result ≡ shown.is_shown only.now conn }
+{
+    only.is_empty() || only.contains(&conn)
+}
+
+// Adds the columns of the path of a connection, if that is shown.
+fn add_shown(
+    columns: &mut Sequence<Actor>,
+    only: &[u16],
+    conn: u16,
+    path: &[u16],
+) -> Result<(), AllocError>
+    ensures { OnOk result (columns.new ≡ fold shown.with_column columns.old
+        (shown.shown_along only.now conn path.now)) }
+{
+    if is_shown(only, conn) {
+        add_path(columns, conn, path)
+    } else {
+        Ok(())
     }
-    columns.push(Actor::End(conn))
+}
+
+// Adds the columns of a path.
+fn add_path(columns: &mut Sequence<Actor>, conn: u16, path: &[u16]) -> Result<(), AllocError>
+    ensures { OnOk result (columns.new ≡ fold shown.with_column columns.old (shown.along conn path.now)) }
+{
+    add_column(columns, Actor::Source(conn))?;
+    for port in path {
+        add_column(columns, Actor::Port(*port))?;
+    }
+    add_column(columns, Actor::End(conn))
+}
+
+// Adds a column for somebody who has none yet.
+fn add_column(columns: &mut Sequence<Actor>, who: Actor) -> Result<(), AllocError>
+    ensures { OnOk result (columns.new ≡ shown.with_column columns.old who) }
+{
+    if columns.as_slice().contains(&who) {
+        return Ok(());
+    }
+    columns.push(who)
 }

@@ -1,13 +1,18 @@
 //! Scenarios from any reader, pictures as texts.
-ghost use Rattle.std.specs.Prelude.{◌+◌, ◌≤◌, length, IfOk, IfErr, IfSome, IfNone};
+ghost use Rattle.std.specs.Prelude.{◌≡◌, ◌↔◌, ◌++◌, ◌+◌, ◌<◌, ◌≤◌, length, string_bytes, IfOk, IfErr, IfSome, IfNone, OnOk, IsErrOf};
 ghost use Rattle.abt_text.specs.Streams.{ConsumesAtMost, text_max};
-ghost use Rattle.abt_draw.specs.Drawn.{IsDrawn, IsUndrawn, IsUndrawnRange, IsShownRange, AreKnown, IsUnknown};
+ghost use Rattle.abt_draw.specs.Columns.{columns_of as columns_shown};
+ghost use Rattle.abt_draw.specs.Drawn.{AreRows, IsUndrawn, IsUnplaced, IsUndrawnRange, IsShownRange, IsFoundFirst, AreKnown, IsUnknown};
+ghost use Rattle.abt_draw.specs.Drawn as drawn;
+ghost use Rattle.abt_draw.specs.Drawings.{IsDrawing, IsNoDrawing};
+ghost use Rattle.abt_draw.specs.Pictures.{IsPicture, IsSheetFile, IsInWords, stuck_lines};
+ghost use Rattle.abt_draw.specs.declared.fault.DrawFault.{DrawFault as FaultSpec};
 
 use crate::fault::DrawFault;
-use crate::page::{html_of, svg_of};
+use crate::page::file_of;
 use crate::plan::PicturePlan;
 use crate::sheet::{Sheet, left_most, left_of, step_of};
-use crate::{Rows, Scene, columns_of};
+use crate::{Rows, Scene, StuckMark, columns_of};
 use abt_chart::{Chart, chart_of};
 use abt_net::Net;
 use abt_places::read_placed;
@@ -30,6 +35,9 @@ pub fn drawing_of<R: Read>(
     plan: &PicturePlan,
     reader: &mut R,
 ) -> Result<String, DrawFault>
+    ensures ok { IfOk result
+        (λ text. IfSome (R.remaining reader.old) (IsDrawing plan.now (string_bytes text))) }
+    ensures err { IfErr result (λ fault. IfSome (R.remaining reader.old) (IsNoDrawing plan.now fault)) }
     ensures stops { ConsumesAtMost (R.remaining reader.old) (R.remaining reader.new) (text_max + 1) }
 {
     let placed = read_placed(alloc, reader)?;
@@ -43,32 +51,54 @@ pub fn drawing_of<R: Read>(
     picture_of(alloc, plan, &scene)
 }
 
-#[tactic(auto, using(crate::proofs::Ranges::undrawn_range))]
 /// The text of the picture that a plan asks for, of events over a net to which nothing happened before, and of the entries at which journals
 /// are stuck behind them.
 ///
 /// # Errors
 /// Which connection or which events are named that there aren't, what is too much for one picture, or want of memory.
 pub fn picture_of(alloc: Global, plan: &PicturePlan, scene: &Scene<'_>) -> Result<String, DrawFault>
-    ensures ok { IfOk result (λ _. IsDrawn plan.now scene.now.net.now scene.now.events.now) }
+    ensures ok { IfOk result (λ text. IsPicture plan.now scene.now (string_bytes text)) }
     ensures err { IfErr result (IsUndrawn plan.now scene.now.net.now scene.now.events.now) }
+    ensures faults { (fault : FaultSpec) → IsFoundFirst fault →
+        IsErrOf result fault ↔ IsUndrawn plan.now scene.now.net.now scene.now.events.now fault }
 {
-    let (net, events) = (scene.net, scene.events);
+    let rows = rows_of(plan, scene.net, scene.events.len())?;
+    drawn_in(alloc, plan, scene, rows)
+}
+
+// The rows that a plan asks for, of so many events over a net, if there is room for their bands.
+fn rows_of(plan: &PicturePlan, net: &Net, events: usize) -> Result<Rows, DrawFault>
+    ensures ok { IfOk result (AreRows plan.now net.now events) }
+    ensures err { IfErr result (IsUnplaced plan.now net.now events) }
+{
     if let Some(conn) = unknown_in(plan.only.as_slice(), net.conns().len()) {
         return Err(DrawFault::Only(conn));
     }
-    let (first, last) = range_of(plan, events.len())?;
+    let (first, last) = range_of(plan, events)?;
     if numbers_of(net, last - first) > NUMBERS_MAX {
         return Err(DrawFault::Numbers);
     }
-    let (before, rest) = events.split_at(first);
-    let (shown, after) = rest.split_at(last - first);
-    let chart = chart_of(alloc, net, before, shown, after)?;
-    let words = words_of(alloc, scene)?;
-    let rows = Rows {
+    Ok(Rows {
         first,
         count: (last - first) as u32,
-    };
+    })
+}
+
+// The text of the picture that has these rows.
+fn drawn_in(
+    alloc: Global,
+    plan: &PicturePlan,
+    scene: &Scene<'_>,
+    rows: Rows,
+) -> Result<String, DrawFault>
+    requires { AreRows plan.now scene.now.net.now (length scene.now.events.now) rows }
+    ensures ok { IfOk result (λ text. IsPicture plan.now scene.now (string_bytes text)) }
+    ensures err { IfErr result (IsUndrawn plan.now scene.now.net.now scene.now.events.now) }
+{
+    let (before, rest) = scene.events.split_at(rows.first);
+    let (shown, after) = rest.split_at(rows.count as usize);
+    let chart = chart_of(alloc, scene.net, before, shown, after)?;
+    let words = words_of(alloc, scene)?;
     match text_of(alloc, plan, scene, &chart, rows, words.as_str())? {
         Some(text) => Ok(text),
         None => Err(DrawFault::Columns),
@@ -76,14 +106,24 @@ pub fn picture_of(alloc: Global, plan: &PicturePlan, scene: &Scene<'_>) -> Resul
 }
 
 // A picture in words: each event with its reason, and behind them the entries at which journals are stuck.
-fn words_of(alloc: Global, scene: &Scene<'_>) -> Result<String, AllocError> {
+fn words_of(alloc: Global, scene: &Scene<'_>) -> Result<String, AllocError>
+    ensures { IfOk result (λ words. IsInWords scene.now (string_bytes words)) }
+{
     let mut words = explanation_of(alloc, scene.net, scene.events, scene.lines)?;
-    for mark in scene.stuck {
+    push_stuck_lines(&mut words, scene.stuck)?;
+    Ok(words)
+}
+
+// Adds what is told of the entries at which journals are stuck.
+fn push_stuck_lines(words: &mut String, stuck: &[StuckMark<'_>]) -> Result<(), AllocError>
+    ensures { OnOk result (string_bytes words.new ≡ string_bytes words.old ++ stuck_lines stuck.now) }
+{
+    for mark in stuck {
         words.push_str("stuck: ")?;
         words.push_str(mark.text)?;
         words.push_str("\n")?;
     }
-    Ok(words)
+    Ok(())
 }
 
 // The first connection that is named and isn't one of so many.
@@ -109,6 +149,12 @@ fn text_of(
     explanation: &str,
 ) -> Result<Option<String>, AllocError>
     requires { rows.count ≤ 2000 }
+    ensures some { IfOk result (λ found. IfSome found
+        (λ text. IsSheetFile plan.now scene.now chart.now rows explanation.now (string_bytes text))) }
+    ensures few { IfOk result (λ found. IfSome found
+        (λ _. length (columns_shown scene.now.net.now plan.now.only.items) ≤ 1024)) }
+    ensures none { IfOk result (λ found. IfNone found
+        (1024 < length (columns_shown scene.now.net.now plan.now.only.items))) }
 {
     let Some(columns) = columns_of(alloc, scene.net, plan.only.as_slice())? else {
         return Ok(None);
@@ -129,12 +175,7 @@ fn text_of(
         left,
         step,
     };
-    let text = if plan.page {
-        html_of(&sheet, explanation)?
-    } else {
-        svg_of(&sheet, explanation)?
-    };
-    Ok(Some(text))
+    Ok(Some(file_of(&sheet, plan.page, explanation)?))
 }
 
 // The first event that is shown, counted from 0, and the one behind the last.
@@ -157,11 +198,10 @@ fn range_of(plan: &PicturePlan, events: usize) -> Result<(usize, usize), DrawFau
 }
 
 // How many numbers the bands of so many events have.
-fn numbers_of(net: &Net, events: usize) -> usize {
+fn numbers_of(net: &Net, events: usize) -> usize
+    requires { events ≤ 2000 }
+    ensures { result ≡ drawn.numbers_of net.now events }
+{
     let (ports, conns) = (net.capacities().len(), net.conns().len());
-    let frame = ports
-        .saturating_mul(conns)
-        .saturating_add(ports)
-        .saturating_add(conns);
-    events.saturating_add(1).saturating_mul(frame)
+    (events + 1) * (ports * conns + ports + conns)
 }

@@ -108,8 +108,8 @@ pub(crate) fn push_mark(
     push_shape(sheet, out, mark, Point { x, y })
 }
 
-// The middle of the column of somebody, or a place beside all of them where there is none.
-fn x_beside(sheet: &Sheet<'_>, who: Option<Actor>) -> u64
+/// The middle of the column of somebody, or a place beside all of them where there is none.
+pub(crate) fn x_beside(sheet: &Sheet<'_>, who: Option<Actor>) -> u64
     ensures { IsBeside sheet.now who result }
 {
     match standing(sheet.columns, who) {

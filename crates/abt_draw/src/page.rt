@@ -1,12 +1,35 @@
 //! Pictures as whole files: an SVG text, or a page with the picture in it.
+ghost use Rattle.std.specs.Prelude.{IfOk, OnOk, codes, string_bytes};
+ghost use Rattle.abt_text.specs.Text.{◌⋅◌};
+ghost use Rattle.abt_draw.specs.Escapes as spec;
+ghost use Rattle.abt_draw.specs.Pictures.{IsSvg, IsPage, IsFile};
+ghost use Rattle.abt_draw.specs.Within.{Grows, Holds};
+
 use crate::picture::push_picture;
 use crate::sheet::Sheet;
-use crate::style::{DEFINITIONS, KEYS, PAGE, SCRIPT, SHAPES};
+use crate::style::{KEYS, PAGE, definitions, script, shapes};
 use crate::{Picture, Point, Size, escaped, push_document, push_line};
-use std::alloc::AllocError;
+use std::alloc::{AllocError, Global};
 
-/// The SVG text of a picture. The explanation is that of the whole run, and stands in it for readers of screens.
-pub(crate) fn svg_of(sheet: &Sheet<'_>, explanation: &str) -> Result<String, AllocError> {
+/// The text of a picture: a page, or an SVG text. The explanation is that of the whole run.
+pub(crate) fn file_of(
+    sheet: &Sheet<'_>,
+    page: bool,
+    explanation: &str,
+) -> Result<String, AllocError>
+    ensures { IfOk result (λ text. IsFile page sheet.now explanation.now (string_bytes text)) }
+{
+    if page {
+        html_of(sheet, explanation)
+    } else {
+        svg_of(sheet, explanation)
+    }
+}
+
+// The SVG text of a picture. The explanation is that of the whole run, and stands in it for readers of screens.
+fn svg_of(sheet: &Sheet<'_>, explanation: &str) -> Result<String, AllocError>
+    ensures { IfOk result (λ text. IsSvg sheet.now explanation.now (string_bytes text)) }
+{
     let alloc = sheet.alloc;
     let title = title_of(sheet)?;
     let mut content = String::new(alloc);
@@ -19,8 +42,8 @@ pub(crate) fn svg_of(sheet: &Sheet<'_>, explanation: &str) -> Result<String, All
     let picture = Picture {
         title: title.as_str(),
         description: explanation,
-        style: SHAPES,
-        definitions: DEFINITIONS,
+        style: shapes(),
+        definitions: definitions(),
         content: content.as_str(),
     };
     let mut out = String::new(alloc);
@@ -29,7 +52,10 @@ pub(crate) fn svg_of(sheet: &Sheet<'_>, explanation: &str) -> Result<String, All
 }
 
 // The line across the bands that goes with the event that a page shows.
-fn push_cursor(sheet: &Sheet<'_>, out: &mut String, lower: u64) -> Result<(), AllocError> {
+#[tactic(auto, using(crate::proofs::Within::growing))]
+fn push_cursor(sheet: &Sheet<'_>, out: &mut String, lower: u64) -> Result<(), AllocError>
+    ensures { OnOk result (Grows (string_bytes out.old) (string_bytes out.new)) }
+{
     let from = Point {
         x: 0,
         y: sheet.bottom().saturating_add(200),
@@ -58,15 +84,24 @@ fn title_of(sheet: &Sheet<'_>) -> Result<String, AllocError> {
     format!(in alloc; "Events {first} to {last} of a run of {events}{behind}")
 }
 
-/// A page with the picture, which steps through its events.
-pub(crate) fn html_of(sheet: &Sheet<'_>, explanation: &str) -> Result<String, AllocError> {
+// A page with the picture, which steps through its events.
+fn html_of(sheet: &Sheet<'_>, explanation: &str) -> Result<String, AllocError>
+    ensures { IfOk result (λ text. IsPage sheet.now explanation.now (string_bytes text)) }
+{
     let alloc = sheet.alloc;
     let title = title_of(sheet)?;
     let title = escaped(alloc, title.as_str())?;
     let picture = svg_of(sheet, explanation)?;
-    let text = escaped(alloc, explanation)?;
-    let count = sheet.rows.count;
     let mut out = String::new(alloc);
+    push_steps(&mut out, title.as_str(), sheet.rows.count)?;
+    push_both(alloc, &mut out, picture.as_str(), explanation)?;
+    let script = script();
+    write!(out, "<script>{script}</script>\n</body>\n</html>\n")?;
+    Ok(out)
+}
+
+// What stands above the picture: the title, already escaped, and what steps through so many events.
+fn push_steps(out: &mut String, title: &str, count: u32) -> Result<(), AllocError> {
     out.push_str(HEAD)?;
     write!(
         out,
@@ -79,13 +114,26 @@ pub(crate) fn html_of(sheet: &Sheet<'_>, explanation: &str) -> Result<String, Al
     )?;
     out.push_str(
         "<button id='on'>On</button>\n<output id='now' aria-live='polite'></output>\n</div>\n",
-    )?;
+    )
+}
+
+// The picture, and below it the same in words.
+fn push_both(
+    alloc: Global,
+    out: &mut String,
+    picture: &str,
+    explanation: &str,
+) -> Result<(), AllocError>
+    ensures picture { OnOk result (Holds (string_bytes out.new) picture.now) }
+    ensures words { OnOk result (Holds (string_bytes out.new)
+        (codes "<pre>" ⋅ spec.escaped explanation.now ⋅ codes "</pre>")) }
+{
+    let text = escaped(alloc, explanation)?;
     write!(
         out,
-        "<div class='picture'>\n{picture}</div>\n<h2>The same in words</h2>\n<pre>{text}</pre>\n"
+        "<div class='picture'>\n{picture}</div>\n<h2>The same in words</h2>\n"
     )?;
-    write!(out, "<script>{SCRIPT}</script>\n</body>\n</html>\n")?;
-    Ok(out)
+    write!(out, "<pre>{text}</pre>\n")
 }
 
 // What a page begins with: it takes nothing from outside.

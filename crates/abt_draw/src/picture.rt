@@ -3,6 +3,7 @@ ghost use Rattle.std.specs.Prelude.{◌≡◌, ◌+◌, ◌<◌, ℕ, Some, OnOk
 ghost use Rattle.abt_chart.specs.declared.crossings.Crossing.{Crossing};
 ghost use Rattle.abt_draw.specs.Lifelines.{HasLifelines};
 ghost use Rattle.abt_draw.specs.Rows.{HasRow, HasRows};
+ghost use Rattle.abt_draw.specs.Stuck.{HasStuckRows};
 ghost use Rattle.abt_draw.specs.Within.{Grows};
 
 use crate::band::{BAND_STEP, Band, edge_of, push_ground};
@@ -24,11 +25,12 @@ pub(crate) fn push_picture(
 ) -> Result<u64, AllocError>
     ensures lifelines { OnOk result (HasLifelines sheet.now (string_bytes out.new)) }
     ensures rows { OnOk result (HasRows sheet.now explanation.now (string_bytes out.new)) }
+    ensures stuck { OnOk result (HasStuckRows sheet.now (string_bytes out.new)) }
 {
     push_lifelines(sheet, out)?;
     push_rows(sheet, out, explanation)?;
+    push_stuck(sheet, out)?;
     let mut below = String::new(sheet.alloc);
-    push_stuck(sheet, &mut below)?;
     let lower = push_bands(sheet, &mut below)?;
     out.push_str(below.as_str())?;
     Ok(lower)

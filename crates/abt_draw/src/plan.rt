@@ -1,4 +1,10 @@
 //! The words of `abt draw`.
+ghost use Rattle.std.specs.Prelude.{◌≡◌, ◌⊎◌, ◌↔◌, ◌^◌, ℕ, List, Option, None, Some, map, codes, IfOk, IfErr, IfSome, IfNone, IsSome};
+ghost use Rattle.abt_perform.specs.declared.plan.WordsFault.TheVariants.{Memory};
+ghost use Rattle.abt_text.specs.Words.{number_below};
+ghost use Rattle.abt_draw.specs.Plans.{AreNumbers, AreNamed, IsEventOf, IsPicturePlan, IsNoPicturePlan, IsDrawPlan};
+ghost use Rattle.abt_draw.specs.Plans as spec;
+
 use abt_perform::WordsFault;
 use abt_text::{u16_of, u64_of};
 use clap::{Arg, ArgMatches, Command, value_parser};
@@ -110,7 +116,11 @@ pub fn plan_of(
     alloc: Global,
     name: &str,
     found: &ArgMatches<'_>,
-) -> Result<Option<DrawPlan>, WordsFault> {
+) -> Result<Option<DrawPlan>, WordsFault>
+    ensures plan { IfOk result (λ asked. IfSome asked (IsDrawPlan found.now)) }
+    ensures name { IfOk result (λ asked. IsSome asked ↔ (name.now ≡ codes "draw")) }
+    ensures err { IfErr result (IsNoPicturePlan found.now (codes "output")) }
+{
     if name != "draw" {
         return Ok(None);
     }
@@ -130,15 +140,16 @@ pub fn picture_plan_of(
     alloc: Global,
     found: &ArgMatches<'_>,
     out: &str,
-) -> Result<PicturePlan, WordsFault> {
-    let out = found.get_str(out).unwrap_or("");
-    let page = out.ends_with(".html");
-    if !page && !out.ends_with(".svg") {
+) -> Result<PicturePlan, WordsFault>
+    ensures ok { IfOk result (IsPicturePlan found.now out.now) }
+    ensures err { IfErr result (IsNoPicturePlan found.now out.now) }
+{
+    let Some((out, page)) = file_of(found, out) else {
         return Err(wrong_words(alloc, "OUT ends in .svg or in .html")?);
-    }
+    };
     let only = only_of(alloc, found)?;
-    let from = number_of(alloc, found, FROM)?;
-    let to = number_of(alloc, found, TO)?;
+    let from = event_of(alloc, found, FROM)?;
+    let to = event_of(alloc, found, TO)?;
     Ok(PicturePlan {
         out: String::from_str(alloc, out)?,
         page,
@@ -148,29 +159,94 @@ pub fn picture_plan_of(
     })
 }
 
+// The file under a name, and whether it is for a page; none where its name ends in no way that is known.
+fn file_of<'a>(found: &ArgMatches<'a>, name: &str) -> Option<(&'a str, bool)>
+    ensures some { IfSome result (λ file. (spec.value_in found.now name.now ≡ Some file.0.now) ×
+        (spec.is_page file.0.now ≡ Some file.1)) }
+    ensures none { IfNone result ((file : List ℕ) → spec.value_in found.now name.now ≡ Some file →
+        spec.is_page file ≡ None) }
+{
+    let file = found.get_str(name)?;
+    let page = is_page(file)?;
+    Some((file, page))
+}
+
+// Whether a file is for a page, by the end of its name.
+fn is_page(file: &str) -> Option<bool>
+    ensures { result ≡ spec.is_page file.now }
+{
+    if file.ends_with(".html") {
+        Some(true)
+    } else if file.ends_with(".svg") {
+        Some(false)
+    } else {
+        None
+    }
+}
+
 // The connections that are named.
-fn only_of(alloc: Global, found: &ArgMatches<'_>) -> Result<Vec<u16>, WordsFault> {
-    let mut only = Vec::new(alloc);
-    let Some(list) = found.get_str(ONLY) else {
-        return Ok(only);
-    };
-    for word in list.split(',') {
-        push_conn(alloc, &mut only, word)?;
+fn only_of(alloc: Global, found: &ArgMatches<'_>) -> Result<Vec<u16>, WordsFault>
+    ensures ok { IfOk result (λ only. AreNamed (spec.value_in found.now (codes "only")) only.items) }
+    ensures err { IfErr result (λ fault. (fault ≡ Memory) ⊎
+        ((only : List ℕ) → AreNamed (spec.value_in found.now (codes "only")) only → ⊥)) }
+{
+    match found.get_str(ONLY) {
+        Some(list) => conns_in(alloc, list),
+        None => Ok(Vec::new(alloc)),
+    }
+}
+
+// The connections of a list.
+fn conns_in(alloc: Global, list: &str) -> Result<Vec<u16>, WordsFault>
+    ensures ok { IfOk result (λ only. AreNumbers (spec.parts_of list.now) only.items) }
+    ensures err { IfErr result (λ fault. (fault ≡ Memory) ⊎
+        ((only : List ℕ) → AreNumbers (spec.parts_of list.now) only → ⊥)) }
+{
+    let parts = parts_of(alloc, list)?;
+    conns_of(alloc, parts.as_slice())
+}
+
+// The connections that words name.
+fn conns_of(alloc: Global, words: &[&str]) -> Result<Vec<u16>, WordsFault>
+    ensures ok { IfOk result (λ only. AreNumbers (map (λ word. word.now) words.now) only.items) }
+    ensures err { IfErr result (λ fault. (fault ≡ Memory) ⊎
+        ((only : List ℕ) → AreNumbers (map (λ word. word.now) words.now) only → ⊥)) }
+{
+    let mut only = Vec::with_capacity(alloc, words.len())?;
+    for word in words {
+        let conn = conn_of(alloc, word)?;
+        match only.push(conn) {
+            Ok(()) => {}
+            Err(_) => return Err(WordsFault::Memory),
+        }
     }
     Ok(only)
 }
 
-fn push_conn(alloc: Global, only: &mut Vec<u16>, word: &str) -> Result<(), WordsFault> {
-    let Some(conn) = u16_of(word) else {
-        return Err(wrong_words(alloc, "--only names connections by their places, as 0,2")?);
-    };
-    match only.push(conn) {
-        Ok(()) => Ok(()),
-        Err(_) => Err(WordsFault::Memory),
+// The parts of a list between its commas.
+fn parts_of<'a>(alloc: Global, list: &'a str) -> Result<Vec<&'a str>, AllocError>
+    ensures { IfOk result (λ parts. map (λ part. part.now) parts.items ≡ spec.parts_of list.now) }
+{
+    list.split(',').collect(alloc)
+}
+
+// The connection that a word names.
+fn conn_of(alloc: Global, word: &str) -> Result<u16, WordsFault>
+    ensures ok { IfOk result (λ conn. number_below (2 ^ 16) word.now ≡ Some conn) }
+    ensures err { IfErr result (λ fault. (fault ≡ Memory) ⊎ (number_below (2 ^ 16) word.now ≡ None)) }
+{
+    match u16_of(word) {
+        Some(conn) => Ok(conn),
+        None => Err(wrong_words(alloc, "--only names connections by their places, as 0,2")?),
     }
 }
 
-fn number_of(alloc: Global, found: &ArgMatches<'_>, id: &str) -> Result<Option<u64>, WordsFault> {
+// The event that is named, counted from 1, if one is.
+fn event_of(alloc: Global, found: &ArgMatches<'_>, id: &str) -> Result<Option<u64>, WordsFault>
+    ensures ok { IfOk result (IsEventOf (spec.value_in found.now id.now)) }
+    ensures err { IfErr result (λ fault. (fault ≡ Memory) ⊎
+        ((number : Option ℕ) → IsEventOf (spec.value_in found.now id.now) number → ⊥)) }
+{
     let Some(word) = found.get_str(id) else {
         return Ok(None);
     };

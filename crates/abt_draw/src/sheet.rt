@@ -46,7 +46,9 @@ pub(crate) struct Sheet<'a> {
 }
 
 /// How far so many columns are apart.
-pub(crate) fn step_of(columns: usize) -> u32 {
+pub(crate) fn step_of(columns: usize) -> u32
+    ensures { 460 ≤ result }
+{
     if columns <= 6 {
         STEP_WIDE
     } else if columns <= 12 {

@@ -1,40 +1,42 @@
 //! The rows of the entries at which journals are stuck, below those of the events.
-use crate::mark::push_cross;
+ghost use Rattle.std.specs.Prelude.{◌<◌, OnOk, string_bytes};
+ghost use Rattle.abt_draw.specs.Stuck.{DrawsStuck, HasStuckRow, HasStuckRows};
+ghost use Rattle.abt_draw.specs.Within.{Grows};
+
+use crate::mark::{push_cross, x_beside};
 use crate::sheet::{Sheet, line_of};
 use crate::words::clipped;
-use crate::{
-    Actor, Point, Size, StuckMark, column_of, push_circle, push_group, push_label, push_rect,
-};
+use crate::{Actor, Point, Size, StuckMark, push_circle, push_group, push_label, push_rect};
 use std::alloc::AllocError;
 
 /// Adds a row for each entry at which a journal is stuck.
-pub(crate) fn push_stuck(sheet: &Sheet<'_>, out: &mut String) -> Result<(), AllocError> {
+pub(crate) fn push_stuck(sheet: &Sheet<'_>, out: &mut String) -> Result<(), AllocError>
+    ensures grows { OnOk result (Grows (string_bytes out.old) (string_bytes out.new)) }
+    ensures rows { OnOk result (HasStuckRows sheet.now (string_bytes out.new)) }
+{
     for (place, mark) in sheet.stuck.iter().enumerate() {
-        push_row(sheet, out, (place as u64).saturating_add(1), mark)?;
+        push_row(sheet, out, place, mark)?;
     }
     Ok(())
 }
 
-// The row of such an entry, with its mark on the lifeline of whose journal it is, or, if that isn't shown, beside the lifelines.
+// The row of such an entry, which is numbered from 1.
+#[tactic(auto, using(crate::proofs::Within::growing))]
 fn push_row(
     sheet: &Sheet<'_>,
     out: &mut String,
-    number: u64,
+    place: usize,
     mark: &StuckMark<'_>,
-) -> Result<(), AllocError> {
+) -> Result<(), AllocError>
+    requires { place < usize.MAX }
+    ensures grows { OnOk result (Grows (string_bytes out.old) (string_bytes out.new)) }
+    ensures row { OnOk result (HasStuckRow sheet.now place mark.now (string_bytes out.new)) }
+{
     let alloc = sheet.alloc;
+    let number = place as u64 + 1;
     let mut content = String::new(alloc);
     push_words(sheet, &mut content, number, mark)?;
-    let x = match column_of(sheet.columns, mark.actor) {
-        Some(column) => sheet.x(column),
-        None => sheet.beside(),
-    };
-    let at = Point {
-        x,
-        y: sheet.stuck_y(number),
-    };
-    push_circle(alloc, &mut content, "mark stuck", at, 70)?;
-    push_cross(sheet, &mut content, "stuck", at, 40)?;
+    push_shape(sheet, &mut content, number, mark)?;
     let name = format!(in alloc; "s{number}")?;
     push_group(
         alloc,
@@ -44,6 +46,23 @@ fn push_row(
         mark.text,
         content.as_str(),
     )
+}
+
+// The mark of such an entry on the lifeline of whose journal it is, or, if that isn't shown, beside the lifelines.
+fn push_shape(
+    sheet: &Sheet<'_>,
+    out: &mut String,
+    number: u64,
+    mark: &StuckMark<'_>,
+) -> Result<(), AllocError>
+    ensures { OnOk result (DrawsStuck sheet.now mark.now (string_bytes out.new)) }
+{
+    let at = Point {
+        x: x_beside(sheet, Some(mark.actor)),
+        y: sheet.stuck_y(number),
+    };
+    push_circle(sheet.alloc, out, "mark stuck", at, 70)?;
+    push_cross(sheet, out, "stuck", at, 40)
 }
 
 // Whose journal is stuck, and below that the entry, as far as there is room.

@@ -1,8 +1,8 @@
 //! How the things of a picture look, and what its page does by keys. Nothing is told by colour alone: kinds of arrows have dashes and
 //! words, connections have patterns.
 
-/// How the shapes of a picture look.
-pub(crate) const SHAPES: &str = "
+// How the shapes of a picture look.
+const SHAPES: &str = "
 svg { background: #fff }
 text { font: 8px sans-serif; fill: #111; paint-order: stroke; stroke: #fff; stroke-width: 2px; stroke-linejoin: round }
 text.name { font: bold 9px sans-serif; text-anchor: middle }
@@ -54,8 +54,8 @@ line.rate { stroke: #124a8c; stroke-width: 2px }
 line.cursor { stroke: #b70; stroke-width: 1.5px; visibility: hidden }
 ";
 
-/// The heads of arrows, and the patterns of what connections hold.
-pub(crate) const DEFINITIONS: &str = "<defs>
+// The heads of arrows, and the patterns of what connections hold.
+const DEFINITIONS: &str = "<defs>
 <marker id='head' viewBox='0 0 8 8' refX='8' refY='4' markerWidth='7' markerHeight='7' markerUnits='userSpaceOnUse' orient='auto'>
 <path d='M0 0.5 L8 4 L0 7.5 z' fill='context-stroke'/></marker>
 <pattern id='p0' width='4' height='4' patternUnits='userSpaceOnUse'><rect width='4' height='4' fill='#bcd4ee'/></pattern>
@@ -94,8 +94,8 @@ Below, over the events: what each connection holds at each port, under its capac
 that its path holds for it (dashes). Rates are cells per second; a + stands for a fraction.</p>
 ";
 
-/// What the page of a picture does by keys, by mouse and by its slider.
-pub(crate) const SCRIPT: &str = "
+// What the page of a picture does by keys, by mouse and by its slider.
+const SCRIPT: &str = "
 (function () {
   var events = Array.prototype.slice.call(document.querySelectorAll('g.event'));
   var stuck = Array.prototype.slice.call(document.querySelectorAll('g.stuck'));
@@ -142,3 +142,18 @@ pub(crate) const SCRIPT: &str = "
   });
 })();
 ";
+
+/// How the shapes of a picture look.
+pub(crate) fn shapes() -> &'static str {
+    SHAPES
+}
+
+/// The heads of arrows, and the patterns of what connections hold.
+pub(crate) fn definitions() -> &'static str {
+    DEFINITIONS
+}
+
+/// What the page of a picture does by keys, by mouse and by its slider.
+pub(crate) fn script() -> &'static str {
+    SCRIPT
+}

@@ -1,0 +1,87 @@
+-- Whole pictures, as SVG texts and as pages (docs/PICTURES.md, "Drawing").
+use Rattle.std.specs.Prelude.{◌≡◌, ◌≤◌, Bool, true, false, List, [], ◌∷◌, length, take, drop, codes}
+use Rattle.abt_text.specs.Text.{Text, ◌⋅◌, newline}
+use Rattle.abt_net.specs.Topology.{Topology}
+use Rattle.abt_chart.specs.Charts.{IsChart}
+use Rattle.abt_chart.specs.declared.chart.Chart.{Chart}
+use Rattle.abt_model.specs.declared.event.Event.{Event}
+use Rattle.abt_reason.specs.Explanation.{IsExplanation}
+use Rattle.abt_draw.specs.Columns.{columns_of}
+use Rattle.abt_draw.specs.Drawn.{AreRows, IsDrawn}
+use Rattle.abt_draw.specs.Elements.{document_text}
+use Rattle.abt_draw.specs.Escapes.{escaped}
+use Rattle.abt_draw.specs.Lifelines.{HasLifelines}
+use Rattle.abt_draw.specs.Rows.{HasRows}
+use Rattle.abt_draw.specs.Stuck.{HasStuckRows}
+use Rattle.abt_draw.specs.Within.{Holds}
+use Rattle.abt_draw.specs.declared.place.Rows.{Rows}
+use Rattle.abt_draw.specs.declared.plan.PicturePlan.{PicturePlan}
+use Rattle.abt_draw.specs.declared.point.Size.{Size}
+use Rattle.abt_draw.specs.declared.scene.Scene.{Scene}
+use Rattle.abt_draw.specs.declared.scene.StuckMark.{StuckMark}
+use Rattle.abt_draw.specs.declared.sheet.Sheet.{Sheet}
+
+-- what is told of the entries at which journals are stuck
+abbrev pub stuck_lines : List StuckMark → Text
+stuck_lines [] = []
+stuck_lines (mark ∷ marks) = codes "stuck: " ⋅ mark.text.now ⋅ newline ⋅ stuck_lines marks
+
+-- The same in words: the explanation of the run, and behind it what is told of these entries.
+pub record IsInWords (scene : Scene) (words : Text) : Type 0 where
+  pub explanation : Text
+  pub explained : IsExplanation scene.net.now scene.lines.now scene.events.now explanation
+  pub is : words ≡ explanation ⋅ stuck_lines scene.stuck.now
+
+-- The text is one SVG element, described by these words, with all lifelines and all rows in it, those of entries at which journals are stuck
+-- too.
+pub record IsSvg (sheet : Sheet) (words text : Text) : Type 0 where
+  pub size : Size
+  pub title : Text
+  pub style : Text
+  pub definitions : Text
+  pub content : Text
+  pub is : text ≡ document_text size title words style definitions content
+  pub lifelines : HasLifelines sheet content
+  pub rows : HasRows sheet words content
+  pub stuck : HasStuckRows sheet content
+
+-- The page has that SVG element, and the words below it.
+pub record IsPage (sheet : Sheet) (words text : Text) : Type 0 where
+  pub svg : Text
+  pub is_svg : IsSvg sheet words svg
+  pub picture : Holds text svg
+  pub below : Holds text (codes "<pre>" ⋅ escaped words ⋅ codes "</pre>")
+
+abbrev pub IsFile : (page : Bool) → Sheet → (words text : Text) → Type 0
+IsFile true sheet words text = IsPage sheet words text
+IsFile false sheet words text = IsSvg sheet words text
+
+-- The sheet is of this chart and these rows, and everybody along a path that is shown has a column; the columns stand apart.
+pub record IsSheet (plan : PicturePlan) (scene : Scene) (chart : Chart) (rows : Rows) (sheet : Sheet) : Type 0 where
+  pub of_net : sheet.net.now ≡ scene.net.now
+  pub of_chart : sheet.chart.now ≡ chart
+  pub columns : sheet.columns.now ≡ columns_of scene.net.now plan.only.items
+  pub of_rows : sheet.rows ≡ rows
+  pub of_stuck : sheet.stuck.now ≡ scene.stuck.now
+  pub apart : 460 ≤ sheet.step
+
+pub record IsSheetFile (plan : PicturePlan) (scene : Scene) (chart : Chart) (rows : Rows) (words text : Text) : Type 0 where
+  pub sheet : Sheet
+  pub is_sheet : IsSheet plan scene chart rows sheet
+  pub file : IsFile plan.page sheet words text
+
+-- The chart is that of the events that have rows, of a run with others before and behind them.
+abbrev pub IsChartOf : Topology → List Event → Rows → Chart → Type 0
+IsChartOf net events rows chart =
+    IsChart net (take rows.first events) (take rows.count (drop rows.first events)) (drop rows.count (drop rows.first events)) chart
+
+-- What a plan asks for is drawn, and the text is the picture of it.
+pub record IsPicture (plan : PicturePlan) (scene : Scene) (text : Text) : Type 0 where
+  pub drawn : IsDrawn plan scene.net.now scene.events.now
+  pub rows : Rows
+  pub are_rows : AreRows plan scene.net.now (length scene.events.now) rows
+  pub chart : Chart
+  pub is_chart : IsChartOf scene.net.now scene.events.now rows chart
+  pub words : Text
+  pub in_words : IsInWords scene words
+  pub file : IsSheetFile plan scene chart rows words text
