@@ -1,6 +1,7 @@
 pub mod Stacked
 pub mod Escaping
 pub mod Within
+pub mod Banded
 pub mod Shown
 pub mod Columned
 pub mod Faults

@@ -2,6 +2,7 @@
 use Rattle.std.proofs.Common.{◌≡◌, ◌≤◌, ◌∙◌, ap, sym, ◌++◌, [], append_assoc, codes}
 use Rattle.abt_text.specs.Text.{Text, ◌⋅◌}
 use Rattle.abt_chart.specs.declared.chart.Chart.{Chart}
+use Rattle.abt_draw.specs.Bands.{HasBands}
 use Rattle.abt_draw.specs.Columns.{columns_of}
 use Rattle.abt_draw.specs.Elements.{document_text}
 use Rattle.abt_draw.specs.Escapes.{escaped}
@@ -20,8 +21,8 @@ use Rattle.abt_draw.proofs.Within.{holds_still}
 -- a document is an SVG text if its content has everything
 pub svg_made : (sheet : Sheet) (words : Text) (size : Size) (title style definitions content held start text : Text) → start ≡ [] → content ≡ held
     → text ≡ start ++ document_text size title words style definitions content → HasLifelines sheet held → HasRows sheet words held
-    → HasStuckRows sheet held → IsSvg sheet words text
-svg_made sheet words size title style definitions content held start text start_is content_is is lifelines rows stuck = record {
+    → HasStuckRows sheet held → HasBands sheet held → IsSvg sheet words text
+svg_made sheet words size title style definitions content held start text start_is content_is is lifelines rows stuck bands = record {
   size = size;
   title = title;
   style = style;
@@ -31,6 +32,7 @@ svg_made sheet words size title style definitions content held start text start_
   lifelines = lifelines;
   rows = rows;
   stuck = stuck;
+  bands = bands;
 }
 
 -- what was added between two texts is held

@@ -8,6 +8,7 @@ pub mod Lines
 pub mod Marks
 pub mod Rows
 pub mod Lifelines
+pub mod Bands
 pub mod Stuck
 pub mod Columns
 pub mod Drawn

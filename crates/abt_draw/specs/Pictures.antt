@@ -6,6 +6,7 @@ use Rattle.abt_chart.specs.Charts.{IsChart}
 use Rattle.abt_chart.specs.declared.chart.Chart.{Chart}
 use Rattle.abt_model.specs.declared.event.Event.{Event}
 use Rattle.abt_reason.specs.Explanation.{IsExplanation}
+use Rattle.abt_draw.specs.Bands.{HasBands}
 use Rattle.abt_draw.specs.Columns.{columns_of}
 use Rattle.abt_draw.specs.Drawn.{AreRows, IsDrawn}
 use Rattle.abt_draw.specs.Elements.{document_text}
@@ -32,8 +33,8 @@ pub record IsInWords (scene : Scene) (words : Text) : Type 0 where
   pub explained : IsExplanation scene.net.now scene.lines.now scene.events.now explanation
   pub is : words ≡ explanation ⋅ stuck_lines scene.stuck.now
 
--- The text is one SVG element, described by these words, with all lifelines and all rows in it, those of entries at which journals are stuck
--- too.
+-- The text is one SVG element, described by these words, with all lifelines, all rows, those of entries at which journals are stuck too, and
+-- all bands in it.
 pub record IsSvg (sheet : Sheet) (words text : Text) : Type 0 where
   pub size : Size
   pub title : Text
@@ -44,6 +45,7 @@ pub record IsSvg (sheet : Sheet) (words text : Text) : Type 0 where
   pub lifelines : HasLifelines sheet content
   pub rows : HasRows sheet words content
   pub stuck : HasStuckRows sheet content
+  pub bands : HasBands sheet content
 
 -- The page has that SVG element, and the words below it.
 pub record IsPage (sheet : Sheet) (words text : Text) : Type 0 where

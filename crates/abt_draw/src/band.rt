@@ -1,8 +1,15 @@
 //! The bands below the chart of messages: over the axis of the events, what each port holds, and at which rate each source shapes.
+ghost use Rattle.std.specs.Prelude.{◌≡◌, ◌-◌, OnOk, codes, string_bytes};
+ghost use Rattle.abt_text.specs.Text.{◌⋅◌, decimal};
+ghost use Rattle.abt_draw.specs.Bands.{HasName};
+ghost use Rattle.abt_draw.specs.Lifelines.{kind_name, number_of};
+ghost use Rattle.abt_draw.specs.Within.{Grows};
+
+use crate::lifeline::name_of;
 use crate::sheet::Sheet;
 use crate::words::short_rate;
 use crate::{Actor, BAND_HEIGHT, Point, push_label, push_line};
-use std::alloc::AllocError;
+use std::alloc::{AllocError, Global};
 
 // Where the axis begins, and what is left free behind its end, in tenths of a unit.
 const AXIS_LEFT: u64 = 1000;
@@ -21,7 +28,9 @@ pub(crate) struct Band {
 
 impl Band {
     /// The height of a value above the line at which the band begins, as a place of the picture.
-    pub(crate) fn y(self, height: u64) -> u64 {
+    pub(crate) fn y(self, height: u64) -> u64
+        ensures { result ≡ self.base - height }
+    {
         self.base.saturating_sub(height)
     }
 }
@@ -37,21 +46,39 @@ pub(crate) fn edge_of(sheet: &Sheet<'_>, frame: usize) -> u64 {
 }
 
 /// Adds the name of a band, its base and what it has room for.
+#[tactic(auto, using(crate::proofs::Within::growing))]
 pub(crate) fn push_ground(
     sheet: &Sheet<'_>,
     out: &mut String,
     actor: Actor,
     band: Band,
-) -> Result<(), AllocError> {
-    let alloc = sheet.alloc;
-    let words = match actor {
-        Actor::Source(conn) => format!(in alloc; "source {conn}")?,
-        Actor::Port(port) => format!(in alloc; "port {port}")?,
-        Actor::End(conn) => format!(in alloc; "end {conn}")?,
-    };
+) -> Result<(), AllocError>
+    ensures grows { OnOk result (Grows (string_bytes out.old) (string_bytes out.new)) }
+    ensures name { OnOk result (HasName actor (string_bytes out.new)) }
+{
+    push_name(sheet.alloc, out, actor, band)?;
+    push_scale(sheet, out, band)
+}
+
+// Whose a band is, beside it.
+#[tactic(auto, using(crate::proofs::Within::growing))]
+fn push_name(alloc: Global, out: &mut String, actor: Actor, band: Band) -> Result<(), AllocError>
+    ensures grows { OnOk result (Grows (string_bytes out.old) (string_bytes out.new)) }
+    ensures name { OnOk result (HasName actor (string_bytes out.new)) }
+{
+    let (kind, number) = name_of(actor);
+    let words = format!(in alloc; "{kind} {number}")?;
     let x = 60;
     let y = band.y(BAND_HEIGHT / 2);
-    push_label(alloc, out, "band", Point { x, y }, words.as_str())?;
+    push_label(alloc, out, "band", Point { x, y }, words.as_str())
+}
+
+// The line at which a band begins, and what it has room for.
+#[tactic(auto, using(crate::proofs::Within::growing))]
+fn push_scale(sheet: &Sheet<'_>, out: &mut String, band: Band) -> Result<(), AllocError>
+    ensures { OnOk result (Grows (string_bytes out.old) (string_bytes out.new)) }
+{
+    let alloc = sheet.alloc;
     let most = short_rate(alloc, band.most)?;
     let x = AXIS_LEFT.saturating_sub(40);
     let y = band.y(BAND_HEIGHT).saturating_add(60);

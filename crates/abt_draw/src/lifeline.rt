@@ -56,8 +56,8 @@ fn push_work(sheet: &Sheet<'_>, out: &mut String, x: u64, actor: Actor) -> Resul
     }
 }
 
-// What an actor is, and its number.
-fn name_of(actor: Actor) -> (&'static str, u16)
+/// What an actor is, and its number.
+pub(crate) fn name_of(actor: Actor) -> (&'static str, u16)
     ensures kind { result.0.now ≡ spec.kind_name actor }
     ensures number { result.1 ≡ spec.number_of actor }
 {

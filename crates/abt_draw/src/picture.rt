@@ -1,10 +1,12 @@
 //! Whole pictures.
 ghost use Rattle.std.specs.Prelude.{◌≡◌, ◌+◌, ◌<◌, ℕ, Some, OnOk, slice_get, string_bytes};
 ghost use Rattle.abt_chart.specs.declared.crossings.Crossing.{Crossing};
+ghost use Rattle.abt_draw.specs.Bands.{HasBands, HasPortBand, HasPortBands, HasSourceBand, HasSourceBands};
 ghost use Rattle.abt_draw.specs.Lifelines.{HasLifelines};
 ghost use Rattle.abt_draw.specs.Rows.{HasRow, HasRows};
 ghost use Rattle.abt_draw.specs.Stuck.{HasStuckRows};
 ghost use Rattle.abt_draw.specs.Within.{Grows};
+ghost use Rattle.abt_draw.specs.declared.actor.Actor.TheVariants.{Port, Source};
 
 use crate::band::{BAND_STEP, Band, edge_of, push_ground};
 use crate::lifeline::push_lifelines;
@@ -26,14 +28,12 @@ pub(crate) fn push_picture(
     ensures lifelines { OnOk result (HasLifelines sheet.now (string_bytes out.new)) }
     ensures rows { OnOk result (HasRows sheet.now explanation.now (string_bytes out.new)) }
     ensures stuck { OnOk result (HasStuckRows sheet.now (string_bytes out.new)) }
+    ensures bands { OnOk result (HasBands sheet.now (string_bytes out.new)) }
 {
     push_lifelines(sheet, out)?;
     push_rows(sheet, out, explanation)?;
     push_stuck(sheet, out)?;
-    let mut below = String::new(sheet.alloc);
-    let lower = push_bands(sheet, &mut below)?;
-    out.push_str(below.as_str())?;
-    Ok(lower)
+    push_bands(sheet, out)
 }
 
 // The rows of the events that are shown.
@@ -76,35 +76,94 @@ fn push_shown(
     }
 }
 
-// The bands of the ports, then those of the sources, and the axis below them.
-fn push_bands(sheet: &Sheet<'_>, out: &mut String) -> Result<u64, AllocError> {
-    let mut base = sheet.bottom().saturating_add(BAND_STEP);
-    let frames = sheet.chart.frames.as_slice();
-    for actor in sheet.columns {
-        if let Actor::Port(port) = *actor {
-            let most = most_at(frames, port);
-            let band = Band { most, base };
-            push_ground(sheet, out, *actor, band)?;
-            push_stacks(sheet, out, port, band)?;
-            base = base.saturating_add(BAND_STEP);
-        }
-    }
-    for actor in sheet.columns {
-        if let Actor::Source(conn) = *actor {
-            let most = most_of(frames, conn);
-            let band = Band { most, base };
-            push_ground(sheet, out, *actor, band)?;
-            push_rates(sheet, out, conn, band)?;
-            base = base.saturating_add(BAND_STEP);
-        }
-    }
+// The bands of the ports, then those of the sources, and the axis below them; the lower edge of all.
+fn push_bands(sheet: &Sheet<'_>, out: &mut String) -> Result<u64, AllocError>
+    ensures grows { OnOk result (Grows (string_bytes out.old) (string_bytes out.new)) }
+    ensures bands { OnOk result (HasBands sheet.now (string_bytes out.new)) }
+{
+    let base = sheet.bottom().saturating_add(BAND_STEP);
+    let base = push_ports(sheet, out, base)?;
+    let base = push_sources(sheet, out, base)?;
     let lower = base.saturating_sub(BAND_STEP);
     push_axis(sheet, out, lower)?;
     Ok(lower.saturating_add(400))
 }
 
+// The bands of the ports, from this base on; the base behind them.
+fn push_ports(sheet: &Sheet<'_>, out: &mut String, base: u64) -> Result<u64, AllocError>
+    ensures grows { OnOk result (Grows (string_bytes out.old) (string_bytes out.new)) }
+    ensures bands { OnOk result (HasPortBands sheet.now (string_bytes out.new)) }
+{
+    let columns = sheet.columns;
+    let mut base = base;
+    for (column, actor) in columns.iter().enumerate() {
+        base = push_port(sheet, out, *actor, base)?;
+    }
+    Ok(base)
+}
+
+// The bands of the sources, from this base on; the base behind them.
+fn push_sources(sheet: &Sheet<'_>, out: &mut String, base: u64) -> Result<u64, AllocError>
+    ensures grows { OnOk result (Grows (string_bytes out.old) (string_bytes out.new)) }
+    ensures bands { OnOk result (HasSourceBands sheet.now (string_bytes out.new)) }
+{
+    let columns = sheet.columns;
+    let mut base = base;
+    for (column, actor) in columns.iter().enumerate() {
+        base = push_source(sheet, out, *actor, base)?;
+    }
+    Ok(base)
+}
+
+// The band of an actor, if it is a port; the base behind it.
+#[tactic(auto, using(crate::proofs::Within::growing))]
+fn push_port(
+    sheet: &Sheet<'_>,
+    out: &mut String,
+    actor: Actor,
+    base: u64,
+) -> Result<u64, AllocError>
+    ensures grows { OnOk result (Grows (string_bytes out.old) (string_bytes out.new)) }
+    ensures band { (port : ℕ) → actor ≡ Port port →
+        OnOk result (HasPortBand sheet.now port (string_bytes out.new)) }
+{
+    let Actor::Port(port) = actor else {
+        return Ok(base);
+    };
+    let most = most_at(sheet.chart.frames.as_slice(), port);
+    let band = Band { most, base };
+    push_ground(sheet, out, actor, band)?;
+    push_stacks(sheet, out, port, band)?;
+    Ok(base.saturating_add(BAND_STEP))
+}
+
+// The same, if it is a source.
+#[tactic(auto, using(crate::proofs::Within::growing))]
+fn push_source(
+    sheet: &Sheet<'_>,
+    out: &mut String,
+    actor: Actor,
+    base: u64,
+) -> Result<u64, AllocError>
+    ensures grows { OnOk result (Grows (string_bytes out.old) (string_bytes out.new)) }
+    ensures band { (conn : ℕ) → actor ≡ Source conn →
+        OnOk result (HasSourceBand sheet.now conn (string_bytes out.new)) }
+{
+    let Actor::Source(conn) = actor else {
+        return Ok(base);
+    };
+    let most = most_of(sheet.chart.frames.as_slice(), conn);
+    let band = Band { most, base };
+    push_ground(sheet, out, actor, band)?;
+    push_rates(sheet, out, conn, band)?;
+    Ok(base.saturating_add(BAND_STEP))
+}
+
 // The numbers of the events along the axis, as many as have room.
-fn push_axis(sheet: &Sheet<'_>, out: &mut String, lower: u64) -> Result<(), AllocError> {
+#[tactic(auto, using(crate::proofs::Within::growing))]
+fn push_axis(sheet: &Sheet<'_>, out: &mut String, lower: u64) -> Result<(), AllocError>
+    ensures { OnOk result (Grows (string_bytes out.old) (string_bytes out.new)) }
+{
     let alloc = sheet.alloc;
     let upper = sheet.bottom().saturating_add(BAND_STEP - BAND_HEIGHT);
     let mut free = 0;

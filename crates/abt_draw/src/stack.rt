@@ -1,4 +1,11 @@
 //! The bands of ports: stacks of what connections hold, under the capacity.
+ghost use Rattle.std.specs.Prelude.{◌≡◌, ◌≢◌, ◌≤◌, ◌↔◌, ℕ, IfOk, IsTrue, OnOk, Some, codes, slice_get, string_bytes, sum, unwrap_or};
+ghost use Rattle.abt_chart.specs.declared.frame.Frame.{Frame as FrameSpec};
+ghost use Rattle.abt_draw.specs.Bands as spec;
+ghost use Rattle.abt_draw.specs.Bands.{DrawsPort, HasBlock, HasLevel, HasStack};
+ghost use Rattle.abt_draw.specs.Blocks as blocks;
+ghost use Rattle.abt_draw.specs.Within.{Grows};
+
 use crate::band::{Band, edge_of};
 use crate::sheet::Sheet;
 use crate::words::short_rate;
@@ -7,14 +14,18 @@ use abt_chart::Frame;
 use std::alloc::AllocError;
 
 // What is held on a port, and its capacity.
-fn stack_in(frame: &Frame, port: u16) -> &[u64] {
+fn stack_in(frame: &Frame, port: u16) -> &[u64]
+    ensures { result.now ≡ spec.stack_in frame.now port }
+{
     match frame.stacks.as_slice().get(usize::from(port)) {
         Some(stack) => stack.as_slice(),
         None => &[],
     }
 }
 
-fn capacity_in(frame: &Frame, port: u16) -> u64 {
+fn capacity_in(frame: &Frame, port: u16) -> u64
+    ensures { result ≡ spec.capacity_in frame.now port }
+{
     match frame.capacities.as_slice().get(usize::from(port)) {
         Some(capacity) => *capacity,
         None => 0,
@@ -22,15 +33,19 @@ fn capacity_in(frame: &Frame, port: u16) -> u64 {
 }
 
 /// The greatest capacity that a port has in a picture.
-pub(crate) fn most_at(frames: &[Frame], port: u16) -> u64 {
-    let mut most = 0;
-    for frame in frames {
-        most = capacity_in(frame, port).max(most);
+pub(crate) fn most_at(frames: &[Frame], port: u16) -> u64
+    ensures { result ≡ spec.most_at frames.now port }
+{
+    match frames.split_first() {
+        Some((frame, rest)) => capacity_in(frame, port).max(most_at(rest, port)),
+        None => 0,
     }
-    most
 }
 
-fn is_same(one: &Frame, other: &Frame, port: u16) -> bool {
+fn is_same(one: &Frame, other: &Frame, port: u16) -> bool
+    ensures { IsTrue result → (spec.stack_in one.now port ≡ spec.stack_in other.now port) ×
+        (spec.capacity_in one.now port ≡ spec.capacity_in other.now port) }
+{
     stack_in(one, port) == stack_in(other, port)
         && capacity_in(one, port) == capacity_in(other, port)
 }
@@ -41,7 +56,13 @@ pub(crate) fn push_stacks(
     out: &mut String,
     port: u16,
     band: Band,
-) -> Result<(), AllocError> {
+) -> Result<(), AllocError>
+    requires { band.most ≡ spec.most_at sheet.now.chart.now.frames port }
+    ensures grows { OnOk result (Grows (string_bytes out.old) (string_bytes out.new)) }
+    ensures drawn { OnOk result ((k : ℕ) (frame : FrameSpec) →
+        slice_get sheet.now.chart.now.frames k ≡ Some frame →
+        DrawsPort band.base band.most (spec.stack_in frame port) (spec.capacity_in frame port) (string_bytes out.new)) }
+{
     let frames = sheet.chart.frames.as_slice();
     let mut first = 0;
     let mut line = None;
@@ -54,8 +75,7 @@ pub(crate) fn push_stacks(
             from: edge_of(sheet, first),
             to: edge_of(sheet, next),
         };
-        push_stack(sheet, out, &frames[place], port, band, part)?;
-        line = Some(push_capacity(sheet, out, &frames[place], port, band, part, line)?);
+        line = Some(push_part(sheet, out, &frames[place], port, band, part, line)?);
         first = next;
     }
     Ok(())
@@ -68,25 +88,59 @@ struct Part {
     to: u64,
 }
 
-fn push_stack(
+// A stack and the line of the capacity, and how that comes from where it was; its height.
+#[tactic(auto, using(crate::proofs::Within::growing))]
+fn push_part(
     sheet: &Sheet<'_>,
     out: &mut String,
     frame: &Frame,
     port: u16,
     band: Band,
     part: Part,
-) -> Result<(), AllocError> {
+    before: Option<u64>,
+) -> Result<u64, AllocError>
+    requires { spec.capacity_in frame.now port ≤ band.most }
+    ensures grows { OnOk result (Grows (string_bytes out.old) (string_bytes out.new)) }
+    ensures drawn { OnOk result (DrawsPort band.base band.most (spec.stack_in frame.now port)
+        (spec.capacity_in frame.now port) (string_bytes out.new)) }
+{
     let stack = stack_in(frame, port);
+    push_stack(sheet, out, stack, band, part)?;
+    let height = height_of(capacity_in(frame, port), band.most);
+    push_step(
+        sheet, out, "capacity", band, part.from, part.to, height, before,
+    )?;
+    Ok(height)
+}
+
+// The blocks of a stack.
+fn push_stack(
+    sheet: &Sheet<'_>,
+    out: &mut String,
+    stack: &[u64],
+    band: Band,
+    part: Part,
+) -> Result<(), AllocError>
+    ensures grows { OnOk result (Grows (string_bytes out.old) (string_bytes out.new)) }
+    ensures drawn { OnOk result (sum stack.now ≤ band.most →
+        HasStack band.base band.most stack.now (string_bytes out.new)) }
+{
     let blocks = blocks_of(sheet.alloc, stack, band.most)?;
     for (conn, block) in blocks.as_slice().iter().enumerate() {
-        if let Some(held) = stack.get(conn) {
-            push_block(sheet, out, conn, *held, *block, band, part)?;
-        }
+        push_block(sheet, out, conn, held_at(stack, conn), *block, band, part)?;
     }
     Ok(())
 }
 
+// What a connection holds in a stack.
+fn held_at(stack: &[u64], conn: usize) -> u64
+    ensures { result ≡ unwrap_or (slice_get stack.now conn) 0 }
+{
+    stack.get(conn).copied().unwrap_or(0)
+}
+
 // The block of a connection, with what it holds, if there is room for that.
+#[tactic(auto, using(crate::proofs::Within::growing))]
 fn push_block(
     sheet: &Sheet<'_>,
     out: &mut String,
@@ -95,8 +149,10 @@ fn push_block(
     block: Block,
     band: Band,
     part: Part,
-) -> Result<(), AllocError> {
-    let alloc = sheet.alloc;
+) -> Result<(), AllocError>
+    ensures grows { OnOk result (Grows (string_bytes out.old) (string_bytes out.new)) }
+    ensures drawn { OnOk result (held ≢ 0 → HasBlock band.base conn block (string_bytes out.new)) }
+{
     if held == 0 {
         return Ok(());
     }
@@ -108,7 +164,26 @@ fn push_block(
         width: part.to.saturating_sub(part.from),
         height: block.top.saturating_sub(block.bottom),
     };
-    push_rect(alloc, out, class_of(conn), at, size)?;
+    let alloc = sheet.alloc;
+    let colour = conn % 6;
+    let class = format!(in alloc; "hold h{colour}")?;
+    push_rect(alloc, out, class.as_str(), at, size)?;
+    push_held(sheet, out, conn, held, at, size)
+}
+
+// What a connection holds, in its block, if there is room for that.
+#[tactic(auto, using(crate::proofs::Within::growing))]
+fn push_held(
+    sheet: &Sheet<'_>,
+    out: &mut String,
+    conn: usize,
+    held: u64,
+    at: Point,
+    size: Size,
+) -> Result<(), AllocError>
+    ensures { OnOk result (Grows (string_bytes out.old) (string_bytes out.new)) }
+{
+    let alloc = sheet.alloc;
     let rate = short_rate(alloc, held)?;
     let words = format!(in alloc; "{conn}: {rate}")?;
     let room = (words.len() as u64).saturating_mul(46).saturating_add(40);
@@ -122,35 +197,8 @@ fn push_block(
     push_label(alloc, out, "note", at, words.as_str())
 }
 
-fn class_of(conn: usize) -> &'static str {
-    match conn % 6 {
-        0 => "hold h0",
-        1 => "hold h1",
-        2 => "hold h2",
-        3 => "hold h3",
-        4 => "hold h4",
-        _ => "hold h5",
-    }
-}
-
-// The line of the capacity, and how it comes from where it was; its height.
-fn push_capacity(
-    sheet: &Sheet<'_>,
-    out: &mut String,
-    frame: &Frame,
-    port: u16,
-    band: Band,
-    part: Part,
-    before: Option<u64>,
-) -> Result<u64, AllocError> {
-    let height = height_of(capacity_in(frame, port), band.most);
-    push_step(
-        sheet, out, "capacity", band, part.from, part.to, height, before,
-    )?;
-    Ok(height)
-}
-
 /// Adds a part of a line that goes in steps.
+#[tactic(auto, using(crate::proofs::Within::growing))]
 pub(crate) fn push_step(
     sheet: &Sheet<'_>,
     out: &mut String,
@@ -160,17 +208,41 @@ pub(crate) fn push_step(
     to: u64,
     height: u64,
     before: Option<u64>,
-) -> Result<(), AllocError> {
+) -> Result<(), AllocError>
+    ensures grows { OnOk result (Grows (string_bytes out.old) (string_bytes out.new)) }
+    ensures drawn { OnOk result (HasLevel class.now band.base height (string_bytes out.new)) }
+{
     let alloc = sheet.alloc;
     let y = band.y(height);
-    if let Some(before) = before {
-        if before != height {
+    push_rise(sheet, out, class, band, from, height, before)?;
+    push_line(alloc, out, class, Point { x: from, y }, Point { x: to, y })
+}
+
+// How a line comes to a height from where it was before, if that is elsewhere.
+#[tactic(auto, using(crate::proofs::Within::growing))]
+fn push_rise(
+    sheet: &Sheet<'_>,
+    out: &mut String,
+    class: &str,
+    band: Band,
+    x: u64,
+    height: u64,
+    before: Option<u64>,
+) -> Result<(), AllocError>
+    ensures { OnOk result (Grows (string_bytes out.old) (string_bytes out.new)) }
+{
+    match before {
+        Some(before) if before != height => {
             let old = Point {
-                x: from,
+                x,
                 y: band.y(before),
             };
-            push_line(alloc, out, class, old, Point { x: from, y })?;
+            let new = Point {
+                x,
+                y: band.y(height),
+            };
+            push_line(sheet.alloc, out, class, old, new)
         }
+        _ => Ok(()),
     }
-    push_line(alloc, out, class, Point { x: from, y }, Point { x: to, y })
 }

@@ -1,5 +1,6 @@
 -- What the picture holds its text holds, with the cursor behind it.
 use Rattle.std.proofs.Common.{string_bytes}
+use Rattle.abt_draw.proofs.Banded.{bands_still}
 use Rattle.abt_draw.proofs.Paged.{svg_made}
 use Rattle.abt_draw.proofs.Shown.{lifelines_still, rows_still, stuck_rows_still}
 use Rattle.abt_draw.proofs.page.svg_of.Goals as goal
@@ -13,3 +14,4 @@ returns c =
     (lifelines_still c.args.sheet.now _ _ grows c.in_ok-lower.ensures.lifelines)
     (rows_still c.args.sheet.now c.args.explanation.now _ _ grows c.in_ok-lower.ensures.rows)
     (stuck_rows_still c.args.sheet.now _ _ grows c.in_ok-lower.ensures.stuck)
+    (bands_still c.args.sheet.now _ _ grows c.in_ok-lower.ensures.bands)

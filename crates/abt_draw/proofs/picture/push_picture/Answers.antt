@@ -1,16 +1,19 @@
 -- The lifelines and the rows are held when what stands below them was added.
+use Rattle.std.proofs.lemmas.Result.{on_ok_weaker}
 use Rattle.abt_draw.proofs.Shown.{lifelines_still, rows_still, stuck_rows_still}
-use Rattle.abt_draw.proofs.Within.{grows_by, grows_on}
+use Rattle.abt_draw.proofs.Within.{grows_on}
 use Rattle.abt_draw.proofs.picture.push_picture.Goals as goal
 
 pub returns-clause-lifelines : goal.returns-clause-lifelines
-returns-clause-lifelines c =
-    let below = grows_on _ _ _ c.in_ok-push_stuck.ensures.grows (grows_by _ _ _ c.in_ok-push_str.ensures.bytes) in
-    lifelines_still _ _ _ (grows_on _ _ _ c.in_ok-push_rows.ensures.grows below) c.in_ok-push_lifelines.ensures
+returns-clause-lifelines c = on_ok_weaker c.push_bands.result
+    (λ more. lifelines_still _ _ _ (grows_on _ _ _ c.in_ok-push_rows.ensures.grows (grows_on _ _ _ c.in_ok-push_stuck.ensures.grows more))
+    c.in_ok-push_lifelines.ensures)
+    c.push_bands.ensures.grows
 
 pub returns-clause-rows : goal.returns-clause-rows
-returns-clause-rows c =
-    rows_still _ _ _ _ (grows_on _ _ _ c.in_ok-push_stuck.ensures.grows (grows_by _ _ _ c.in_ok-push_str.ensures.bytes)) c.in_ok-push_rows.ensures.rows
+returns-clause-rows c = on_ok_weaker c.push_bands.result
+    (λ more. rows_still _ _ _ _ (grows_on _ _ _ c.in_ok-push_stuck.ensures.grows more) c.in_ok-push_rows.ensures.rows)
+    c.push_bands.ensures.grows
 
 pub returns-clause-stuck : goal.returns-clause-stuck
-returns-clause-stuck c = stuck_rows_still _ _ _ (grows_by _ _ _ c.in_ok-push_str.ensures.bytes) c.in_ok-push_stuck.ensures.rows
+returns-clause-stuck c = on_ok_weaker c.push_bands.result (λ more. stuck_rows_still _ _ _ more c.in_ok-push_stuck.ensures.rows) c.push_bands.ensures.grows

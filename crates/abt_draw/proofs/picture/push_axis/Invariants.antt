@@ -1,0 +1,7 @@
+-- The text has only grown.
+use Rattle.std.proofs.Common.{string_bytes}
+use Rattle.abt_draw.specs.Within.{Grows}
+use Rattle.abt_draw.proofs.picture.push_axis.Given as goal
+
+abbrev pub invariant-loop-row : goal.invariant-loop-row
+invariant-loop-row l = Grows (string_bytes l.initial.out) (string_bytes l.out)
