@@ -17,9 +17,10 @@ whose functions it calls. Each crate's checks hand on what they proved as a copy
 What was refused is kept below the user's cache folder, by a checksum of all that the try rests on: the kit, the crate with the crates below
 it, the edit, this script, and whether it was tried alone. With `--changed` only those are tried that have no such record.
 
-With `--every N` only each N-th edit of a crate is tried: with `--alone`, a sample to compare with what the batches said.
+With `--alone` each edit has a check of its own, over what a check of its crate proved; with `--share K/N` only each N-th edit of a crate is
+tried, from the K-th on, so that N runs try all.
 
-usage: edits.py [--root ROOT] [--jobs N] [--alone] [--every N] [--changed] [--json FILE] [NAME..]     (NAME: a crate, or crate/edit)
+usage: edits.py [--root ROOT] [--jobs N] [--alone] [--share K/N] [--changed] [--json FILE] [NAME..]     (NAME: a crate, or crate/edit)
 """
 import argparse
 import difflib
@@ -480,7 +481,8 @@ def try_crate(crate, words):
     began, shared, names, is_all_alone = time.time(), 0, set(words.names), words.alone
     good, bad = rt.edits_of(crate)
     wanted = lambda path: not names or crate.name in names or f"{crate.name}/{Path(path).stem}" in names
-    edits = [read(crate, path) for path in [path for path in good if wanted(path)][:: words.every]]
+    first, every = words.share
+    edits = [read(crate, path) for path in [path for path in good if wanted(path)][first - 1 :: every]]
     edits += [Edit(crate, Path(path), fault="its name isn't one of an edit") for path in bad if wanted(path)]
     records = Records(crate, is_all_alone)
     for edit in edits:
@@ -527,6 +529,14 @@ def try_edits(crate, edits, is_all_alone):
         return shared, sum(try_left(edit, kept, room) for edit in left)
 
 
+def share(word):
+    """The numbers of a share, K/N with K from 1 to N."""
+    at = re.fullmatch(r"([1-9]\d*)/([1-9]\d*)", word)
+    if not at or int(at[1]) > int(at[2]):
+        raise argparse.ArgumentTypeError(f"{word} is no share K/N, with K from 1 to N")
+    return int(at[1]), int(at[2])
+
+
 def tell(edit):
     why = "NOT REFUSED but by the kit's rule" if edit.by_kit else "NOT REFUSED"
     return f"must-fail {edit.name}: " + (f"refused by {edit.verdict}" if edit.is_refused else f"{why}: {edit.verdict}")
@@ -537,7 +547,7 @@ def main():
     reader.add_argument("--root", default=str(Path(__file__).resolve().parent.parent))
     reader.add_argument("--jobs", type=int, default=rt.processors())
     reader.add_argument("--alone", action="store_true", help="each edit in a check of its own")
-    reader.add_argument("--every", type=int, default=1, metavar="N", help="each N-th edit of a crate alone")
+    reader.add_argument("--share", type=share, default=(1, 1), metavar="K/N", help="each N-th edit of a crate, from the K-th on")
     reader.add_argument("--changed", action="store_true", help="only those that no earlier run refused with nothing changed since")
     reader.add_argument("--json", help="writes what became of each edit to this file")
     reader.add_argument("names", nargs="*")
