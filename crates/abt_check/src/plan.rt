@@ -1,6 +1,7 @@
 //! The words of `abt check`.
-ghost use Rattle.std.specs.Prelude.{◌≡◌, ◌↔◌, IfOk, IfSome, IsSome, codes};
-ghost use Rattle.abt_check.specs.Plans.{IsPlanOf};
+ghost use Rattle.std.specs.Prelude.{◌≡◌, ◌↔◌, IfErr, IfOk, IfSome, IsErr, IsSome, codes};
+ghost use Rattle.abt_perform.specs.declared.plan.WordsFault.TheVariants.{Memory};
+ghost use Rattle.abt_check.specs.Plans.{IsPlanOf, file_in};
 
 use abt_perform::WordsFault;
 use clap::{Arg, ArgAction, ArgMatches, Command};
@@ -44,6 +45,8 @@ pub fn plan_of(
 ) -> Result<Option<CheckPlan>, WordsFault>
     ensures plan { IfOk result (λ asked. IfSome asked (IsPlanOf found.now)) }
     ensures name { IfOk result (λ asked. IsSome asked ↔ name.now ≡ codes "check") }
+    ensures memory { IfErr result (λ fault. fault ≡ Memory) }
+    ensures err { IsErr result → (name.now ≡ codes "check") × IsSome (file_in found.now) }
 {
     if name != "check" {
         return Ok(None);

@@ -1,8 +1,10 @@
 -- What the words of `abt code` and `abt write` ask for.
-use Rattle.std.specs.Prelude.{◌≡◌, codes, string_bytes, [], Option, unwrap_or}
+use Rattle.std.specs.Prelude.{◌≡◌, ◌≢◌, ◌⊎◌, codes, string_bytes, [], unwrap_or}
 use Rattle.clap.specs.declared.parser.matches.ArgMatches.{ArgMatches}
 use Rattle.clap.specs.Words.{found_of, first_value}
 use Rattle.abt_text.specs.Text.{Text}
+use Rattle.abt_perform.specs.declared.plan.WordsFault.{WordsFault}
+use Rattle.abt_perform.specs.declared.plan.WordsFault.TheVariants.{Memory}
 use Rattle.abt_codes.specs.declared.message.Kind.{Kind}
 use Rattle.abt_codes.specs.declared.message.Kind.TheVariants.{Request, Yes, No}
 use Rattle.abt_codes.specs.declared.message.MessageWords.{MessageWords}
@@ -32,3 +34,13 @@ pub record IsMessageOf (found : ArgMatches) (words : MessageWords) : Type 0 wher
 abbrev pub IsPlanOf : (name : Text) → ArgMatches → CodesPlan → Type 0
 IsPlanOf name found (Code rate) = (name ≡ codes "code") × (string_bytes rate ≡ word_in found (codes "RATE"))
 IsPlanOf name found (Write words) = (name ≡ codes "write") × IsMessageOf found words
+
+-- The word names no message.
+pub record IsNoKind (word : Text) : Type 0 where
+  pub none : (kind : Kind) → kind_word kind ≢ word
+
+-- Words of these commands are refused for want of memory, or as they name no message that could be written.
+abbrev pub IsNoPlan : (name : Text) → ArgMatches → WordsFault → Type 0
+IsNoPlan name found fault =
+    ((fault ≡ Memory) × ((name ≡ codes "code") ⊎ (name ≡ codes "write"))) ⊎
+    ((name ≡ codes "write") × IsNoKind (word_in found (codes "MESSAGE")))

@@ -1,6 +1,7 @@
 //! The words of `abt code` and `abt write`.
-ghost use Rattle.std.specs.Prelude.{◌≡◌, ◌⊎◌, IfOk, IfSome, IsSome, codes, string_bytes};
-ghost use Rattle.abt_codes.specs.Plans.{IsMessageOf, IsPlanOf, word_in};
+ghost use Rattle.std.specs.Prelude.{◌≡◌, ◌⊎◌, IfErr, IfOk, IfSome, IsSome, codes, string_bytes};
+ghost use Rattle.abt_perform.specs.declared.plan.WordsFault.TheVariants.{Memory};
+ghost use Rattle.abt_codes.specs.Plans.{IsMessageOf, IsNoKind, IsNoPlan, IsPlanOf, word_in};
 
 use crate::message::{Kind, MessageWords};
 use crate::plan::CodesPlan;
@@ -81,6 +82,7 @@ pub fn plan_of(
 ) -> Result<Option<CodesPlan>, WordsFault>
     ensures plan { IfOk result (λ asked. IfSome asked (IsPlanOf name.now found.now)) }
     ensures some { ((name.now ≡ codes "code") ⊎ (name.now ≡ codes "write")) → IfOk result IsSome }
+    ensures err { IfErr result (IsNoPlan name.now found.now) }
 {
     match name {
         "code" => {
@@ -94,7 +96,9 @@ pub fn plan_of(
 
 // The words of a message.
 fn words_in(alloc: Global, found: &ArgMatches<'_>) -> Result<MessageWords, WordsFault>
-    ensures { IfOk result (IsMessageOf found.now) }
+    ensures ok { IfOk result (IsMessageOf found.now) }
+    ensures err { IfErr result
+        (λ fault. (fault ≡ Memory) ⊎ IsNoKind (word_in found.now (codes "MESSAGE"))) }
 {
     let kind = match found.get_str(MESSAGE) {
         Some("request") => Kind::Request,

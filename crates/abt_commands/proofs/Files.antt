@@ -1,11 +1,11 @@
 -- Plans that name a file.
-use Rattle.std.proofs.Common.{◌≡◌, ℕ, ◌⊎◌, inl, inr, List, Option, Some, sym, subst}
+use Rattle.std.proofs.Common.{◌≡◌, ℕ, ◌⊎◌, inl, inr, List, Option, Some, subst}
 use Rattle.std.specs.Io.KnownBytes.{Keeps}
 use Rattle.abt_perform.specs.Names.{fault_line}
 use Rattle.abt_perform.specs.Plans.{Tells}
 use Rattle.abt_perform.specs.declared.plan.Plan.{Plan}
 use Rattle.abt_perform.specs.declared.fault.Fault.TheVariants.{Memory}
-use Rattle.abt_commands.specs.Carried.{IsDone, IsRefused, IsDoneHere, IsRefusedHere, IsUnopened, file_of, open_line}
+use Rattle.abt_commands.specs.Carried.{IsDone, IsRefused, IsDoneHere, IsRefusedHere, file_of, open_line}
 
 pub done_here : (plan : Plan) (name : List ℕ) (input left old new : Option (List ℕ)) → file_of plan ≡ Some name
     → IsDone plan left old new → IsDoneHere plan input old new

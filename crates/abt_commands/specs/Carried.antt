@@ -8,7 +8,7 @@ use Rattle.abt_perform.specs.Names.{fault_line}
 use Rattle.abt_perform.specs.Plans as plain
 use Rattle.abt_perform.specs.Plans.{Prints, ReadsFor, Tells}
 use Rattle.abt_perform.specs.declared.plan.Plan.{Plan}
-use Rattle.abt_perform.specs.declared.plan.Plan.TheVariants.{Rate, Cell, Port, Run, Threads}
+use Rattle.abt_perform.specs.declared.plan.Plan.TheVariants.{Run, Threads}
 use Rattle.abt_perform.specs.declared.fault.Fault.TheVariants.{Memory}
 use Rattle.abt_perform_threads.specs.Performing as threads
 

@@ -1,14 +1,16 @@
 //! The words of a command line, and the plans that they ask for.
-ghost use Rattle.std.specs.Prelude.{◌≡◌, ◌≤◌, IfOk, IfSome, codes, map, option_map, string_bytes};
+ghost use Rattle.std.specs.Prelude.{◌≡◌, ◌≤◌, ◌⊎◌, ◌↔◌, ℕ, None, Ok, true, IfErr, IfOk, IfSome, IsSome, codes, map, option_map, string_bytes};
 ghost use Rattle.abt_rate.specs.Limits.{capacity_max, AreWorkers};
 ghost use Rattle.abt_perform.specs.Plans.{IsWithinLimits};
-ghost use Rattle.abt_commands.specs.Words.{IsPlanOf, text_in, word_in, words_in};
+ghost use Rattle.abt_perform.specs.declared.plan.WordsFault.TheVariants.{Memory};
+ghost use Rattle.abt_commands.specs.Words.{IsCapacity, IsCommand, IsCount, IsElsewhere, IsNoPlan, IsPlain, IsPlanOf, WritesFile, text_in, word_in, words_in};
 
 use crate::command::{
     CAPACITY, CODE, EVENTS, FILE, HEX, JOURNALS, JSON, STDIN, WORKERS, add_commands, program,
 };
 use abt_perform::{Plan, WordsFault};
 use abt_rate::{CAPACITY_MAX, WORKERS_MAX};
+use abt_text::u64_of;
 use clap::ArgMatches;
 use clap::error::ErrorKind;
 use std::alloc::{AllocError, Global};
@@ -24,7 +26,7 @@ const WORKERS_RULE: &str = "there are 1 to 64 link workers, a decimal number, di
 
 /// The plan that the words behind the program's name ask for, where they name one of the commands of this crate.
 ///
-/// `clap` decides which words are refused, and writes what is told then, and the help; a number is digits alone.
+/// `clap` decides which words are refused, and writes what is told then, and the help; a number is 1 to 19 digits, and nothing else.
 pub fn plan_words<'a>(alloc: Global, words: &'a [&'a str]) -> Result<Plan, WordsFault>
     ensures limits { IfOk result IsWithinLimits }
 {
@@ -51,6 +53,9 @@ pub fn plan_of(
 ) -> Result<Option<Plan>, WordsFault>
     ensures limits { IfOk result (λ plan. IfSome plan IsWithinLimits) }
     ensures plan { IfOk result (λ plan. IfSome plan (IsPlanOf name.now found.now)) }
+    ensures some { IsPlain found.now → IsCommand name.now → IfOk result IsSome }
+    ensures elsewhere { IsElsewhere found.now → result ≡ Ok None }
+    ensures err { IfErr result (IsNoPlan name.now found.now) }
 {
     if found.get_flag(JSON) || found.get_flag(STDIN) || writes(found) {
         return Ok(None);
@@ -67,13 +72,17 @@ pub fn plan_of(
 }
 
 // Whether `abt threads` is to write a file.
-fn writes(found: &ArgMatches<'_>) -> bool {
+fn writes(found: &ArgMatches<'_>) -> bool
+    ensures { result ≡ true ↔ WritesFile found.now }
+{
     found.get_str(JOURNALS).is_some() || found.get_str(EVENTS).is_some()
 }
 
 fn port_plan(alloc: Global, found: &ArgMatches<'_>) -> Result<Plan, WordsFault>
     ensures limits { IfOk result IsWithinLimits }
     ensures plan { IfOk result (IsPlanOf (codes "port") found.now) }
+    ensures err { IfErr result (λ fault. (fault ≡ Memory) ⊎
+        ((capacity : ℕ) → IsCapacity (word_in found.now (codes "CAPACITY")) capacity → ⊥)) }
 {
     let capacity = capacity_of(alloc, found)?;
     let cells = texts_of(alloc, found.get_strs(HEX).unwrap_or(&[]))?;
@@ -92,21 +101,21 @@ fn texts_of(alloc: Global, words: &[&str]) -> Result<Vec<String>, AllocError>
 
 /// The capacity that is named.
 pub fn capacity_of(alloc: Global, found: &ArgMatches<'_>) -> Result<u64, WordsFault>
-    ensures limits { IfOk result (λ capacity. capacity ≤ capacity_max) }
+    ensures ok { IfOk result (IsCapacity (word_in found.now (codes "CAPACITY"))) }
+    ensures err { IfErr result (λ fault. (fault ≡ Memory) ⊎
+        ((capacity : ℕ) → IsCapacity (word_in found.now (codes "CAPACITY")) capacity → ⊥)) }
 {
-    let digits = found.get_str(CAPACITY).unwrap_or("");
-    let Some(capacity) = found.get_one::<u64>(CAPACITY) else {
-        return Err(wrong_words(alloc, CAPACITY_RULE)?);
-    };
-    if capacity > CAPACITY_MAX || !is_digits(digits) {
-        return Err(wrong_words(alloc, CAPACITY_RULE)?);
+    match u64_of(found.get_str(CAPACITY).unwrap_or("")) {
+        Some(capacity) if capacity <= CAPACITY_MAX => Ok(capacity),
+        _ => Err(wrong_words(alloc, CAPACITY_RULE)?),
     }
-    Ok(capacity)
 }
 
 fn threads_plan(alloc: Global, found: &ArgMatches<'_>) -> Result<Plan, WordsFault>
     ensures limits { IfOk result IsWithinLimits }
     ensures plan { IfOk result (IsPlanOf (codes "threads") found.now) }
+    ensures err { IfErr result (λ fault. (fault ≡ Memory) ⊎
+        ((workers : ℕ) → IsCount (word_in found.now (codes "workers")) workers → ⊥)) }
 {
     let workers = workers_of(alloc, found)?;
     let file = text_in(alloc, found, FILE)?;
@@ -115,21 +124,14 @@ fn threads_plan(alloc: Global, found: &ArgMatches<'_>) -> Result<Plan, WordsFaul
 
 /// How many link workers are asked for.
 pub fn workers_of(alloc: Global, found: &ArgMatches<'_>) -> Result<u16, WordsFault>
-    ensures limits { IfOk result AreWorkers }
+    ensures ok { IfOk result (IsCount (word_in found.now (codes "workers"))) }
+    ensures err { IfErr result (λ fault. (fault ≡ Memory) ⊎
+        ((workers : ℕ) → IsCount (word_in found.now (codes "workers")) workers → ⊥)) }
 {
-    let digits = found.get_str(WORKERS).unwrap_or("");
-    let Some(workers) = found.get_one::<u64>(WORKERS) else {
-        return Err(wrong_words(alloc, WORKERS_RULE)?);
-    };
-    if workers == 0 || workers > u64::from(WORKERS_MAX) || !is_digits(digits) {
-        return Err(wrong_words(alloc, WORKERS_RULE)?);
+    match u64_of(found.get_str(WORKERS).unwrap_or("")) {
+        Some(workers) if workers >= 1 && workers <= u64::from(WORKERS_MAX) => Ok(workers as u16),
+        _ => Err(wrong_words(alloc, WORKERS_RULE)?),
     }
-    Ok(workers as u16)
-}
-
-// Whether a text is digits alone: `clap` takes a plus sign as well.
-fn is_digits(text: &str) -> bool {
-    text.bytes().all(|octet| octet.is_ascii_digit())
 }
 
 /// The word that stands for a name of the help, if one does.

@@ -1,5 +1,5 @@
 //! The words of `abt draw`.
-ghost use Rattle.std.specs.Prelude.{◌≡◌, ◌⊎◌, ◌↔◌, ◌^◌, ℕ, List, Option, None, Some, map, codes, IfOk, IfErr, IfSome, IfNone, IsSome};
+ghost use Rattle.std.specs.Prelude.{◌≡◌, ◌⊎◌, ◌↔◌, ◌^◌, ℕ, List, Option, None, Some, map, codes, IfOk, IfErr, IfSome, IfNone, IsErr, IsSome};
 ghost use Rattle.abt_perform.specs.declared.plan.WordsFault.TheVariants.{Memory};
 ghost use Rattle.abt_text.specs.Words.{number_below};
 ghost use Rattle.abt_draw.specs.Plans.{AreNumbers, AreNamed, IsEventOf, IsPicturePlan, IsNoPicturePlan, IsDrawPlan};
@@ -119,6 +119,7 @@ pub fn plan_of(
 ) -> Result<Option<DrawPlan>, WordsFault>
     ensures plan { IfOk result (λ asked. IfSome asked (IsDrawPlan found.now)) }
     ensures name { IfOk result (λ asked. IsSome asked ↔ (name.now ≡ codes "draw")) }
+    ensures known { IsErr result → name.now ≡ codes "draw" }
     ensures err { IfErr result (IsNoPicturePlan found.now (codes "output")) }
 {
     if name != "draw" {

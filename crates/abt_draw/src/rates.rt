@@ -46,7 +46,8 @@ pub(crate) fn push_rates(
     ensures grows { OnOk result (Grows (string_bytes out.old) (string_bytes out.new)) }
     ensures drawn { OnOk result ((k : ℕ) (frame : FrameSpec) →
         slice_get sheet.now.chart.now.frames k ≡ Some frame →
-        DrawsSource band.base band.most (spec.rate_in frame conn) (spec.least_in frame conn) (string_bytes out.new)) }
+        DrawsSource band.base band.most (spec.rate_in frame conn) (spec.least_in frame conn)
+        (string_bytes out.new)) }
 {
     let frames = sheet.chart.frames.as_slice();
     let mut first = 0;

@@ -61,7 +61,8 @@ pub(crate) fn push_stacks(
     ensures grows { OnOk result (Grows (string_bytes out.old) (string_bytes out.new)) }
     ensures drawn { OnOk result ((k : ℕ) (frame : FrameSpec) →
         slice_get sheet.now.chart.now.frames k ≡ Some frame →
-        DrawsPort band.base band.most (spec.stack_in frame port) (spec.capacity_in frame port) (string_bytes out.new)) }
+        DrawsPort band.base band.most (spec.stack_in frame port) (spec.capacity_in frame port)
+        (string_bytes out.new)) }
 {
     let frames = sheet.chart.frames.as_slice();
     let mut first = 0;

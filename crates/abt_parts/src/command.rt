@@ -1,7 +1,10 @@
 //! The words of `abt police` and `abt shape`.
-ghost use Rattle.std.specs.Prelude.{◌≤◌, IfOk, IfSome};
-ghost use Rattle.abt_rate.specs.Limits.{tau_max};
+ghost use Rattle.std.specs.Prelude.{◌≡◌, ◌⊎◌, ℕ, IfErr, IfOk, IfSome, IsSome, codes};
+ghost use Rattle.abt_codes.specs.Nearest.{IsSaid};
+ghost use Rattle.abt_codes.specs.Plans.{word_in};
+ghost use Rattle.abt_perform.specs.declared.plan.WordsFault.TheVariants.{Memory};
 ghost use Rattle.abt_parts.specs.Answered.{IsAllowedPlan};
+ghost use Rattle.abt_parts.specs.Plans.{IsCommand, IsNoPlan, IsPlanOf, IsTolerance};
 
 use crate::plan::PartsPlan;
 use abt_codes::rate_said;
@@ -68,6 +71,9 @@ pub fn plan_of(
     found: &ArgMatches<'_>,
 ) -> Result<Option<PartsPlan>, WordsFault>
     ensures limits { IfOk result (λ plan. IfSome plan IsAllowedPlan) }
+    ensures plan { IfOk result (λ plan. IfSome plan (IsPlanOf name.now found.now)) }
+    ensures some { IsCommand name.now → IfOk result IsSome }
+    ensures err { IfErr result (IsNoPlan name.now found.now) }
 {
     let plan = match name {
         "police" => PartsPlan::Police {
@@ -83,7 +89,9 @@ pub fn plan_of(
 }
 
 fn tau_in(alloc: Global, found: &ArgMatches<'_>) -> Result<u64, WordsFault>
-    ensures { IfOk result (λ tau. tau ≤ tau_max) }
+    ensures ok { IfOk result (IsTolerance (word_in found.now (codes "tau"))) }
+    ensures err { IfErr result (λ fault. (fault ≡ Memory) ⊎
+        ((tau : ℕ) → IsTolerance (word_in found.now (codes "tau")) tau → ⊥)) }
 {
     match u64_of(found.get_str(TAU).unwrap_or("")) {
         Some(tau) if tau <= TAU_MAX => Ok(tau),
@@ -91,7 +99,11 @@ fn tau_in(alloc: Global, found: &ArgMatches<'_>) -> Result<u64, WordsFault>
     }
 }
 
-fn rate_in(alloc: Global, found: &ArgMatches<'_>) -> Result<Rate, WordsFault> {
+fn rate_in(alloc: Global, found: &ArgMatches<'_>) -> Result<Rate, WordsFault>
+    ensures ok { IfOk result (IsSaid (word_in found.now (codes "rate"))) }
+    ensures err { IfErr result (λ fault. (fault ≡ Memory) ⊎
+        ((units : ℕ) → IsSaid (word_in found.now (codes "rate")) units → ⊥)) }
+{
     match rate_said(found.get_str(RATE).unwrap_or("")) {
         Some(rate) => Ok(rate),
         None => Err(refusal(alloc, RATE_RULE)?),

@@ -1,11 +1,13 @@
 //! Audits whose events are drawn.
-ghost use Rattle.std.specs.Prelude.{◌≡◌, ◌⊎◌, option_map, string_bytes, IfOk};
+ghost use Rattle.std.specs.Prelude.{◌≡◌, ◌⊎◌, ◌↔◌, option_map, string_bytes, IfOk, IfSome, IsSome, codes};
 ghost use Rattle.std.specs.Io.KnownBytes.{Keeps};
 ghost use Rattle.abt_audit.specs.Parts.{IsSizedRun};
 ghost use Rattle.abt_draw.specs.Drawn.{TellsSome};
 ghost use Rattle.abt_tasks.specs.AuditDrawing.{IsAuditDrawnHere, IsAuditUndrawnHere, IsPartDrawn};
 ghost use Rattle.abt_tasks.specs.Audits.{TakesToAudit};
 ghost use Rattle.abt_tasks.specs.RunDrawing.{IsSavedIfNamed};
+ghost use Rattle.abt_tasks.specs.Words.{IsDrawAuditPlanOf};
+ghost use Rattle.abt_commands.specs.Words.{text_in};
 
 use crate::auditing::show_texts;
 use crate::drawing::keep_picture;
@@ -38,7 +40,11 @@ pub(crate) fn draw_audit_plan_of(
     alloc: Global,
     name: &str,
     found: &ArgMatches<'_>,
-) -> Result<Option<DrawAuditPlan>, WordsFault> {
+) -> Result<Option<DrawAuditPlan>, WordsFault>
+    ensures plan { IfOk result (λ plan. IfSome plan (IsDrawAuditPlanOf found.now)) }
+    ensures some { IfOk result (λ plan. IsSome plan ↔
+        ((name.now ≡ codes "audit") × IsSome (text_in found.now (codes "draw")))) }
+{
     if found.get_str(DRAW).is_none() {
         return Ok(None);
     }

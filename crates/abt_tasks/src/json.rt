@@ -1,10 +1,10 @@
 //! What is said as JSON, over the file that is named or over the input that is there.
-ghost use Rattle.std.specs.Prelude.{◌≡◌, ◌⊎◌, true, false, IfOk, IfSome};
+ghost use Rattle.std.specs.Prelude.{◌≡◌, ◌⊎◌, Some, true, false, IfOk, IfSome, IsSome, codes};
 ghost use Rattle.std.specs.Io.KnownBytes.{Keeps};
 ghost use Rattle.std.specs.Option.{option_map};
 ghost use Rattle.abt_tasks.specs.Json.{IsSaidHere, IsSaidOver, IsUnsaidHere, IsUnsaidOver, TakesToSay, explains};
 ghost use Rattle.abt_tasks.specs.Json as json;
-ghost use Rattle.abt_tasks.specs.Words.{IsJsonPlanOf};
+ghost use Rattle.abt_tasks.specs.Words.{IsJsonCommand, IsJsonPlanOf, json_in};
 
 use crate::opening::{open_named, tell_unopened};
 use abt_commands::{CODE, FILE, HEX, JSON, line_of_unopened, text_in, word_in};
@@ -23,7 +23,9 @@ pub(crate) fn json_plan_of(
     name: &str,
     found: &ArgMatches<'_>,
 ) -> Result<Option<JsonPlan>, WordsFault>
-    ensures { IfOk result (λ plan. IfSome plan (IsJsonPlanOf name.now found.now)) }
+    ensures plan { IfOk result (λ plan. IfSome plan (IsJsonPlanOf name.now found.now)) }
+    ensures some { json_in found.now ≡ Some (codes "true") → IsJsonCommand name.now →
+        IfOk result IsSome }
 {
     if !found.get_flag(JSON) {
         return Ok(None);

@@ -1,5 +1,6 @@
 //! Runs in threads whose journals are written, over the file that is named or over the input that is there.
-ghost use Rattle.std.specs.Prelude.{◌≡◌, ◌⊎◌, ◌+◌, IfOk, IfSome};
+ghost use Rattle.std.specs.Prelude.{◌≡◌, ◌⊎◌, ◌↔◌, ◌+◌, IfOk, IfSome, IsSome, codes};
+ghost use Rattle.abt_commands.specs.Words.{text_in};
 ghost use Rattle.std.specs.Io.KnownBytes.{Keeps};
 ghost use Rattle.std.specs.Option.{option_map};
 ghost use Rattle.abt_rate.specs.Limits.{AreWorkers};
@@ -28,6 +29,8 @@ pub(crate) fn keep_plan_of(
 ) -> Result<Option<KeepPlan>, WordsFault>
     ensures workers { IfOk result (λ plan. IfSome plan (λ kept. AreWorkers kept.workers)) }
     ensures plan { IfOk result (λ plan. IfSome plan (IsKeepPlanOf found.now)) }
+    ensures some { IfOk result (λ plan. IsSome plan ↔
+        ((name.now ≡ codes "threads") × IsSome (text_in found.now (codes "journals")))) }
 {
     let Some(journals) = found.get_str(JOURNALS) else {
         return Ok(None);

@@ -1,10 +1,12 @@
 //! Pictures of runs in threads, of the scenario of the file that is named or of the input that is there.
-ghost use Rattle.std.specs.Prelude.{◌≡◌, ◌⊎◌, ◌+◌, option_map, string_bytes, IfOk, IfErr, IfSome};
+ghost use Rattle.std.specs.Prelude.{◌≡◌, ◌⊎◌, ◌↔◌, ◌+◌, option_map, string_bytes, IfOk, IfErr, IfSome, IsSome, codes};
 ghost use Rattle.std.specs.Io.KnownBytes.{Keeps};
 ghost use Rattle.abt_rate.specs.Limits.{AreWorkers};
 ghost use Rattle.abt_text.specs.Streams.{ConsumesAtMost, text_max};
 ghost use Rattle.abt_tasks.specs.RunDrawing.{IsRunOfText, IsNoRunOfText, IsRunDrawn, IsRunDrawnOver, IsRunDrawnHere, IsSavedIfNamed, TakesToDrawRun};
 ghost use Rattle.abt_tasks.specs.RunDrawing as spec;
+ghost use Rattle.abt_tasks.specs.Words.{IsDrawRunPlanOf};
+ghost use Rattle.abt_commands.specs.Words.{text_in};
 
 use crate::drawing::keep_picture;
 use crate::opening::{open_named, tell_unopened};
@@ -44,7 +46,10 @@ pub(crate) fn draw_run_plan_of(
     name: &str,
     found: &ArgMatches<'_>,
 ) -> Result<Option<DrawRunPlan>, WordsFault>
-    ensures { IfOk result (λ plan. IfSome plan (λ drawn. AreWorkers drawn.workers)) }
+    ensures workers { IfOk result (λ plan. IfSome plan (λ drawn. AreWorkers drawn.workers)) }
+    ensures plan { IfOk result (λ plan. IfSome plan (IsDrawRunPlanOf found.now)) }
+    ensures some { IfOk result (λ plan. IsSome plan ↔
+        ((name.now ≡ codes "draw") × IsSome (text_in found.now (codes "workers")))) }
 {
     if name != "draw" || found.get_str(WORKERS).is_none() {
         return Ok(None);

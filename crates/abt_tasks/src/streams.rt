@@ -1,6 +1,8 @@
 //! Cells from the standard input, where `abt cell` and `abt port` read them.
-ghost use Rattle.std.specs.Prelude.{IfOk, IfSome};
+ghost use Rattle.std.specs.Prelude.{◌≡◌, ◌⊎◌, Some, None, Ok, IfOk, IfSome, IsSome, codes};
+ghost use Rattle.abt_commands.specs.Words.{IsUnset, flag_in};
 ghost use Rattle.abt_parts.specs.Answered.{IsAllowedPlan};
+ghost use Rattle.abt_tasks.specs.Words.{IsStreamOf};
 
 use abt_commands::{STDIN, capacity_of};
 use abt_parts::PartsPlan;
@@ -14,7 +16,11 @@ pub(crate) fn stream_of(
     name: &str,
     found: &ArgMatches<'_>,
 ) -> Result<Option<PartsPlan>, WordsFault>
-    ensures { IfOk result (λ plan. IfSome plan IsAllowedPlan) }
+    ensures limits { IfOk result (λ plan. IfSome plan IsAllowedPlan) }
+    ensures plan { IfOk result (λ plan. IfSome plan (IsStreamOf name.now found.now)) }
+    ensures some { flag_in found.now (codes "stdin") ≡ Some (codes "true") →
+        ((name.now ≡ codes "cell") ⊎ (name.now ≡ codes "port")) → IfOk result IsSome }
+    ensures none { IsUnset (flag_in found.now (codes "stdin")) → result ≡ Ok None }
 {
     if !found.get_flag(STDIN) {
         return Ok(None);

@@ -1,5 +1,6 @@
 //! Runs in threads whose woven events are told or written, over the file that is named or over the input that is there.
-ghost use Rattle.std.specs.Prelude.{◌≡◌, ◌⊎◌, ◌+◌, IfOk, IfSome};
+ghost use Rattle.std.specs.Prelude.{◌≡◌, ◌⊎◌, ◌+◌, Some, IfOk, IfSome, IsSome, codes};
+ghost use Rattle.abt_commands.specs.Words.{text_in};
 ghost use Rattle.std.specs.Option.{option_map};
 ghost use Rattle.abt_rate.specs.Limits.{AreWorkers};
 ghost use Rattle.abt_text.specs.Streams.{ConsumesAtMost, text_max};
@@ -7,7 +8,7 @@ ghost use Rattle.abt_tasks.specs.Telling.{IsTold, IsUntold, IsToldOver, IsUntold
 ghost use Rattle.abt_tasks.specs.Telling.{IsRunTold, IsUnfinished, IsRunSaved, IsRunUnsaved, TellsSaved, TellsUnsaved, TellsRun, TellsCheckBesides};
 ghost use Rattle.std.specs.Io.KnownBytes.{Keeps};
 ghost use Rattle.abt_tasks.specs.Telling as spec;
-ghost use Rattle.abt_tasks.specs.Words.{IsTellPlanOf};
+ghost use Rattle.abt_tasks.specs.Words.{IsTellPlanOf, explain_in};
 
 use crate::checked::{tell_check, unread};
 use crate::opening::{open_named, tell_unopened};
@@ -33,6 +34,11 @@ pub(crate) fn tell_plan_of(
 ) -> Result<Option<TellPlan>, WordsFault>
     ensures workers { IfOk result (λ plan. IfSome plan (λ told. AreWorkers told.workers)) }
     ensures plan { IfOk result (λ plan. IfSome plan (IsTellPlanOf found.now)) }
+    ensures name { IfOk result (λ plan. IsSome plan → name.now ≡ codes "threads") }
+    ensures events { name.now ≡ codes "threads" → IsSome (text_in found.now (codes "events")) →
+        IfOk result IsSome }
+    ensures explained { name.now ≡ codes "threads" → explain_in found.now ≡ Some (codes "true") →
+        IfOk result IsSome }
 {
     let tells = found.get_flag(EXPLAIN);
     let events = text_in(alloc, found, EVENTS)?;

@@ -2,6 +2,7 @@
 ghost use Rattle.std.specs.Prelude.{IfOk, IfSome};
 ghost use Rattle.abt_tasks.specs.Overwriting.{LosesText};
 ghost use Rattle.abt_tasks.specs.Tasks.{IsAllowed};
+ghost use Rattle.abt_tasks.specs.Words.{IsTaskOf};
 
 use crate::asked::Asked;
 use crate::audit_drawing::draw_audit_plan_of;
@@ -59,7 +60,8 @@ fn whole_program<'a>(alloc: Global) -> Result<Command<'a>, AllocError> {
 }
 
 fn task_of(alloc: Global, name: &str, found: &ArgMatches<'_>) -> Result<Task, WordsFault>
-    ensures { IfOk result IsAllowed }
+    ensures limits { IfOk result IsAllowed }
+    ensures task { IfOk result (IsTaskOf name.now found.now) }
 {
     if let Some(plan) = json_plan_of(alloc, name, found)? {
         return Ok(Task::Json(plan));
@@ -109,7 +111,8 @@ fn drawing_task_of(
     name: &str,
     found: &ArgMatches<'_>,
 ) -> Result<Option<Task>, WordsFault>
-    ensures { IfOk result (λ task. IfSome task IsAllowed) }
+    ensures limits { IfOk result (λ task. IfSome task IsAllowed) }
+    ensures task { IfOk result (λ task. IfSome task (IsTaskOf name.now found.now)) }
 {
     if let Some(plan) = draw_run_plan_of(alloc, name, found)? {
         return Ok(Some(Task::DrawRun(plan)));

@@ -106,7 +106,13 @@ fn is_threads(
 #[test]
 fn words_are_plans_for_threads(rt: HostRuntime) -> Result<(), Fail> {
     let alloc = rt.alloc();
-    for (word, number) in [("1", 1), ("4", 4), ("64", 64), ("004", 4)] {
+    for (word, number) in [
+        ("1", 1),
+        ("4", 4),
+        ("64", 64),
+        ("004", 4),
+        ("0000000000000000004", 4),
+    ] {
         is_threads(&rt, alloc, &["threads", "--workers", word], number, None)?;
     }
     for words in [
@@ -159,6 +165,7 @@ fn link_workers_are_one_to_64_in_digits_alone(rt: HostRuntime) {
         "0x4",
         "65540",
         "18446744073709551620",
+        "00000000000000000004",
     ] {
         workers_refused(&rt, alloc, word);
     }
@@ -183,6 +190,7 @@ fn other_words_are_refused(rt: HostRuntime) {
     refused(&rt, alloc, &["port", "5k", A]);
     refused(&rt, alloc, &["port", "1152921504606846977", A]);
     refused(&rt, alloc, &["port", "99999999999999999999", A]);
+    refused(&rt, alloc, &["port", "00000000000000512000", A]);
     refused(&rt, alloc, &["rate"]);
     refused(&rt, alloc, &["rate", "53e8", "53e8"]);
     refused(&rt, alloc, &["cell"]);
