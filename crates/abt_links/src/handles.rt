@@ -32,7 +32,8 @@ impl WorkerHandles {
         sources: usize,
     ) -> Result<WorkerHandles, AllocError>
         ensures complete { IfOk result (λ handles. handles.complete ≡ true) }
-        ensures links { IfOk result (λ handles. (handles.links.items ≡ []) × (workers ≤ vec_capacity handles.links)) }
+        ensures links { IfOk result
+            (λ handles. (handles.links.items ≡ []) × (workers ≤ vec_capacity handles.links)) }
         ensures sources { IfOk result
             (λ handles. (handles.sources.items ≡ []) × (sources ≤ vec_capacity handles.sources)) }
     {
@@ -118,7 +119,8 @@ impl<'run> WorkersWithOperator<'run> {
         ensures operator { KeepItsOperator (option_map (λ h. h.promise) self.entry.operator) result.operator }
         ensures sources { KeepEachAccess (map (λ h. h.promise) self.entry.handles.sources.items)
             result.sources.items }
-        ensures links { KeepEachLink (map (λ h. h.promise) self.entry.handles.links.items) result.links.items }
+        ensures links { KeepEachLink (map (λ h. h.promise) self.entry.handles.links.items)
+            result.links.items }
     {
         let WorkersWithOperator { handles, operator } = self;
         let WorkerHandles {
