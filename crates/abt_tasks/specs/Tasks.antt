@@ -15,7 +15,7 @@ use Rattle.abt_tasks.specs.AuditDrawing.{IsAuditDrawnHere, IsAuditUndrawnHere}
 use Rattle.abt_tasks.specs.Audits.{IsAuditedHere, IsUnauditedHere, TakesToAudit}
 use Rattle.abt_tasks.specs.Check.{TakesToCheck, IsCheckedHere, IsFaultyHere}
 use Rattle.abt_tasks.specs.Checked as checked
-use Rattle.abt_tasks.specs.Drawing.{TakesToDraw}
+use Rattle.abt_tasks.specs.Drawing.{IsDrawnHere, TakesToDraw, TellsUndrawnHere}
 use Rattle.abt_tasks.specs.Json.{TakesToSay, IsSaidHere, IsUnsaidHere}
 use Rattle.abt_tasks.specs.Keeping.{TakesToKeep, IsKeptHere, IsUnkeptHere}
 use Rattle.abt_tasks.specs.Opening.{IsUnopenedFile}
@@ -99,7 +99,7 @@ IsCarriedOut (Audit plan) left old new errors_old errors_new = IsAuditedHere pla
 IsCarriedOut (Sample plan) left old new errors_old errors_new = IsSampledHere plan left old new
 IsCarriedOut (Parts plan) left old new errors_old errors_new = parts.IsAnswered plan left old new
 IsCarriedOut (Codes plan) left old new errors_old errors_new = codes_printed.IsPrinted plan old new
-IsCarriedOut (Draw plan) left old new errors_old errors_new = Keeps old new
+IsCarriedOut (Draw plan) left old new errors_old errors_new = Keeps old new × IsDrawnHere plan left
 IsCarriedOut (DrawRun plan) left old new errors_old errors_new = Keeps old new × IsRunDrawnHere plan left
 IsCarriedOut (DrawAudit plan) left old new errors_old errors_new = IsAuditDrawnHere plan left old new
 
@@ -110,7 +110,7 @@ TellsOf (Checked plan) left old new = checked.TellsHere plan left old new
 TellsOf (Tell plan) left old new = ⊤
 TellsOf task left old new = Keeps old new
 
--- the task has a fault, which is told; what is told of a picture, no clause says
+-- the task has a fault, which is told; what is told of the picture of a run in threads, no clause says
 abbrev pub IsNotCarriedOut : Task → (left old new errors_old errors_new : Option Text) → Type 0
 IsNotCarriedOut (Plan plan) left old new errors_old errors_new = IsRefusedHere plan left old new errors_old errors_new
 IsNotCarriedOut (Checked plan) left old new errors_old errors_new = checked.IsRefusedHere plan left old new errors_old errors_new
@@ -123,6 +123,6 @@ IsNotCarriedOut (Audit plan) left old new errors_old errors_new = IsUnauditedHer
 IsNotCarriedOut (Sample plan) left old new errors_old errors_new = IsUnsampledHere plan left old new errors_old errors_new
 IsNotCarriedOut (Parts plan) left old new errors_old errors_new = parts.IsRefused plan left old new errors_old errors_new
 IsNotCarriedOut (Codes plan) left old new errors_old errors_new = codes_printed.IsRefused plan old new errors_old errors_new
-IsNotCarriedOut (Draw plan) left old new errors_old errors_new = Keeps old new
+IsNotCarriedOut (Draw plan) left old new errors_old errors_new = Keeps old new × TellsUndrawnHere plan errors_old errors_new
 IsNotCarriedOut (DrawRun plan) left old new errors_old errors_new = Keeps old new
 IsNotCarriedOut (DrawAudit plan) left old new errors_old errors_new = IsAuditUndrawnHere plan left old new errors_old errors_new

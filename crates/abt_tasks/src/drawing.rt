@@ -1,9 +1,10 @@
 //! Pictures, of the scenario of the file that is named or of the input that is there.
-ghost use Rattle.std.specs.Prelude.{◌≡◌, ◌⊎◌};
+ghost use Rattle.std.specs.Prelude.{◌≡◌, ◌⊎◌, ◌+◌};
 ghost use Rattle.std.specs.Io.KnownBytes.{Keeps};
 ghost use Rattle.std.specs.Option.{option_map};
 ghost use Rattle.abt_draw.specs.Drawn.{TellsSome};
-ghost use Rattle.abt_tasks.specs.Drawing.{TakesToDraw};
+ghost use Rattle.abt_text.specs.Streams.{ConsumesAtMost, text_max};
+ghost use Rattle.abt_tasks.specs.Drawing.{IsDrawnHere, IsDrawnOf, TakesToDraw, TellsUndrawnHere};
 ghost use Rattle.abt_tasks.specs.Drawing as spec;
 
 use crate::opening::{open_named, tell_unopened};
@@ -26,17 +27,15 @@ pub(crate) fn draw<T: Files + AllocGlobal, R: Read, E: Write>(
 ) -> u8
     ensures status { (result ≡ 0) ⊎ (result ≡ 1) }
     ensures reads { TakesToDraw plan.now (R.remaining input.old) (R.remaining input.new) }
+    ensures ok { result ≡ 0 → IsDrawnHere plan.now (R.remaining input.old) }
     ensures quiet { result ≡ 0 → Keeps (E.contents errors.old) (E.contents errors.new) }
+    ensures told { result ≡ 1 → TellsUndrawnHere plan.now (E.contents errors.old) (E.contents errors.new) }
 {
     let Some(name) = file_of(plan) else {
-        let text = drawing_of(rt.alloc(), &plan.picture, input);
-        return keep_picture(rt, &plan.picture, text, errors);
+        return draw_text(rt, &plan.picture, input, errors);
     };
     match open_named(rt, name) {
-        Ok(mut file) => {
-            let text = drawing_of(rt.alloc(), &plan.picture, &mut file);
-            keep_picture(rt, &plan.picture, text, errors)
-        }
+        Ok(mut file) => draw_text(rt, &plan.picture, &mut file, errors),
         Err(unopened) => {
             tell_unopened(name, unopened, errors);
             1
@@ -54,6 +53,28 @@ fn file_of(plan: &DrawPlan) -> Option<&str>
     }
 }
 
+// Draws the scenario of the text that a reader has left.
+fn draw_text<T: Files + AllocGlobal, R: Read, E: Write>(
+    rt: &T,
+    plan: &PicturePlan,
+    reader: &mut R,
+    errors: &mut E,
+) -> u8
+    ensures status { (result ≡ 0) ⊎ (result ≡ 1) }
+    ensures reads { ConsumesAtMost (R.remaining reader.old) (R.remaining reader.new) (text_max + 1) }
+    ensures ok { result ≡ 0 → IsDrawnOf plan.now (R.remaining reader.old) }
+    ensures quiet { result ≡ 0 → Keeps (E.contents errors.old) (E.contents errors.new) }
+    ensures told { result ≡ 1 → TellsSome (E.contents errors.old) (E.contents errors.new) }
+{
+    match drawing_of(rt.alloc(), plan, reader) {
+        Ok(text) => keep_text(rt, plan, text.as_str(), errors),
+        Err(fault) => {
+            tell_draw_fault(rt.alloc(), fault, errors);
+            1
+        }
+    }
+}
+
 // Writes a picture to its file, or tells why there is none.
 pub(crate) fn keep_picture<T: Files + AllocGlobal, E: Write>(
     rt: &T,
@@ -65,14 +86,27 @@ pub(crate) fn keep_picture<T: Files + AllocGlobal, E: Write>(
     ensures quiet { result ≡ 0 → Keeps (E.contents errors.old) (E.contents errors.new) }
     ensures told { result ≡ 1 → TellsSome (E.contents errors.old) (E.contents errors.new) }
 {
-    let text = match text {
-        Ok(text) => text,
+    match text {
+        Ok(text) => keep_text(rt, plan, text.as_str(), errors),
         Err(fault) => {
             tell_draw_fault(rt.alloc(), fault, errors);
-            return 1;
+            1
         }
-    };
-    match write_whole(rt, plan.out.as_str(), text.as_str()) {
+    }
+}
+
+// Writes the text of a picture to its file, or tells why it can't.
+fn keep_text<T: Files + AllocGlobal, E: Write>(
+    rt: &T,
+    plan: &PicturePlan,
+    text: &str,
+    errors: &mut E,
+) -> u8
+    ensures status { (result ≡ 0) ⊎ (result ≡ 1) }
+    ensures quiet { result ≡ 0 → Keeps (E.contents errors.old) (E.contents errors.new) }
+    ensures told { result ≡ 1 → TellsSome (E.contents errors.old) (E.contents errors.new) }
+{
+    match write_whole(rt, plan.out.as_str(), text) {
         Ok(()) => 0,
         Err(line) => {
             tell_text(errors, line);
