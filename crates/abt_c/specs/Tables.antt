@@ -52,6 +52,10 @@ IsFound t vc (Row i) = IsRowOf t vc i
 IsFound t vc Unknown = Unit {0}
 IsFound t vc Damaged = Unit {0}
 
+-- some row is that of the connection
+abbrev pub HasRow : AbtTable → Channel → Type 0
+HasRow t vc = (i : ℕ) × IsRowOf t vc i
+
 -- no row is that of a connection
 abbrev pub IsUnknown : AbtTable → Channel → Type 0
 IsUnknown t vc = (i : ℕ) → i < t.count → channel_of t.rows i ≢ vc

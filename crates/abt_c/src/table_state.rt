@@ -4,7 +4,7 @@ ghost use Rattle.abt_rate.specs.Limits.{capacity_max};
 ghost use Rattle.abt_cell.specs.Message.{Reply};
 ghost use Rattle.abt_node.specs.Reservation.{first_reservation, answer_of, no_to};
 ghost use Rattle.abt_c.specs.Ports.{reservation_in, decision_at, port_kind};
-ghost use Rattle.abt_c.specs.Tables.{HasHead, IsTable, IsRowOf, IsFound, IsUnknown, LeavesOthers, places, chain_of, row_of};
+ghost use Rattle.abt_c.specs.Tables.{HasHead, IsTable, HasRow, IsRowOf, IsFound, IsUnknown, LeavesOthers, places, chain_of, row_of};
 
 use crate::port_state::{AbtConnection, AbtPort, PORT_KIND};
 use abt_cell::{Answer, Request, Vc};
@@ -121,6 +121,8 @@ impl AbtTable {
         ensures whole { IsTable self.old → result ≢ None }
         ensures no { (reply : Reply) → result ≡ Some (Onward.Refuse reply) → reply ≡ no_to request.now }
         ensures state { IsTable self.old → IsTable self.new }
+        ensures row { result ≢ None → result ≢ Some (Onward.Drop DropCause.UnknownVc) →
+            HasRow self.old request.now.vc }
         ensures others { LeavesOthers request.now.vc self.old self.new }
         ensures same { (result ≡ None) ⊎ (result ≡ Some (Onward.Drop DropCause.UnknownVc)) →
             self.new ≡ self.old }
@@ -142,6 +144,8 @@ impl AbtTable {
             (result ≡ Some (Back.Drop DropCause.UnknownVc)) ↔ IsUnknown self.old answer.now.terms.vc }
         ensures whole { IsTable self.old → result ≢ None }
         ensures state { IsTable self.old → IsTable self.new }
+        ensures row { result ≢ None → result ≢ Some (Back.Drop DropCause.UnknownVc) →
+            HasRow self.old answer.now.terms.vc }
         ensures others { LeavesOthers answer.now.terms.vc self.old self.new }
         ensures same { (result ≡ None) ⊎ (result ≡ Some (Back.Drop DropCause.UnknownVc)) →
             self.new ≡ self.old }
