@@ -65,7 +65,9 @@ impl<'net> Model for World<'net> {
     } };
 
     ghost invariant = { λ w. (length w.connections.items ≡ length w.net.now.conns) × IsWithinRules w.net.now
-        × IsTallied w.net.now w.ports.items (list_map (λ connection. record { actor = connection.actor; index = connection.log.index }) w.connections.items) w.violations
+        × IsTallied w.net.now w.ports.items
+        (list_map (λ connection. record { actor = connection.actor; index = connection.log.index }) w.connections.items)
+        w.violations
         × (length w.ports.items ≡ length w.net.now.capacities) };
 }
 
