@@ -1,6 +1,5 @@
 //! The words of a command line, and the plans that they ask for.
-ghost use Rattle.std.specs.Prelude.{◌≡◌, ◌≤◌, ◌⊎◌, ◌↔◌, ℕ, None, Ok, true, IfErr, IfOk, IfSome, IsSome, codes, map, option_map, string_bytes};
-ghost use Rattle.abt_rate.specs.Limits.{capacity_max, AreWorkers};
+ghost use Rattle.std.specs.Prelude.{◌≡◌, ◌⊎◌, ◌↔◌, ℕ, None, Ok, true, IfErr, IfOk, IfSome, IsSome, codes, map, option_map, string_bytes};
 ghost use Rattle.abt_perform.specs.Plans.{IsWithinLimits};
 ghost use Rattle.abt_perform.specs.declared.plan.WordsFault.TheVariants.{Memory};
 ghost use Rattle.abt_commands.specs.Words.{IsCapacity, IsCommand, IsCount, IsElsewhere, IsNoPlan, IsPlain, IsPlanOf, WritesFile, text_in, word_in, words_in};

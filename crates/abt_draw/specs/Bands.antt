@@ -54,13 +54,13 @@ pub record HasBlock (base c : ℕ) (block : Block) (text : Text) : Type 0 where
 pub record HasStack (base most : ℕ) (stack : List ℕ) (text : Text) : Type 0 where
   pub each : (c held : ℕ) → slice_get stack c ≡ Some held → held ≢ 0 → HasBlock base c (block_in stack most c) text
 
--- A line of this kind goes to the right at a height above the base of a band.
+-- A level line of this kind stands at a height above the base of a band.
 pub record HasLevel (class : Text) (base height : ℕ) (text : Text) : Type 0 where
   pub from : ℕ
   pub to : ℕ
   pub line : Holds text (line_text class (record { x = from; y = base - height }) (record { x = to; y = base - height }))
 
--- The stack of a port stands under the line of its capacity, where what is held is no more.
+-- What is held on a port has its blocks, where it is no more than the capacity, and the capacity has a line.
 pub record DrawsPort (base most : ℕ) (held : List ℕ) (limit : ℕ) (text : Text) : Type 0 where
   pub stack : sum held ≤ limit → HasStack base most held text
   pub capacity : HasLevel (codes "capacity") base (height_of limit most) text
@@ -70,7 +70,7 @@ pub record DrawsSource (base most shaped kept : ℕ) (text : Text) : Type 0 wher
   pub rate : HasLevel (codes "rate") base (height_of shaped most) text
   pub least : HasLevel (codes "least") base (height_of kept most) text
 
--- Beside the base of a band stands whose it is.
+-- Somewhere stands whose a band is.
 pub record HasName (who : Actor) (text : Text) : Type 0 where
   pub place : Point
   pub name : Holds text (label_text (codes "band") place (kind_name who ⋅ codes " " ⋅ decimal (number_of who)))

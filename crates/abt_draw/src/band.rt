@@ -1,8 +1,6 @@
 //! The bands below the chart of messages: over the axis of the events, what each port holds, and at which rate each source shapes.
-ghost use Rattle.std.specs.Prelude.{◌≡◌, ◌-◌, OnOk, codes, string_bytes};
-ghost use Rattle.abt_text.specs.Text.{◌⋅◌, decimal};
+ghost use Rattle.std.specs.Prelude.{◌≡◌, ◌-◌, OnOk, string_bytes};
 ghost use Rattle.abt_draw.specs.Bands.{HasName};
-ghost use Rattle.abt_draw.specs.Lifelines.{kind_name, number_of};
 ghost use Rattle.abt_draw.specs.Within.{Grows};
 
 use crate::lifeline::name_of;

@@ -1,5 +1,5 @@
 //! The bands of sources: the rate at which each shapes, under the least that its path holds for it.
-ghost use Rattle.std.specs.Prelude.{◌≡◌, ◌≤◌, ℕ, OnOk, Some, codes, slice_get, string_bytes};
+ghost use Rattle.std.specs.Prelude.{◌≡◌, ◌≤◌, ℕ, OnOk, Some, slice_get, string_bytes};
 ghost use Rattle.abt_chart.specs.declared.frame.Frame.{Frame as FrameSpec};
 ghost use Rattle.abt_draw.specs.Bands as spec;
 ghost use Rattle.abt_draw.specs.Bands.{DrawsSource};

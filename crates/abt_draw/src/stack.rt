@@ -1,9 +1,8 @@
 //! The bands of ports: stacks of what connections hold, under the capacity.
-ghost use Rattle.std.specs.Prelude.{◌≡◌, ◌≢◌, ◌≤◌, ◌↔◌, ℕ, IfOk, IsTrue, OnOk, Some, codes, slice_get, string_bytes, sum, unwrap_or};
+ghost use Rattle.std.specs.Prelude.{◌≡◌, ◌≢◌, ◌≤◌, ℕ, IsTrue, OnOk, Some, slice_get, string_bytes, sum, unwrap_or};
 ghost use Rattle.abt_chart.specs.declared.frame.Frame.{Frame as FrameSpec};
 ghost use Rattle.abt_draw.specs.Bands as spec;
 ghost use Rattle.abt_draw.specs.Bands.{DrawsPort, HasBlock, HasLevel, HasStack};
-ghost use Rattle.abt_draw.specs.Blocks as blocks;
 ghost use Rattle.abt_draw.specs.Within.{Grows};
 
 use crate::band::{Band, edge_of};

@@ -1,11 +1,11 @@
 -- What the words of the commands ask for whose tasks stand on several crates, by what `clap` found of them.
-use Rattle.std.specs.Prelude.{◌≡◌, ◌≢◌, ◌⊎◌, true, false, Option, Some, option_map, string_bytes, codes}
+use Rattle.std.specs.Prelude.{◌≡◌, ◌≢◌, ◌⊎◌, true, false, Option, None, Some, option_map, string_bytes, codes}
 use Rattle.clap.specs.declared.parser.matches.ArgMatches.{ArgMatches}
 use Rattle.abt_text.specs.Text.{Text}
 use Rattle.abt_audit.specs.Plans as audit
 use Rattle.abt_check.specs.Plans as check
 use Rattle.abt_codes.specs.Plans as code_words
-use Rattle.abt_commands.specs.Words.{IsCapacity, IsCount, flag_in, text_in, word_in}
+use Rattle.abt_commands.specs.Words.{IsCapacity, IsCount, IsElsewhere, flag_in, text_in, word_in}
 use Rattle.abt_commands.specs.Words as commands
 use Rattle.abt_draw.specs.Plans.{IsDrawPlan, IsPicturePlan}
 use Rattle.abt_explain.specs.Plans as explain
@@ -32,7 +32,7 @@ IsJsonPlanOf name found (Explain file) = (name ≡ codes "explain") × (option_m
 abbrev pub json_in : ArgMatches → Option Text
 json_in found = flag_in found (codes "json")
 
--- The name is that of a command that can answer as JSON and stands on this crate.
+-- The name is that of a command whose words for an answer as JSON are read here.
 abbrev pub IsJsonCommand : (name : Text) → Type 0
 IsJsonCommand name = (name ≡ codes "rate") ⊎ (name ≡ codes "cell") ⊎ (name ≡ codes "run") ⊎ (name ≡ codes "explain")
 
@@ -76,17 +76,18 @@ pub record IsDrawAuditPlanOf (found : ArgMatches) (plan : DrawAuditPlan) : Type 
 
 -- The task is that of the command that is named, and what it names is what stands there.
 abbrev pub IsTaskOf : (name : Text) → ArgMatches → Task → Type 0
-IsTaskOf name found (task.Plan plan) = commands.IsPlanOf name found plan × (explain_in found ≢ Some (codes "true"))
-IsTaskOf name found (task.Checked plan) = commands.IsPlanOf name found plan × (explain_in found ≢ Some (codes "false"))
+IsTaskOf name found (task.Plan plan) = commands.IsPlanOf name found plan × (explain_in found ≢ Some (codes "true")) × (IsElsewhere found → ⊥)
+IsTaskOf name found (task.Checked plan) = commands.IsPlanOf name found plan × (explain_in found ≢ Some (codes "false")) × (IsElsewhere found → ⊥)
 IsTaskOf name found (task.Keep plan) = (name ≡ codes "threads") × IsKeepPlanOf found plan
-IsTaskOf name found (task.Tell plan) = (name ≡ codes "threads") × IsTellPlanOf found plan
+IsTaskOf name found (task.Tell plan) = (name ≡ codes "threads") × IsTellPlanOf found plan × (text_in found (codes "journals") ≡ None)
 IsTaskOf name found (task.Explain plan) = (name ≡ codes "explain") × explain.IsPlanOf found plan
 IsTaskOf name found (task.Check plan) = (name ≡ codes "check") × check.IsPlanOf found plan
 IsTaskOf name found (task.Json plan) = IsJsonPlanOf name found plan
-IsTaskOf name found (task.Audit plan) = (name ≡ codes "audit") × audit.IsPlanOf found plan
-IsTaskOf name found (task.Sample plan) = (name ≡ codes "audit") × audit.IsSamplePlanOf found plan
+IsTaskOf name found (task.Audit plan) = (name ≡ codes "audit") × audit.IsPlanOf found plan × (text_in found (codes "events") ≡ None) ×
+    (text_in found (codes "draw") ≡ None)
+IsTaskOf name found (task.Sample plan) = (name ≡ codes "audit") × audit.IsSamplePlanOf found plan × (text_in found (codes "draw") ≡ None)
 IsTaskOf name found (task.Parts plan) = parts.IsPlanOf name found plan ⊎ IsStreamOf name found plan
 IsTaskOf name found (task.Codes plan) = code_words.IsPlanOf name found plan
-IsTaskOf name found (task.Draw plan) = (name ≡ codes "draw") × IsDrawPlan found plan
+IsTaskOf name found (task.Draw plan) = (name ≡ codes "draw") × IsDrawPlan found plan × (text_in found (codes "workers") ≡ None)
 IsTaskOf name found (task.DrawRun plan) = (name ≡ codes "draw") × IsDrawRunPlanOf found plan
 IsTaskOf name found (task.DrawAudit plan) = (name ≡ codes "audit") × IsDrawAuditPlanOf found plan

@@ -1,5 +1,6 @@
 //! The command line of the whole program, and the tasks that its words ask for.
-ghost use Rattle.std.specs.Prelude.{IfOk, IfSome};
+ghost use Rattle.std.specs.Prelude.{◌≡◌, IfOk, IfSome, IsSome, codes};
+ghost use Rattle.abt_commands.specs.Words.{text_in};
 ghost use Rattle.abt_tasks.specs.Overwriting.{LosesText};
 ghost use Rattle.abt_tasks.specs.Tasks.{IsAllowed};
 ghost use Rattle.abt_tasks.specs.Words.{IsTaskOf};
@@ -113,6 +114,8 @@ fn drawing_task_of(
 ) -> Result<Option<Task>, WordsFault>
     ensures limits { IfOk result (λ task. IfSome task IsAllowed) }
     ensures task { IfOk result (λ task. IfSome task (IsTaskOf name.now found.now)) }
+    ensures audit { IfOk result (λ task. name.now ≡ codes "audit" →
+        IsSome (text_in found.now (codes "draw")) → IsSome task) }
 {
     if let Some(plan) = draw_run_plan_of(alloc, name, found)? {
         return Ok(Some(Task::DrawRun(plan)));
