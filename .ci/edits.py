@@ -12,13 +12,13 @@ a hand-written proof fails with all its names there, the goal is tried without i
 false; else only where the edit has a line `witness: ..`, which says in words at which values it is.
 
 It works over the libraries that `rt ci` left in crates/*/out of the repository ROOT, and goes by the rules of the kit's own `rt` for edits,
-whose functions it calls. Each crate's checks hand on what they proved as a copy.
+whose functions it calls. Each crate's checks hand on what they proved as a copy, and the first begins with what `rt lib` or `rt check` kept.
 
 What was refused is kept below the user's cache folder, by a checksum of all that the try rests on: the kit, the crate with the crates below
 it, the edit, this script, and whether it was tried alone. With `--changed` only those are tried that have no such record.
 
-With `--alone` each edit has a check of its own, over what a check of its crate proved; with `--share K/N` only each N-th edit of a crate is
-tried, from the K-th on, so that N runs try all.
+With `--alone` each edit has a check of its own, over what a check of its crate proved; with `--share K/N` only the edits of each N-th crate
+are tried, from the K-th on, so that N runs try all.
 
 usage: edits.py [--root ROOT] [--jobs N] [--alone] [--share K/N] [--changed] [--json FILE] [NAME..]     (NAME: a crate, or crate/edit)
 """
@@ -329,11 +329,19 @@ def rounds_of(edits):
 
 
 def copied(kept, room):
-    """A copy of what earlier checks proved, for one more check."""
-    over = tempfile.mkdtemp(dir=room)
+    """A copy of what earlier checks proved, for one more check: by links, since a check replaces such a file and changes none."""
+    over = os.path.join(tempfile.mkdtemp(dir=room), "kept")
     if kept:
-        shutil.copytree(kept, over, dirs_exist_ok=True)
+        rt.linked(kept, over)
+    else:
+        os.mkdir(over)
     return over
+
+
+def kept_by_build(crate):
+    """What `rt lib` or `rt check` kept in a crate's folder, which the first check need not prove anew; None where they kept nothing."""
+    kept = Path(crate.folder, *rt.rtlib.KEPT[1].split("/"))
+    return kept if kept.is_dir() else None
 
 
 def try_together(crate, edits, room, kept, is_whole):
@@ -481,8 +489,7 @@ def try_crate(crate, words):
     began, shared, names, is_all_alone = time.time(), 0, set(words.names), words.alone
     good, bad = rt.edits_of(crate)
     wanted = lambda path: not names or crate.name in names or f"{crate.name}/{Path(path).stem}" in names
-    first, every = words.share
-    edits = [read(crate, path) for path in [path for path in good if wanted(path)][first - 1 :: every]]
+    edits = [read(crate, path) for path in good if wanted(path)]
     edits += [Edit(crate, Path(path), fault="its name isn't one of an edit") for path in bad if wanted(path)]
     records = Records(crate, is_all_alone)
     for edit in edits:
@@ -506,7 +513,7 @@ def try_edits(crate, edits, is_all_alone):
     """Tries some edits of a crate. Gives how many checks were shared, and how many there were alone."""
     together = [edit for edit in edits if not (edit.alone or is_all_alone)]
     with tempfile.TemporaryDirectory(prefix="edits-") as room:
-        kept = copied(None, room)
+        kept = copied(kept_by_build(crate), room)
         copies = [edit for edit in together if edit.home]
         parts = parts_of(crate, copies)
         # What others take over has to carry the whole crate.
@@ -547,7 +554,7 @@ def main():
     reader.add_argument("--root", default=str(Path(__file__).resolve().parent.parent))
     reader.add_argument("--jobs", type=int, default=rt.processors())
     reader.add_argument("--alone", action="store_true", help="each edit in a check of its own")
-    reader.add_argument("--share", type=share, default=(1, 1), metavar="K/N", help="each N-th edit of a crate, from the K-th on")
+    reader.add_argument("--share", type=share, default=(1, 1), metavar="K/N", help="the edits of each N-th crate, from the K-th on")
     reader.add_argument("--changed", action="store_true", help="only those that no earlier run refused with nothing changed since")
     reader.add_argument("--json", help="writes what became of each edit to this file")
     reader.add_argument("names", nargs="*")
@@ -560,6 +567,8 @@ def main():
     crates = [crate for crate in crates if not named or crate.name in named]
     # The longest first, so that no processor waits for one crate in the end. An edit takes longer the more crates are below its own.
     crates.sort(key=lambda crate: -len(rt.edits_of(crate)[0]) * (5 + len(crate.below())))
+    first, every = words.share
+    crates = crates[first - 1 :: every]
     with ThreadPoolExecutor(words.jobs) as pool:
         given = list(pool.map(lambda crate: report(crate, words), crates))
     edits = [edit for tried, _, _, _ in given for edit in tried]
