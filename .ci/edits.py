@@ -50,9 +50,10 @@ GOAL = re.compile(r"note: (?:\./)?(src/\S+?):(\d+):\d+: (.*?\(`([^`]+)`\).*)")
 ALLOWED_FALSE = "the facts known there allow values at which this goal is false"
 # A law of an impl that isn't proved, with its name.
 LAW = re.compile(r"(?:\./)?(src/\S+?):(\d+):\d+: error: ()`([^`]+)`: ")
-# A hand-written proof that fails, and words that say that it only names what the edit took away.
+# A hand-written proof that fails, and words that say that it only names what the edit took away. Of a record with a long name the prover's
+# words are cut: "record `..` (nearest: ..)", without "has no field".
 OF_A_PROOF = re.compile(r"(?:\./)?(proofs/\S+?):\d+:\d+: error: (?:`([^`]+)`: )?(.*)")
-NAMES_ALONE = re.compile(r"has no field|has no `|is not in scope|was not admitted|that can be named")
+NAMES_ALONE = re.compile(r"has no field|has no `|is not in scope|was not admitted|that can be named|^record `")
 
 # Of a function, a type, an impl or a law, that it isn't proved.
 NOT_SHOWN = re.compile(r"\w+ \S+: (not proved|no proof|could not tell)")

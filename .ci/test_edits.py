@@ -46,6 +46,15 @@ pub fn added(count: u32) -> u32
     let middle = two_more(count);
     middle
 }
+
+/// A number with two added, by hand, in a function with a long name: what the prover says of its records is cut.
+pub fn added_in_a_function_whose_name_is_long_enough_for_a_cut(count: u32) -> u32
+    requires { count ≤ 20 }
+    ensures { result ≡ count + 2 }
+{
+    let sum = two_more(count);
+    sum
+}
 """
 
 PROOF = """use Rattle.std.proofs.Common.{rules, ◌≡◌, ◌+◌, ◌≤◌, ℕ}
@@ -54,6 +63,8 @@ use Rattle.tried.proofs.added.Goals as goal
 pub returns : goal.returns
 returns c = c.two_more-middle.ensures
 """
+LONG = "added_in_a_function_whose_name_is_long_enough_for_a_cut"
+PROOF_OF_LONG = PROOF.replace("added", LONG).replace("middle", "sum")
 
 # Of each edit its pairs, whether it counts as refused, and what is said of it.
 EDITS = {
@@ -66,13 +77,19 @@ EDITS = {
     "gives_a_part_another_name": ("let part = share(count);", "let part = share(count); let piece = part;", False, "still proved with"),
     "gives_the_middle_another_name": ("let middle = two_more(count);", "let middle = two_more(count.min(20));", False, "hand-written"),
     "adds_two_to_half_of_a_number": ("let middle = two_more(count);", "let middle = two_more(count / 2);", True, "false where"),
+    "takes_away_a_call": ("let middle = two_more(count);", "let middle = count + 1;", False, "only names in"),
+    "takes_away_a_call_by_a_long_name": ("let sum = two_more(count);", "let sum = count + 1;", False, "only names in"),
     "looks_for_what_is_gone": ("count + 7", "count + 8", False, "and not once"),
     "promises_less": ("ensures most { result ≤ 10 }", "ensures most { result ≤ 9 }", False, "a contract"),
     "does_not_read": ("    middle", "    middle + + 1", False, "BAD EDIT"),
 }
 
 # The witness that stands in an edit.
-WITNESSES = {"adds_two_to_half_of_a_number": "the number is 2: 3 comes in place of 4"}
+WITNESSES = {
+    "adds_two_to_half_of_a_number": "the number is 2: 3 comes in place of 4",
+    "takes_away_a_call": "the number is 2: 3 comes in place of 4",
+    "takes_away_a_call_by_a_long_name": "the number is 2: 3 comes in place of 4",
+}
 
 
 def written(root):
@@ -82,6 +99,7 @@ def written(root):
         root / "HANDLES": "Handles allowed: none.\n",
         crate / "src/lib.rt": SOURCE,
         crate / "proofs/added/Answers.antt": PROOF,
+        crate / f"proofs/{LONG}/Answers.antt": PROOF_OF_LONG,
     }.items():
         name.parent.mkdir(parents=True, exist_ok=True)
         name.write_text(text)
