@@ -1,8 +1,9 @@
 """Runs the program with each of its allocations refused in turn, and wants want of memory told as just that.
 
 A run with an allocation refused has to end as one without (the C library can do without some of its own), or with status 1,
-`fault: memory` on standard error and nothing on standard output. A picture is then the same as without, or there is none. Of `abt threads` the lines before may stay, and a thread that isn't
-started for want of memory is `fault: Thread`; its allocations come in no fixed order, so of these only some are tried.
+`fault: memory` on standard error and nothing on standard output. A picture is then the same as without, or there is none. Of `abt threads`
+the lines before may stay, and a thread that isn't started for want of memory is `fault: Thread`; its allocations come in no fixed order, so
+of these only some are tried. It is run once more with each later allocation refused too: what ends its threads must then do without.
 
 usage: refusals.py [PROGRAM]    of this program, else the one that `./abt --prove` makes
 """
@@ -67,10 +68,15 @@ COMMANDS = [
 ]
 THREADS = (["threads", "threads_one_source.toml", "--workers", "1"], b"")
 DRAWN_THREADS = (["draw", "threads_one_source.toml", "--workers", "1", "-o", "PICTURE.svg"], b"")
+# Each later allocation is refused too.
+LASTING = {"FAULTS_LASTING": "1"}
+TRIALS = [*((command, {}) for command in COMMANDS), (THREADS, {}), (DRAWN_THREADS, {}), (THREADS, LASTING)]
 THREADS_TRIED = 400
 MOST_TRIED = 5_000
 AT_ONCE = 2
 BATCH = 32
+SECONDS = 60
+HANG = ("", f"no end after {SECONDS} seconds", None, {})
 
 
 def run(program, preload, command, **more):
@@ -78,7 +84,10 @@ def run(program, preload, command, **more):
     environment = {"LD_PRELOAD": str(preload), **more}
     with tempfile.TemporaryDirectory(prefix="refusals.") as room:
         words = [word.replace("PICTURE", f"{room}/picture") if isinstance(word, str) else word for word in words]
-        done = subprocess.run([program, *words], cwd=FOLDER, input=text, capture_output=True, timeout=60, env=environment)
+        try:
+            done = subprocess.run([program, *words], cwd=FOLDER, input=text, capture_output=True, timeout=SECONDS, env=environment)
+        except subprocess.TimeoutExpired:
+            return HANG
         drawn = {file.suffix: file.read_text() for file in Path(room).iterdir()}
     if command is DRAWN_THREADS:
         # A run in threads goes otherwise each time: that its picture is whole must do.
@@ -86,23 +95,23 @@ def run(program, preload, command, **more):
     return done.stdout.decode(), done.stderr.decode(), done.returncode, drawn
 
 
-def refused(program, preload, folder, command, number):
+def refused(program, preload, folder, command, more, number):
     """How a command ends with this allocation refused, if it has so many."""
     mark = Path(folder) / "refused" / str(number)
-    end = run(program, preload, command, FAULTS_ALLOCATION=str(number), FAULTS_AT=str(mark))
+    end = run(program, preload, command, FAULTS_ALLOCATION=str(number), FAULTS_AT=str(mark), **more)
     return end if mark.exists() else None
 
 
-def ends_of(program, preload, folder, command, most):
-    """How a command ends with each of its allocations refused in turn."""
+def ends_of(program, preload, folder, command, more, most):
+    """How a command ends with each of its allocations refused in turn, up to those tried at a time of which one doesn't end."""
     ends = []
     (Path(folder) / "refused").mkdir()
     with ThreadPoolExecutor(AT_ONCE) as pool:
         while len(ends) < most:
             numbers = range(len(ends) + 1, len(ends) + 1 + BATCH)
-            batch = list(pool.map(lambda number: refused(program, preload, folder, command, number), numbers))
+            batch = list(pool.map(lambda number: refused(program, preload, folder, command, more, number), numbers))
             ends += [end for end in batch if end is not None]
-            if None in batch:
+            if None in batch or HANG in batch:
                 break
     shutil.rmtree(Path(folder) / "refused")
     return ends
@@ -114,7 +123,7 @@ def beginnings(text):
     return ["".join(lines[:count]) for count in range(len(lines))]
 
 
-def faults(program, preload, folder, command):
+def faults(program, preload, folder, command, more):
     """The refusals of a command that end otherwise, how many there are, and how many are told."""
     without = run(program, preload, command)
     with_threads = command in (THREADS, DRAWN_THREADS)
@@ -125,7 +134,7 @@ def faults(program, preload, folder, command):
         allowed += [(without[0], MEMORY, 1, {}), (without[0], without[1] + MEMORY, 1, {}), ("", MEMORY, 1, without[3])]
     if with_threads:
         allowed.append(("", "fault: Thread\n", 1, {}))
-    ends = ends_of(program, preload, folder, command, THREADS_TRIED if with_threads else MOST_TRIED)
+    ends = ends_of(program, preload, folder, command, more, THREADS_TRIED if with_threads else MOST_TRIED)
     others = [(number, end) for number, end in enumerate(ends, 1) if end != without and end not in allowed]
     return others, len(ends), sum(end in allowed for end in ends)
 
@@ -137,16 +146,17 @@ def main(program):
         if preload is None:
             print("refusals: not run, as there is no C compiler")
             return
-        for command in [*COMMANDS, THREADS, DRAWN_THREADS]:
-            others, count, memory = faults(program, preload, folder, command)
+        for command, more in TRIALS:
+            others, count, memory = faults(program, preload, folder, command, more)
             tried += count
             told += memory
+            lasting = " and all after it" if more else ""
             for number, end in others[:5]:
-                print(f"refusals: {command[0]}, allocation {number} of {count}: {end!r}")
+                print(f"refusals: {command[0]}, allocation {number} of {count}{lasting}: {end!r}")
             wrong += len(others)
             if not memory:
                 wrong += 1
-                print(f"refusals: {command[0]}: no refusal of {count} is told")
+                print(f"refusals: {command[0]}: no refusal of {count}{lasting} is told")
     print(f"refusals: {tried} allocations refused, {told} told as want of memory, {wrong} otherwise")
     sys.exit(1 if wrong else 0)
 
