@@ -3,7 +3,7 @@
 A run with an allocation refused has to end as one without (the C library can do without some of its own), or with status 1,
 `fault: memory` on standard error and nothing on standard output. A picture is then the same as without, or there is none. Of `abt threads`
 the lines before may stay, and a thread that isn't started for want of memory is `fault: Thread`; its allocations come in no fixed order, so
-of these only some are tried. It is run once more with each later allocation refused too: what ends its threads must then do without.
+of these only some are tried. It is tried once more with each later allocation refused too, and has to end then as well.
 
 usage: refusals.py [PROGRAM]    of this program, else the one that `./abt --prove` makes
 """
@@ -84,10 +84,7 @@ def run(program, preload, command, **more):
     environment = {"LD_PRELOAD": str(preload), **more}
     with tempfile.TemporaryDirectory(prefix="refusals.") as room:
         words = [word.replace("PICTURE", f"{room}/picture") if isinstance(word, str) else word for word in words]
-        try:
-            done = subprocess.run([program, *words], cwd=FOLDER, input=text, capture_output=True, timeout=SECONDS, env=environment)
-        except subprocess.TimeoutExpired:
-            return HANG
+        done = subprocess.run([program, *words], cwd=FOLDER, input=text, capture_output=True, timeout=SECONDS, env=environment)
         drawn = {file.suffix: file.read_text() for file in Path(room).iterdir()}
     if command is DRAWN_THREADS:
         # A run in threads goes otherwise each time: that its picture is whole must do.
@@ -96,14 +93,17 @@ def run(program, preload, command, **more):
 
 
 def refused(program, preload, folder, command, more, number):
-    """How a command ends with this allocation refused, if it has so many."""
+    """How a command ends with this allocation refused, if it has so many; `HANG` also if it doesn't end though none is refused."""
     mark = Path(folder) / "refused" / str(number)
-    end = run(program, preload, command, FAULTS_ALLOCATION=str(number), FAULTS_AT=str(mark), **more)
+    try:
+        end = run(program, preload, command, FAULTS_ALLOCATION=str(number), FAULTS_AT=str(mark), **more)
+    except subprocess.TimeoutExpired:
+        return HANG
     return end if mark.exists() else None
 
 
 def ends_of(program, preload, folder, command, more, most):
-    """How a command ends with each of its allocations refused in turn, up to those tried at a time of which one doesn't end."""
+    """How a command ends with each of its allocations refused in turn. No more are tried behind a batch in which one run doesn't end."""
     ends = []
     (Path(folder) / "refused").mkdir()
     with ThreadPoolExecutor(AT_ONCE) as pool:
