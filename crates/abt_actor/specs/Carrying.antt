@@ -1,4 +1,4 @@
--- What a command makes of an actor.
+-- Actors after commands.
 use Rattle.std.specs.Prelude.{◌≡◌, ◌++◌, List}
 use Rattle.abt_cell.specs.Channel.{Channel}
 use Rattle.abt_facts.specs.declared.fact.Fact.{Fact}
@@ -7,13 +7,13 @@ use Rattle.abt_actor.specs.Actor.{ActorView, actor_of}
 use Rattle.abt_actor.specs.Commands.{command_answer, command_adds}
 use Rattle.abt_model.specs.declared.outcome.Outcome.{Outcome}
 
--- what a command makes of the actor that such facts give: what it answers, the facts that it adds, and the actor after it
+-- a command to the actor that such facts give: its outcome, the facts that it adds, and the actor after it
 pub record IsCarried (vc : Channel) (facts : List Fact) (command : SourceCommand) (outcome : Outcome) (added : List Fact) (after : ActorView) : Type 0 where
   pub answer : outcome ≡ command_answer vc facts command
   pub adds : added ≡ command_adds facts command outcome
   pub becomes : after ≡ actor_of vc (added ++ facts)
 
--- the same, of all facts that give the actor
+-- The actor carries the command out so, of all facts that give it.
 abbrev pub Carries : ActorView → SourceCommand → Outcome → List Fact → ActorView → Type 0
 Carries actor command outcome added after =
     (vc : Channel) (facts : List Fact) → actor ≡ actor_of vc facts → IsCarried vc facts command outcome added after

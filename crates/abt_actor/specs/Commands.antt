@@ -29,7 +29,7 @@ heard_by vc facts Down answer = Ignored
 heard_by vc facts Idle answer = Ignored
 heard_by vc facts (Asking seq) answer = if same_terms (request_of vc facts seq) answer.terms then hearing answer.granted else Ignored
 
--- what the source of a connection answers
+-- the outcome of a command of a connection's source
 abbrev pub command_answer : Channel → List Fact → SourceCommand → Outcome
 command_answer vc facts (Start now) = start_answer (state_of facts) facts now
 command_answer vc facts (Ask rate plan) = if_up (state_of facts) (ask_answer vc facts rate plan)

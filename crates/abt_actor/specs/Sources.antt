@@ -33,7 +33,7 @@ actor_in running kept cells clock = record { source = source_in running; state =
 abbrev pub goes_from : AnySource → ℕ → Result (SourceView × Terms) (AnySource × AskFault)
 goes_from running rate = Ok (asking_source (source_in running) (next_request (source_in running) rate), next_request (source_in running) rate)
 
--- what an ask of a source that is up answers, and its store after it
+-- the result of an ask of a source that is up, and its store after it
 abbrev pub asked_by : AnySource → ℕ → Result (Unit {0}) StoreFault × StoreView → Result (SourceView × Terms) (AnySource × AskFault) × StoreView
 asked_by running rate (Ok _, store) = (goes_from running rate, store)
 asked_by running rate (Err _, store) = (Err (running, Keep), store)

@@ -63,7 +63,8 @@ impl SourceActor {
         outcome
     }
 
-    /// The same, with the facts that the command adds to those of the connection.
+    /// Carries out a command as [`SourceActor::step`] does, and gives the facts that it adds to those of the
+    /// connection too.
     pub fn carry_out(&mut self, command: &SourceCommand) -> (Outcome, Added)
         ensures { Carries self.old command.now result.0 (facts_in result.1) self.new }
     {

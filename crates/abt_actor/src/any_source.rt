@@ -53,7 +53,7 @@ impl AnySource {
         }
     }
 
-    // The record that an ask has to write, if it has to write one, where it is up.
+    // The record that an ask has to write, if it has to write one, if it is up.
     pub(crate) fn record_to_write(&self, rate: Rate) -> Option<Record>
         requires { state_in self.now ≢ state.Down }
         ensures { result ≡ (if has_to_write (source_in self.now) rate
@@ -66,7 +66,7 @@ impl AnySource {
         }
     }
 
-    // Asks, where it is up.
+    // Asks, if it is up.
     pub(crate) fn ask(
         self,
         store: &mut MemoryStore,
@@ -93,7 +93,7 @@ impl AnySource {
         }
     }
 
-    // Emits a cell, where it is up.
+    // Emits a cell, if it is up.
     pub(crate) fn emit(&mut self, now: u64) -> Result<u64, ShapeFault>
         requires { state_in self.old ≢ state.Down }
         ensures value { result ≡ result_of_emission (source_in self.old) now }
@@ -117,7 +117,7 @@ impl AnySource {
         }
     }
 
-    // Crashes, where it is up.
+    // Crashes, if it is up.
     pub(crate) fn crash(self) -> Source<Down>
         requires { state_in self ≢ state.Down }
         ensures value { result ≡ crashed_source (source_in self) }

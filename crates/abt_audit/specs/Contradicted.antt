@@ -1,4 +1,4 @@
--- That the protocol answers otherwise where an entry mismatches.
+-- An entry that mismatches isn't the protocol's answer.
 use Rattle.std.specs.Prelude.{◌≡◌, ◌≢◌, ℕ, List, Some, slice_get}
 use Rattle.abt_net.specs.declared.conn.Conn.{Conn}
 use Rattle.abt_net.specs.Topology.{Topology, conn_at}
@@ -19,7 +19,7 @@ PortsAreContradicted net journals =
     (p place : ℕ) (entries : List Entry) (entry : Entry) → IsWeaveFault net journals (Mismatch (Port p) place)
     → slice_get journals.ports p ≡ Some entries → slice_get entries place ≡ Some entry → port_answer net p entries place ≢ Some entry.reply
 
--- If the entry of a source is named as a mismatch, what came of it isn't what is told as the source's answer.
+-- If the entry of a source is named as a mismatch, its outcome isn't what is told as the source's.
 abbrev pub SourcesAreContradicted : Topology → RunJournals → Type 0
 SourcesAreContradicted net journals =
     (c place : ℕ) (conn : Conn) (journal : SourceJournal) (event : Event) (told : Outcome) → IsWeaveFault net journals (Mismatch (Source c) place)

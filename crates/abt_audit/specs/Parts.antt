@@ -1,4 +1,4 @@
--- What journals that aren't woven are up to the entries at which they are stuck (docs/PICTURES.md, "Drawing").
+-- The events of journals before the entries at which they are stuck (docs/PICTURES.md, "Drawing").
 use Rattle.std.specs.Prelude.{◌≡◌, ◌≢◌, ℕ, List, [], ◌∷◌, take, flat_map, slice_set, slice_index_or, String}
 use Rattle.std.specs.declared.alloc.Global.{Global}
 use Rattle.abt_text.specs.Text.{Text}
@@ -64,12 +64,13 @@ abbrev pub NamesEachOnce : List Stuck → Type 0
 NamesEachOnce [] = Unit {0}
 NamesEachOnce (stuck ∷ more) = IsOfNone stuck.actor more × NamesEachOnce more
 
--- The first fault is that of the journals, and each other one that of what the ones before it leave of them.
+-- The first fault is that of the journals, and each later one is the fault of what the earlier ones leave of them.
 abbrev pub AreFaults : Topology → RunJournals → List WeaveFault → Type 0
 AreFaults net journals [] = Unit {0}
 AreFaults net journals (fault ∷ faults) = IsWeaveFault net journals fault × AreFaults net (cut_all journals (named_in fault)) faults
 
--- The events are just what the journals say before the entries at which they are stuck, which are those that their faults name.
+-- The events are those of the journals before the entries at which they are stuck, which are those that their faults
+-- name.
 pub record IsWovenPart (net : Topology) (journals : RunJournals) (part : WovenPart) : Type 0 where
   pub faults : List WeaveFault
   pub are_faults : AreFaults net journals faults

@@ -1,4 +1,4 @@
--- What `abt audit` leaves, by its exit status.
+-- The output of `abt audit`, by its exit status.
 use Rattle.std.specs.Prelude.{◌≡◌, ◌⊎◌, ⊤, List, None, Some, Option, String, codes}
 use Rattle.std.specs.declared.alloc.Global.{Global}
 use Rattle.abt_weave.specs.Faults.{IsWeaveFault, SaysNoneIsWoven}
@@ -25,7 +25,7 @@ use Rattle.abt_audit.specs.declared.auditing.AuditedRun.{AuditedRun}
 use Rattle.abt_audit.specs.declared.fault.AuditFault.{AuditFault}
 use Rattle.abt_audit.specs.declared.fault.AuditFault.TheVariants as fault
 
--- what goes out where an audit shows all
+-- what goes out if an audit shows all
 abbrev pub shown_text : Text
 shown_text = codes "woven" ⋅ newline ⋅ codes "safe" ⋅ newline
 
@@ -58,7 +58,7 @@ EndsBy names lefts why old new =
     ⊎ ((why ≡ fault.Memory) × Keeps old new)
     ⊎ ((why ≡ fault.Write) × IsShown lefts × AppendsPrefix old new shown_text)
 
--- what a fault of a text is to an audit, by its cause
+-- the fault of an audit for a fault of a text, by its cause
 abbrev pub fault_by : TextFault → Cause → AuditFault
 fault_by why cause.Memory = fault.Memory
 fault_by why other = fault.Text why
@@ -66,7 +66,7 @@ fault_by why other = fault.Text why
 abbrev pub fault_of_text : TextFault → AuditFault
 fault_of_text why = fault_by why why.cause
 
--- what a fault of weaving is to the program
+-- the program's fault for a fault of weaving
 abbrev pub weave_fault : WeaveFault → program.Fault
 weave_fault (weave.Mismatch actor place) = program_fault.Mismatch
 weave_fault (weave.NoOrder stuck) = program_fault.NoOrder
@@ -101,7 +101,7 @@ abbrev pub run_in : AuditFault → Option Run
 run_in (fault.Stuck why lines run) = Some run
 run_in other = None
 
--- The same, and it hands out the run whose journals are stuck, if they are.
+-- The audit has a fault, which is told, and the run whose journals are stuck is handed out, if they are.
 pub record IsNotShownLeaving (names : List (String Global)) (lefts : List (Option Text)) (old new errors_old errors_new : Option Text) (left : Option Run) : Type 0 where
   pub fault : AuditFault
   pub ends : EndsBy names lefts fault old new

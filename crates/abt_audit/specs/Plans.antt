@@ -1,4 +1,4 @@
--- What the words of `abt audit` ask for.
+-- The plans that the words of `abt audit` ask for.
 use Rattle.std.specs.Prelude.{◌≡◌, ◌≢◌, List, [], map, Option, Some, option_map, unwrap_or, string_bytes, codes}
 use Rattle.clap.specs.declared.parser.matches.ArgMatches.{ArgMatches}
 use Rattle.clap.specs.Words.{found_of, first_value, matched_of, raw_values}

@@ -1,5 +1,5 @@
--- What the protocol answers where an entry stands (docs/JOURNALS.md, "Audits"): the reply of a port, or the outcome of a source, in the
--- state that the entries before it leave. Facts are those of one connection, the newest first.
+-- The protocol's answer for an entry (docs/JOURNALS.md, "Audits"): the reply of a port, or the outcome of a source,
+-- in the state that the entries before it leave. Facts are those of one connection, the newest first.
 use Rattle.std.specs.Prelude.{ℕ, ◌++◌, List, [], take, fold, Option, Some, None, option_map, option_and_then, slice_get, codes, String}
 use Rattle.std.specs.declared.alloc.Global.{Global}
 use Rattle.json.specs.Json.{Json}
@@ -40,7 +40,7 @@ abbrev pub port_answer : Topology → (p : ℕ) → List Entry → (place : ℕ)
 port_answer net p entries place =
     option_map (λ (entry : Entry). reply_by (replay (port_table net [] p) (take place entries)) entry.input) (slice_get entries place)
 
--- what a source answers to what it is to do; an answer that came home it hears by its number
+-- the outcome of a source for an event; it hears an answer that came home by its number
 abbrev pub own_answer : Channel → List Fact → SourceEvent → Outcome
 own_answer vc facts (Start now) = start_answer (state_of facts) facts now
 own_answer vc facts (Ask rate plan) = if_up (state_of facts) (ask_answer vc facts rate plan)
@@ -53,7 +53,7 @@ own_answer vc facts (Told seq granted) = HasTold (told_answer (state_of facts) s
 abbrev pub own_facts : Channel → List Fact → SourceEvent → List Fact
 own_facts vc facts event = facts_added facts (event_at_source 0 event) (own_answer vc facts event) ++ facts
 
--- the same of an event where it happens, and of an entry
+-- the facts of a source after an event, if it happens there, and after an entry
 abbrev pub facts_at : Channel → List Fact → Target → List Fact
 facts_at vc facts (target.Source c event) = own_facts vc facts event
 facts_at vc facts other = facts
@@ -70,11 +70,11 @@ abbrev pub answer_in : Channel → List Fact → SourceEntry → Option Outcome
 answer_in vc facts (Did event told) = answer_at vc facts (target_of event)
 answer_in vc facts other = None
 
--- the facts of a source that was to do all this, one thing after the other
+-- the facts of a source after these events, one after the other
 abbrev pub facts_through : Channel → List SourceEntry → List Fact
 facts_through vc entries = fold (facts_past vc) [] entries
 
--- the outcome of a source for the entry of a place, after what the entries before had it do
+-- the outcome of a source for the entry of a place, after the entries before
 abbrev pub source_answer : Channel → List SourceEntry → (place : ℕ) → Option Outcome
 source_answer vc entries place = option_and_then (answer_in vc (facts_through vc (take place entries))) (slice_get entries place)
 

@@ -38,19 +38,19 @@ IsSettled [] entries settled = settled ≡ entries
 IsSettled (place ∷ places) entries settled =
     IsSettled places (planned FailsBefore place entries) settled ⊎ IsSettled places (planned FailsAfter place entries) settled
 
--- what an entry tells that its source answered
+-- the outcome that an entry says its source had
 abbrev pub told_in : SourceEntry → Option Outcome
 told_in (Did event told) = Some told
 told_in (Sent place) = None
 told_in (Arrived cell place) = None
 
--- So many entries tell what the source answers, which has such facts before them.
+-- So many entries have the outcomes that the source gives, after such facts.
 abbrev pub FitsFrom : Channel → List Fact → List SourceEntry → ℕ → Type 0
 FitsFrom vc facts entries zero = Unit {0}
 FitsFrom vc facts [] (suc n) = ⊥
 FitsFrom vc facts (entry ∷ entries) (suc n) = (answer_in vc facts entry ≡ told_in entry) × FitsFrom vc (facts_past vc facts entry) entries n
 
--- the same of a whole journal
+-- So many entries of a whole journal have the outcomes that the source gives.
 abbrev pub FitsTo : Channel → List SourceEntry → ℕ → Type 0
 FitsTo vc entries n = FitsFrom vc [] entries n
 
@@ -76,8 +76,8 @@ pub record IsNeeded (vc : Channel) (place : ℕ) (next : List ℕ) (entries sett
   pub fits : FitsTo vc settled count
   pub not_before : (other : List SourceEntry) → IsSettled next (planned FailsBefore place entries) other → FitsTo vc other count → ⊥
 
--- However the writes of a place and of the next ones are settled, as many entries fit where that of the place is settled so; and it is taken
--- as stored only where it has to be.
+-- However the writes of a place and of the next ones are settled, as many entries fit if that of the place is settled
+-- so; and it is taken as stored only if it has to be.
 pub record Prefers (vc : Channel) (place : ℕ) (next : List ℕ) (entries : List SourceEntry) (plan : StorePlan) : Type 0 where
   pub failed : (plan ≡ FailsBefore) ⊎ (plan ≡ FailsAfter)
   pub as_far : (other : List SourceEntry) (n : ℕ) → IsSettled (place ∷ next) entries other → FitsTo vc other n
@@ -85,7 +85,7 @@ pub record Prefers (vc : Channel) (place : ℕ) (next : List ℕ) (entries : Lis
   pub needed : plan ≡ FailsAfter
       → (settled : List SourceEntry) × IsSettled next (planned FailsAfter place entries) settled × IsNeeded vc place next entries settled
 
--- However else the writes of these places are settled, as many entries fit where they are settled so.
+-- However else the writes of these places are settled, no more entries fit than if they are settled so.
 abbrev pub FitsAsFar : Channel → List ℕ → List SourceEntry → List SourceEntry → Type 0
 FitsAsFar vc places entries settled = (other : List SourceEntry) (n : ℕ) → IsSettled places entries other → FitsTo vc other n → FitsTo vc settled n
 
@@ -95,8 +95,8 @@ StoredIfNeeded vc [] entries settled = settled ≡ entries
 StoredIfNeeded vc (place ∷ places) entries settled = StoredIfNeeded vc places (planned FailsBefore place entries) settled
     ⊎ (StoredIfNeeded vc places (planned FailsAfter place entries) settled × IsNeeded vc place places entries settled)
 
--- The writes of these places are settled, and if there are few of them, so that as many entries fit as can, and that none is taken as stored
--- which doesn't have to be.
+-- The writes of these places are settled. If they are few, as many entries fit as can, and each that is taken as
+-- stored has to be.
 pub record SettlesSource (vc : Channel) (places : List ℕ) (entries settled : List SourceEntry) : Type 0 where
   pub settles : IsSettled places entries settled
   pub farthest : length places ≤ together → FitsAsFar vc places entries settled

@@ -9,7 +9,7 @@ use Rattle.abt_weave.specs.Woven.{IsWoven}
 use Rattle.abt_journal_text.specs.declared.open_write.OpenWrite.{OpenWrite}
 use Rattle.abt_audit.specs.Settling.{AreSettled, IsSettled, FitsTo, places_on, together}
 
--- A source has few open writes, and its settled journal doesn't tell to its end what the source answers.
+-- A source has few open writes, and not all entries of its settled journal have the outcomes that the source gives.
 pub record IsUnfit (net : Topology) (open_writes : List OpenWrite) (c : ℕ) (conn : Conn) (settled : SourceJournal) : Type 0 where
   pub known : conn_at net c ≡ Some conn
   pub few : length (places_on c open_writes) ≤ together

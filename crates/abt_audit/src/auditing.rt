@@ -10,28 +10,28 @@ use abt_weave::{WeaveFault, weave};
 use abt_world::run;
 use std::alloc::{AllocError, Global};
 
-/// The one list of events that journals are, and its trace.
+/// The events of journals, and their trace.
 #[derive(Debug, Drop)]
 pub struct Audited {
     /// The events, in an order in which they can have happened.
     pub events: Sequence<Event>,
-    /// What they answer, and what they leave.
+    /// Their outcomes, and what they leave.
     pub trace: Trace,
 }
 
-/// A net, and what journals over it are.
+/// A net, and the events of journals over it.
 #[derive(Debug, Drop)]
 pub struct AuditedRun {
     /// The net.
     pub net: Net,
-    /// The events that the journals are, and their trace.
+    /// The events of the journals, and their trace.
     pub audited: Audited,
 }
 
 /// Weaves the journals of a run into events, and runs these.
 ///
 /// # Errors
-/// As [`weave`] has them; also [`WeaveFault::Memory`] where memory is refused for the trace.
+/// As [`weave`] has them; also [`WeaveFault::Memory`] if memory is refused for the trace.
 pub fn audit(alloc: Global, told: &Run) -> Result<Audited, WeaveFault>
     requires ports { length told.now.journals ≡ length told.now.net.capacities }
     requires sources { length told.now.sources.items ≡ length told.now.net.conns }

@@ -17,7 +17,7 @@ const EVENTS: &str = "events";
 /// The file for a picture of its events.
 pub const DRAW: &str = "draw";
 
-// What is shown of them.
+// The connections that the picture shows.
 const ONLY: &str = "only";
 
 const FROM: &str = "from";
@@ -118,7 +118,7 @@ fn copied(alloc: Global, names: &[&str]) -> Result<Vec<String>, AllocError>
     Ok(files)
 }
 
-/// The same, if the words name a file for the events; else `None`.
+/// The plan of an audit whose words name a file for the events, or `None` if they name none.
 pub fn sample_plan_of(
     alloc: Global,
     name: &str,

@@ -1,4 +1,4 @@
-//! What is proved of what is told at a mismatch, and of open writes.
+//! Laws of mismatches, and of open writes.
 ghost use Rattle.std.specs.Prelude.{List};
 ghost use Rattle.abt_journal.specs.declared.entry.Entry.{Entry};
 ghost use Rattle.abt_journal_text.specs.declared.open_write.OpenWrite.{OpenWrite};
@@ -17,8 +17,8 @@ pub fn mismatches_are_contradicted()
     ensures sources { (net : Topology) (journals : RunJournals) → SourcesAreContradicted net journals }
 {}
 
-/// If a source has few open writes, and its journal doesn't tell to its end what the source answers once they are settled, no list of
-/// events is woven from the journals in whatever way they are settled.
+/// If a source has few open writes, and not all entries of its settled journal have the outcomes that the source
+/// gives, no list of events is woven from the journals in whatever way they are settled.
 ///
 /// This is a law and does nothing.
 pub fn each_way_is_tried()

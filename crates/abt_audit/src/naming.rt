@@ -1,4 +1,4 @@
-//! The names of what is wrong with lines.
+//! The names of the faults of lines.
 ghost use Rattle.std.specs.Prelude.{◌≡◌, IfOk, string_bytes};
 ghost use Rattle.abt_audit.specs.Names.{cause_name, line_name};
 ghost use Rattle.abt_perform.specs.Names.{fault_name};
@@ -8,7 +8,7 @@ use abt_perform::Fault;
 use abt_scenario::ScenarioFault;
 use std::alloc::{AllocError, Global};
 
-// The name of what is wrong with a line (docs/JOURNALS.md, "Faults").
+// The name of the fault of a line (docs/JOURNALS.md, "Faults").
 pub(crate) fn cause_text(alloc: Global, cause: Cause) -> Result<String, AllocError>
     ensures { IfOk result (λ text. string_bytes text ≡ cause_name cause) }
 {
@@ -30,7 +30,7 @@ pub(crate) fn cause_text(alloc: Global, cause: Cause) -> Result<String, AllocErr
     }
 }
 
-// The name of why a line is none of a journal.
+// The name of the reason why a line is no line of a journal.
 fn line_text(alloc: Global, fault: LineFault) -> Result<String, AllocError>
     ensures { IfOk result (λ text. string_bytes text ≡ line_name fault) }
 {

@@ -1,4 +1,4 @@
-//! What a source answers where an entry stands.
+//! The outcome of a source for an entry.
 ghost use Rattle.std.specs.Prelude.{◌≡◌, List};
 ghost use Rattle.abt_actor.specs.Actor.{actor_of};
 ghost use Rattle.abt_cell.specs.Channel.{Channel};
@@ -68,7 +68,8 @@ fn actor_after(vc: Vc, entries: &[SourceEntry]) -> SourceActor
     actor
 }
 
-// The outcome of a source for the entry of a place, after what the entries before had it do; None where the entry isn't of what it did.
+// The outcome that a source gives for the entry of a place, after the entries before it; `None` if the entry is no
+// deed of the source.
 pub(crate) fn source_answer(vc: Vc, entries: &[SourceEntry], place: u64) -> Option<Outcome>
     ensures { result ≡ spec.source_answer vc entries.now place }
 {

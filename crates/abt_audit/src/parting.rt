@@ -15,7 +15,7 @@ use abt_net::Net;
 use abt_weave::{Actor, Stuck, WeaveFault, weave};
 use std::alloc::{AllocError, Global};
 
-/// What journals are up to the entries at which they are stuck.
+/// The events of journals before the entries at which they are stuck.
 #[derive(Debug, Drop)]
 pub struct WovenPart {
     /// The events, in an order in which they can have happened.

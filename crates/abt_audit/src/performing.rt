@@ -25,7 +25,7 @@ use abt_weave::WeaveFault;
 use std::alloc::{AllocError, Global};
 use std::io::{Read, Write};
 
-/// Audits the texts that some readers have left, and gives the exit status: 0 where all lines went out to `writer`, and 1 where `errors`
+/// Audits the texts that some readers have left, and gives the exit status: 0 if all lines went out to `writer`, and 1 if `errors`
 /// tells why not. What can't be written there changes no status. The names of the texts are for what is told.
 pub fn perform_audit<R: Read + Drop, W: Write, E: Write>(
     alloc: Global,
@@ -119,7 +119,7 @@ fn audit_texts<R: Read + Drop, W: Write>(
     }
 }
 
-// What a fault of a text is to an audit.
+// The fault of an audit for a fault of a text.
 fn fault_of_text(fault: TextFault) -> AuditFault
     ensures value { result ≡ spec.fault_of_text fault }
     ensures either { (result ≡ audit_fault.Memory) ⊎ (result ≡ audit_fault.Text fault) }

@@ -1,6 +1,6 @@
-//! What is asked for.
+//! The plans of `abt audit`.
 
-/// What texts are to be audited.
+/// The texts that are to be audited.
 #[derive(Drop)]
 pub enum AuditPlan {
     /// That of an input that is there.

@@ -1,4 +1,4 @@
-//! What the protocol answers where an entry stands.
+//! The protocol's answers for entries.
 ghost use Rattle.std.specs.Prelude.{◌≡◌, ◌<◌, [], codes, length, option_map, IfOk, OnOk};
 ghost use Rattle.abt_entry.specs.EntryWritten.{reply_json, outcome_json};
 ghost use Rattle.abt_journal.specs.Replay.{reply_by, table_after, replay};
@@ -133,7 +133,7 @@ fn add_of_source(
     add_outcome(alloc, text, outcome)
 }
 
-// Adds what the protocol answers where an actor's entry of a place stands.
+// Adds the protocol's answer for an actor's entry of a place.
 pub(crate) fn add_protocol(
     alloc: Global,
     text: &mut Vec<u8>,

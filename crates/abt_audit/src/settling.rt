@@ -15,7 +15,7 @@ use std::alloc::{AllocError, Global};
 /// How many open writes behind one are tried with it.
 const AHEAD: usize = 7;
 
-// What an entry tells that its source answered.
+// The outcome that an entry says its source had.
 fn told_in(entry: &SourceEntry) -> Option<Outcome>
     ensures { result ≡ spec.told_in entry.now }
 {
@@ -31,7 +31,7 @@ fn is_same(one: Option<Outcome>, other: Option<Outcome>) -> bool
     one == other
 }
 
-// How many entries, from the first on, tell what the source of a connection answers to what they have it do.
+// How many entries, from the first on, have the outcomes that the source of a connection gives.
 fn reach(vc: Vc, entries: &[SourceEntry]) -> usize
     ensures { IsReach vc entries.now result }
 {
@@ -45,7 +45,7 @@ fn reach(vc: Vc, entries: &[SourceEntry]) -> usize
     entries.len()
 }
 
-// The plan of an ask; of what is no ask any would do.
+// The plan of an ask; for any other entry it doesn't matter.
 fn plan_of(entry: &SourceEntry) -> StorePlan
     ensures { result ≡ spec.plan_of entry.now }
 {
@@ -100,7 +100,8 @@ fn farthest(vc: Vc, entries: &mut [SourceEntry], places: &[u64]) -> usize
     before
 }
 
-// How the write of a place is settled, where those of the next ones are tried with it: it wasn't stored, unless more entries fit if it was.
+// How the write of a place is settled, with those of the next ones tried: it wasn't stored, unless more entries fit
+// if it was.
 fn plan_for(vc: Vc, entries: &mut [SourceEntry], place: usize, next: &[u64]) -> StorePlan
     requires { place < length entries.old }
     ensures same { entries.new ≡ entries.old }
@@ -161,7 +162,7 @@ fn places_of(
     Ok(places)
 }
 
-// The journal of the source of a connection, where the writes of these places are settled.
+// The journal of the source of a connection, with the writes of these places settled.
 fn settled_journal(
     alloc: Global,
     vc: Vc,

@@ -146,7 +146,7 @@ fn lines_of(
     Ok(text)
 }
 
-// The lines of the entries that a fault names, and what the protocol answers where one mismatches.
+// The lines of the entries that a fault names, and the protocol's answer if one mismatches.
 pub(crate) fn stuck_text(
     alloc: Global,
     names: &[String],

@@ -1,2 +1,3 @@
 mod Spacings
 mod TableLemmas
+pub mod Lives

@@ -5,3 +5,4 @@ pub mod Sources
 pub mod Ports
 pub mod Tables
 pub mod TableCells
+pub mod Lifetimes

@@ -1,4 +1,5 @@
--- The numbers that C gets for what a call answers (docs/C.md, "Outcomes"). Below 32 a call was carried out, from 32 on it was refused.
+-- The numbers that C gets for the results of calls (docs/C.md, "Outcomes"). Below 32 a call was carried out, from 32
+-- on it was refused.
 use Rattle.std.specs.Prelude.{ℕ}
 use Rattle.abt_cell.specs.declared.fault.RmFault.{RmFault}
 use Rattle.abt_cell.specs.declared.fault.RmFault.TheVariants.{NotRm, Crc, Protocol, Maintenance, Elastic, Direction, SeqZero, RateOrder}
@@ -127,7 +128,7 @@ not_kept = 70
 abbrev pub record_spacing : ℕ
 record_spacing = 71
 
--- of a port: the capacity is below the sum of what is held, or above its limit
+-- of a port: the capacity is below the sum of the holds, or above its limit
 abbrev pub below_sum : ℕ
 below_sum = 72
 

@@ -20,7 +20,7 @@ port_kind = 0x61627420706f7274
 abbrev pub connection_kind : ℕ
 connection_kind = 0x61627420636f6e6e
 
--- what a connection reserves
+-- the reservation of a connection
 abbrev pub reservation_in : AbtConnection → Reservation
 reservation_in c = record {
   newest = c.newest;
@@ -29,7 +29,7 @@ reservation_in c = record {
   is_open = if c.is_open == 0 then false else true;
 }
 
--- what it holds of the link
+-- the rate that it holds of the link
 abbrev pub held_in : AbtConnection → ℕ
 held_in c = held_by (reservation_in c)
 
@@ -52,11 +52,11 @@ IsCounted p c = IsPort p × IsConnection c × (held_in c ≤ p.total)
 abbrev pub port_after : AbtPort → (before after : ℕ) → AbtPort
 port_after p before after = record p { total = p.total - before + after }
 
--- what a request comes to: the reply, and what is reserved then
+-- the decision on a request: the reply, and the reservation then
 abbrev pub decision_at : AbtPort → AbtConnection → Terms → Onward × Reservation
 decision_at p c q = decision_of p.capacity (p.total - held_in c) (reservation_in c) q
 
--- what C gets for what becomes of a request, and of an answer
+-- what C gets for the decision on a request, and on an answer
 abbrev pub onward_number : Onward → ℕ
 onward_number onward.Pass = pass
 onward_number (onward.Refuse answer) = refuse

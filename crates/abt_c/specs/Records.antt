@@ -31,7 +31,7 @@ rm_in r =
     if r.kind == request_kind then Request (terms_in r)
     else Answer (record { terms = terms_in r; granted = r.kind == yes_kind })
 
--- the answer, where it is one
+-- the answer, if it is one
 abbrev pub reply_in : AbtRm → Reply
 reply_in r = record { terms = terms_in r; granted = r.kind == yes_kind }
 
@@ -61,7 +61,7 @@ HasSeq r = HasVpi r × (0 < r.seq)
 abbrev pub IsMessage : AbtRm → Type 0
 IsMessage r = HasSeq r × (units_of r.floor ≤ units_of r.ask)
 
--- What is of an answer: its kind, and what it lacks of one otherwise.
+-- What makes a record an answer: its kind, and what it lacks otherwise.
 abbrev pub HasAnswerKind : AbtRm → Type 0
 HasAnswerKind r = (r.kind ≡ yes_kind) ⊎ (r.kind ≡ no_kind)
 

@@ -9,12 +9,14 @@ use Rattle.abt_shaper.specs.declared.fault.ShapeFault.{ShapeFault}
 use Rattle.abt_shaper.specs.declared.fault.ShapeFault.TheVariants.{ClockBack, TimeRange, Zero, TooSoon}
 use Rattle.abt_source.specs.Calls.{asking_source, next_request}
 use Rattle.abt_source.specs.SourceView.{SourceView}
+use Rattle.abt_source.specs.declared.any.AnySource.{AnySource}
+use Rattle.abt_source.specs.declared.any.AnySource.TheVariants.{Down, Idle, Asking}
+use Rattle.abt_source.specs.declared.any.Phase.{Phase}
+use Rattle.abt_source.specs.declared.any.Phase.TheVariants as phase
 use Rattle.abt_source.specs.declared.answer.Answered.{Answered}
 use Rattle.abt_source.specs.declared.answer.Answered.TheVariants.{Raised, Refused, Ignored}
 use Rattle.abt_c.specs.Outcome.{done, raised, refused, ignored, clock_back, time_range, zero_rate, too_soon}
 use Rattle.abt_c.specs.declared.source_state.AbtSource.{AbtSource}
-use Rattle.abt_c.specs.declared.source_state.AnySource.{AnySource}
-use Rattle.abt_c.specs.declared.source_state.AnySource.TheVariants.{Down, Idle, Asking}
 
 -- eight letters, "abt sour"
 abbrev pub source_kind : ℕ
@@ -29,6 +31,13 @@ idle_phase = 1
 
 abbrev pub asking_phase : ℕ
 asking_phase = 2
+
+-- the phase that a word says, and the asked rate beside it
+abbrev pub phase_by : (word ask : ℕ) → Option Phase
+phase_by word ask =
+    if word == down_phase then Some phase.Down
+    else (if word == idle_phase then Some phase.Idle
+    else (if word == asking_phase then Some (phase.Asking ask) else None))
 
 abbrev pub vc_in : AbtSource → Channel
 vc_in s = record { vpi = s.vpi; vci = s.vci }
@@ -88,7 +97,7 @@ emission_number (Err TimeRange) = time_range
 emission_number (Err Zero) = zero_rate
 emission_number (Err (TooSoon next)) = too_soon
 
--- the moment that C has after a fault: the earliest one where it was too soon, and else what it had
+-- the moment that C has after a fault: the earliest one if it was too soon, and else what it had
 abbrev pub later_of : ShapeFault → (before : ℕ) → ℕ
 later_of (TooSoon next) before = next
 later_of ClockBack before = before

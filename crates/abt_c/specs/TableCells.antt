@@ -1,4 +1,4 @@
--- What a cell that comes to a port with a table comes to (docs/C.md, "A port with a table").
+-- The decision on a cell that comes to a port with a table (docs/C.md, "A port with a table").
 use Rattle.std.specs.Prelude.{◌≡◌, ◌≢◌, ◌↔◌, ℕ, List}
 use Rattle.abt_cell.specs.Codec.{request_of, written_of}
 use Rattle.abt_cell.specs.declared.message.Rm.{Rm}
@@ -19,7 +19,7 @@ IsDecided old new (Answer a) outcome row =
     let taken = answer_of (reservation_in (row_of old.rows row)) a in
     (outcome ≡ back_number taken.0) × (reservation_in (row_of new.rows row) ≡ taken.1)
 
--- What a message comes to, and the octets that are to be sent then: those before, if none are.
+-- The decision on a message, and the octets that are to be sent then: those before, if none are.
 pub record IsServed (said : Rm) (old new : AbtTable) (before after : List ℕ) (outcome : ℕ) : Type 0 where
   pub decided : IsTable old → (row : ℕ) → IsRowOf old (request_of said).vc row → IsDecided old new said outcome row
   pub unknown : IsTable old → (outcome ≡ drop_number UnknownVc) ↔ IsUnknown old (request_of said).vc

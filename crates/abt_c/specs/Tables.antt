@@ -29,7 +29,7 @@ row_of rows i = slice_index_or rows i no_connection
 abbrev pub channel_of : List AbtConnection → ℕ → Channel
 channel_of rows i = channel_in (row_of rows i)
 
--- the chain of a channel: its 28 bits times 2^32 over the golden ratio, of which the ten topmost of 32 bits count
+-- the chain of a channel: the ten topmost of 32 bits of its 28 bits times 2^32 over the golden ratio
 unfoldable pub chain_of : Channel → ℕ
 chain_of vc = (65536 * vc.vpi + vc.vci) * 2654435769 % 2 ^ 32 / 2 ^ 22
 

@@ -16,13 +16,13 @@ use crate::outcome::{
     SEQ_EXHAUSTED, WRITE_FIRST, WRITING, WRONG_KIND, WRONG_LENGTH,
 };
 use crate::record::AbtRm;
-use crate::source_state::{AbtSource, AnySource};
+use crate::source_state::AbtSource;
 use abt_cell::{Answer, Request, Rm};
 use abt_keep::MemoryStore;
 use abt_rate::Rate;
-use abt_source::{Answered, Asking, Source, Up};
+use abt_source::{Answered, AnySource, Asking, Source, Up};
 
-/// What became of a write, as C says it: it was made, it failed with nothing written, or it failed after all was.
+/// The outcome of a write, as C says it: it was made, it failed with nothing written, or it failed after all was.
 const WRITTEN: u32 = 1;
 
 const FAILED_AFTER: u32 = 3;
@@ -111,7 +111,7 @@ fn go_out<S: Up>(state: &mut AbtSource, source: Source<S>, rate: Rate, rm: &mut 
     ensures request { rm.new ≡ record_of (RequestRm (next_request (source_in state.old) rate)) }
 {
     let (source, request) = asked(source, rate);
-    state.set_asking(&source);
+    state.set(AnySource::Asking(source));
     *rm = AbtRm::of(&Rm::Request(request));
 }
 
@@ -217,6 +217,7 @@ pub extern "C" fn abt_raw_source_answer(state: &mut AbtSource, rm: &AbtRm) -> u3
         (result ≡ answer_number (result_of_answer (source_in state.old) (reply_in rm.now))) ×
         (source_in state.new ≡ heard_in (result_of_answer (source_in state.old) (reply_in rm.now))) }
     ensures state { IsSource state.old → IsSource state.new }
+    ensures ready { IsReady state.old → IsReady state.new }
     ensures same { (first_fault ≤ result) ⊎ (result ≡ ignored) → state.new ≡ state.old }
 {
     let Some(any) = state.any() else {
@@ -234,22 +235,23 @@ pub extern "C" fn abt_raw_source_answer(state: &mut AbtSource, rm: &AbtRm) -> u3
     }
 }
 
-// What an answer makes of a source that waits for one.
+// A source that waits for an answer, after one.
 fn heard(state: &mut AbtSource, source: Source<Asking>, answer: &Answer) -> u32
     requires source { source ≡ source_in state.old }
     ensures value { result ≡ answer_number (result_of_answer source answer.now) }
     ensures source { source_in state.new ≡ heard_in (result_of_answer source answer.now) }
     ensures state { IsSource state.old → IsSource state.new }
+    ensures ready { IsReady state.old → IsReady state.new }
     ensures same { result ≡ ignored → state.new ≡ state.old }
     ensures low { result < first_fault }
 {
     match source.answer(answer) {
         Answered::Raised(source) => {
-            state.set_idle(&source);
+            state.set(AnySource::Idle(source));
             RAISED
         }
         Answered::Refused(source) => {
-            state.set_idle(&source);
+            state.set(AnySource::Idle(source));
             REFUSED
         }
         Answered::Ignored(_) => IGNORED,

@@ -8,6 +8,7 @@ mod asking;
 mod bucket;
 mod cell;
 mod gcra;
+mod lifetime;
 mod outcome;
 mod policer;
 mod port;

@@ -1,4 +1,4 @@
-//! The numbers that C gets for what a call answers (docs/C.md, "Outcomes").
+//! The numbers that C gets for the results of calls (docs/C.md, "Outcomes").
 ghost use Rattle.std.specs.Prelude.{◌≡◌, ◌<◌, ◌≤◌, ◌↔◌};
 ghost use Rattle.abt_cell.specs.declared.fault.RmFault.TheVariants.{SeqZero, RateOrder};
 ghost use Rattle.abt_c.specs.Outcome.{verdict_number, rm_number, drop_number, clock_back, time_range, wrong_kind, vpi_range, first_fault};
@@ -120,7 +120,7 @@ pub fn of_drop(cause: DropCause) -> u32
     }
 }
 
-/// The number of what a record lacks of a message.
+/// The number of the first thing that a record lacks to be a message.
 pub fn of_lack(lack: Lacks) -> u32
     ensures kind { (result ≡ wrong_kind) ↔ (lack ≡ Lacks.Kind) }
     ensures vpi { (result ≡ vpi_range) ↔ (lack ≡ Lacks.Vpi) }

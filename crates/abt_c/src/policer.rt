@@ -31,7 +31,7 @@ pub extern "C" fn abt_raw_policer_init(state: &mut AbtPolicing, tau: u64) -> u32
     DONE
 }
 
-/// The verdict on a cell that arrives at a moment, where a rate of this code is held for its connection.
+/// The verdict on a cell that arrives at a moment, if a rate of this code is held for its connection.
 #[unsafe(no_mangle)]
 pub extern "C" fn abt_raw_policer_arrive(state: &mut AbtPolicing, at: u64, held: u16) -> u32
     ensures no_state { (result ≡ no_state) ↔ (¬ IsPolicing policer_kind state.old) }

@@ -17,7 +17,7 @@ use abt_cell::{Rm, Vc};
 use abt_node::{Back, DropCause, Onward};
 use abt_rate::CAPACITY_MAX;
 
-/// Makes a state that of a port of a link of which nothing is held, whatever it was before.
+/// Makes a state a port whose link has no holds, whatever it was before.
 #[unsafe(no_mangle)]
 pub extern "C" fn abt_raw_port_init(port: &mut AbtPort, capacity: u64) -> u32
     ensures done { (result ≡ done) ↔ (capacity ≤ capacity_max) }
@@ -151,7 +151,7 @@ pub extern "C" fn abt_raw_port_answer(
     }
 }
 
-/// Gives the link another capacity, in units, of which no less can be than is held.
+/// Sets the link's capacity, in units, to no less than what is held.
 #[unsafe(no_mangle)]
 pub extern "C" fn abt_raw_port_set_capacity(port: &mut AbtPort, capacity: u64) -> u32
     ensures no_state { (result ≡ no_state) ↔ (¬ IsPort port.old) }

@@ -98,7 +98,7 @@ impl AbtConnection {
         Rate::from_code(self.ask)
     }
 
-    /// What is held: the asked rate while the newest request is open, and else its floor.
+    /// The rate that is held: the asked rate while the newest request is open, and else its floor.
     pub fn held(&self) -> Rate
         ensures { result ≡ held_in self.now }
     {

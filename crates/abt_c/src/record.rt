@@ -93,7 +93,7 @@ impl AbtRm {
     /// The request that the record says.
     ///
     /// # Errors
-    /// The first that it lacks. The kind of an answer is none of a request.
+    /// The first thing that it lacks; the kind of an answer is one.
     pub fn asked(&self) -> Result<Request, Lacks>
         ensures ok { IsOk result ↔ IsRequest self.now }
         ensures value { IfOk result (λ request. request ≡ terms_in self.now) }
@@ -113,7 +113,7 @@ impl AbtRm {
     /// The answer that the record says.
     ///
     /// # Errors
-    /// The first that it lacks. The kind of a request is none of an answer.
+    /// The first thing that it lacks; the kind of a request is one.
     pub fn answer(&self) -> Result<Answer, Lacks>
         ensures ok { IsOk result ↔ IsAnswer self.now }
         ensures value { IfOk result (λ answer. answer ≡ reply_in self.now) }

@@ -27,7 +27,7 @@ pub extern "C" fn abt_raw_shaper_init(state: &mut AbtShaper, not_before: u64) ->
     DONE
 }
 
-/// Lets a cell leave now, at a rate of this code, and gives the earliest moment of the next one, also where it is too soon.
+/// Lets a cell leave now, at a rate of this code, and gives the earliest moment of the next one, also if it is too soon.
 #[unsafe(no_mangle)]
 pub extern "C" fn abt_raw_shaper_emit(
     state: &mut AbtShaper,

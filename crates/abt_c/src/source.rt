@@ -12,11 +12,11 @@ use crate::outcome::{
     CLOCK_BACK, DONE, DOWN, NO_STATE, RECORD_SPACING, RUNNING, TIME_RANGE, TOO_SOON, VPI_RANGE,
     WRITING, WRONG_LENGTH, ZERO_RATE,
 };
-use crate::source_state::{AbtSource, AnySource};
+use crate::source_state::AbtSource;
 use abt_cell::Vc;
 use abt_keep::{MemoryStore, Record, RecordFault};
 use abt_shaper::ShapeFault;
-use abt_source::{START_MAX, Source};
+use abt_source::{AnySource, START_MAX, Source};
 
 /// Makes a state that of the source of a connection to which nothing has happened, whatever it was before.
 #[unsafe(no_mangle)]
@@ -31,7 +31,7 @@ pub extern "C" fn abt_raw_source_init(state: &mut AbtSource, vpi: u16, vci: u16)
     let Some(vc) = Vc::new(vpi, vci) else {
         return VPI_RANGE;
     };
-    state.set_down(&Source::new(vc));
+    state.set(AnySource::Down(Source::new(vc)));
     DONE
 }
 
@@ -72,11 +72,11 @@ pub extern "C" fn abt_raw_source_start(state: &mut AbtSource, octets: &[u8], now
     let Ok(source) = source.start(&mut MemoryStore::with(kept), now) else {
         unreachable!()
     };
-    state.set_idle(&source);
+    state.set(AnySource::Idle(source));
     DONE
 }
 
-/// Emits a cell at a moment, at the present rate, and gives the earliest moment of the next one, also where it is too soon.
+/// Emits a cell at a moment, at the present rate, and gives the earliest moment of the next one, also if it is too soon.
 #[unsafe(no_mangle)]
 pub extern "C" fn abt_raw_source_emit(state: &mut AbtSource, now: u64, next: &mut u64) -> u32
     ensures no_state { (result ≡ no_state) ↔ (¬ IsSource state.old) }
@@ -99,14 +99,14 @@ pub extern "C" fn abt_raw_source_emit(state: &mut AbtSource, now: u64, next: &mu
         Some(AnySource::Idle(mut source)) => {
             let answer = source.emit(now);
             if answer.is_ok() {
-                state.set_idle(&source);
+                state.set(AnySource::Idle(source));
             }
             emission(answer, next)
         }
         Some(AnySource::Asking(mut source)) => {
             let answer = source.emit(now);
             if answer.is_ok() {
-                state.set_asking(&source);
+                state.set(AnySource::Asking(source));
             }
             emission(answer, next)
         }
@@ -151,7 +151,7 @@ pub extern "C" fn abt_raw_source_crash(state: &mut AbtSource) -> u32
         Some(AnySource::Idle(source)) => source.crash(),
         Some(AnySource::Asking(source)) => source.crash(),
     };
-    state.set_down(&source);
+    state.set(AnySource::Down(source));
     DONE
 }
 
@@ -163,12 +163,9 @@ pub extern "C" fn abt_raw_source_rate(state: &AbtSource, rate: &mut u16) -> u32
     ensures value { result ≡ done → IsCanonical rate.new × (units_of rate.new ≡ (source_in state.now).rate) }
     ensures same { result ≢ done → rate.new ≡ rate.old }
 {
-    let parts = match state.any() {
-        None => return NO_STATE,
-        Some(AnySource::Down(source)) => source.parts(),
-        Some(AnySource::Idle(source)) => source.parts(),
-        Some(AnySource::Asking(source)) => source.parts(),
+    let Some(parts) = state.parts() else {
+        return NO_STATE;
     };
-    *rate = parts.rate.code();
+    *rate = parts.rate().code();
     DONE
 }

@@ -93,7 +93,7 @@ impl AbtPolicing {
         Verdict::Conforming
     }
 
-    /// Gives a cell at a moment its verdict, where a rate of this code is held.
+    /// Gives a cell at a moment its verdict, if a rate of this code is held.
     #[tactic(auto, unfolding(abt_gcra::specs::Policing::policed))]
     pub fn police(&mut self, at: u64, held: u16) -> Verdict
         requires kept { IsKept (policing_of self.old) }
@@ -176,7 +176,7 @@ impl AbtShaper {
     }
 }
 
-// A value of a state, where it is marked as there.
+// A value of a state, if it is marked as there.
 fn present(mark: u64, value: u64) -> Option<u64>
     ensures { result ≡ (if mark == 0 then None else Some value) }
 {

@@ -16,7 +16,7 @@ use abt_cell::Vc;
 use abt_node::DropCause;
 use abt_rate::CAPACITY_MAX;
 
-/// Makes a state that of a port of a link of which nothing is held, with no connection, whatever it was before.
+/// Makes a state a port without connections, whatever it was before.
 #[unsafe(no_mangle)]
 pub extern "C" fn abt_raw_table_init(table: &mut AbtTable, capacity: u64) -> u32
     ensures done { (result ≡ done) ↔ (capacity ≤ capacity_max) }
@@ -69,7 +69,7 @@ pub extern "C" fn abt_raw_table_add(table: &mut AbtTable, vpi: u16, vci: u16) ->
     }
 }
 
-/// Gives the link another capacity, in units, of which no less can be than is held.
+/// Sets the link's capacity, in units, to no less than what is held.
 #[unsafe(no_mangle)]
 pub extern "C" fn abt_raw_table_set_capacity(table: &mut AbtTable, capacity: u64) -> u32
     ensures no_state { (result ≡ no_state) ↔ (¬ HasHead table.old) }

@@ -28,7 +28,7 @@ pub struct AbtTable {
     pub rows: [AbtConnection; 1024],
 }
 
-/// What a look for a connection comes to. Only a table that isn't in order is found to be damaged.
+/// The outcome of a look for a connection. Only a table that isn't in order is found to be damaged.
 #[derive(Clone, Copy)]
 pub enum Found {
     Row(usize),
@@ -51,7 +51,7 @@ impl AbtTable {
         self.count >= 1024
     }
 
-    /// Makes the state that of a port of which nothing is held, and that has no connection, whatever it was before.
+    /// Makes the state a port without connections, whatever it was before.
     pub fn begin(&mut self, capacity: u64)
         requires { capacity ≤ capacity_max }
         ensures state { IsTable self.new }
@@ -110,7 +110,7 @@ impl AbtTable {
         self.count += 1;
     }
 
-    /// Decides a request of a connection. Gives nothing where the table turns out not to be in order.
+    /// Decides a request of a connection. Gives nothing if the table turns out not to be in order.
     pub fn request(&mut self, request: &Request) -> Option<Onward>
         requires { HasHead self.old }
         ensures value { IsTable self.old → (i : ℕ) → IsRowOf self.old request.now.vc i →
@@ -134,7 +134,7 @@ impl AbtTable {
         }
     }
 
-    /// Takes an answer of a connection. Gives nothing where the table turns out not to be in order.
+    /// Takes an answer of a connection. Gives nothing if the table turns out not to be in order.
     pub fn answer(&mut self, answer: &Answer) -> Option<Back>
         requires { HasHead self.old }
         ensures value { IsTable self.old → (i : ℕ) → IsRowOf self.old answer.now.terms.vc i →
@@ -157,7 +157,7 @@ impl AbtTable {
         }
     }
 
-    // Decides a request at a row. Gives nothing where the row isn't one that the port counts.
+    // Decides a request at a row. Gives nothing if the row isn't one that the port counts.
     fn request_at(&mut self, row: usize, request: &Request) -> Option<Onward>
         requires head { HasHead self.old }
         requires row { IsRowOf self.old request.now.vc row }
@@ -179,7 +179,7 @@ impl AbtTable {
         Some(onward)
     }
 
-    // Takes an answer at a row. Gives nothing where the row isn't one that the port counts.
+    // Takes an answer at a row. Gives nothing if the row isn't one that the port counts.
     fn answer_at(&mut self, row: usize, answer: &Answer) -> Option<Back>
         requires head { HasHead self.old }
         requires row { IsRowOf self.old answer.now.terms.vc row }

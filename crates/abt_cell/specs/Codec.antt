@@ -1,5 +1,5 @@
--- What reading answers and what is written, as functions: for texts that are computed from cells. That they are the
--- reading and the writing of `Reading` is what `read_rm` and `write_rm` ensure.
+-- The result of reading, and the written cell, as functions: texts are computed from them. `read_rm` and `write_rm`
+-- ensure that they are the reading and the writing of `Reading`.
 use Rattle.std.specs.Prelude.{◌≡◌, ℕ, ◌<◌, ◌≤◌, ◌+◌, ◌*◌, ◌^◌, nat_lt, Result, Ok, Err, List, [], ◌∷◌, ◌++◌, replicate, if◌then◌else◌, ◌==◌}
 use Rattle.std.specs.Int.{w16, w32, to_be_bytes}
 use Rattle.abt_rate.specs.Code.{code_of}

@@ -31,7 +31,7 @@ impl Model for Cell {
 }
 
 impl Cell {
-    /// The cell of these octets, or [`CellFault::Length`] where there aren't 52. Any 52 octets are a cell.
+    /// The cell of these octets, or [`CellFault::Length`] if there aren't 52. Any 52 octets are a cell.
     pub fn from_octets(octets: &[u8]) -> Result<Cell, CellFault>
         ensures ok { IsOk result ↔ (length octets.now ≡ 52) }
         ensures value { IfOk result (λ cell. cell ≡ octets.now) }

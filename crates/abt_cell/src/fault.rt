@@ -9,8 +9,8 @@ pub enum CellFault {
     Length,
 }
 
-/// Why a cell is neither a request nor an answer (docs/FORMATS.md, "The RM cell"). A reader looks for these in this order and
-/// answers the first that applies.
+/// Why a cell is neither a request nor an answer (docs/FORMATS.md, "The RM cell"). A reader looks for these in this
+/// order and returns the first that applies.
 #[derive(Clone, Copy, Debug, PartialEq, Eq, Hash, Error)]
 pub enum RmFault {
     /// The payload type isn't that of an RM cell of a virtual channel, binary 110 (I.361).

@@ -5,7 +5,7 @@ ghost use Rattle.abt_cell.specs.Damage.{IsDamaged, IsBurst, error_of, changed_bi
 ghost use Rattle.abt_cell.specs.declared.fault.RmFault.TheVariants.{Crc};
 ghost use Rattle.abt_cell.specs.declared.message.Rm.{Rm};
 
-/// What [`read_rm`](crate::read_rm) answers where a cell that it reads gets another payload on its way: the fault
+/// What [`read_rm`](crate::read_rm) returns if a cell that it reads gets another payload on its way: the fault
 /// [`Crc`](crate::RmFault::Crc), if one, two or three bits of the payload changed, or any odd number of them, or some
 /// that lie within ten successive bits (docs/FORMATS.md, "The check").
 pub fn damage_is_refused()

@@ -64,5 +64,5 @@ pub(crate) const RM_CELL: u8 = 6;
 /// The protocol identifier of ABT.
 pub(crate) const ABT: u8 = 2;
 
-/// What is written where a payload carries nothing up to its end.
+/// What is written where a payload carries nothing, up to its end.
 pub(crate) const FILLER_OCTET: u8 = 0x6a;

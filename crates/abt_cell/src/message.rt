@@ -39,7 +39,7 @@ impl Model for Request {
 }
 
 impl Request {
-    /// The request with this number, floor and asked rate, or `None` where the number is 0 or the asked rate is below the
+    /// The request with this number, floor and asked rate, or `None` if the number is 0 or the asked rate is below the
     /// floor.
     pub fn new(vc: Vc, seq: u32, floor: Rate, ask: Rate) -> Option<Request>
         ensures some { IsSome result ↔ ((0 < seq) × (floor ≤ ask)) }
@@ -88,8 +88,8 @@ impl Request {
     }
 }
 
-/// An answer to a request, which repeats all of it: a yes where the asked rate was granted along the whole path, a no
-/// where some port refused it (I.371; docs/RULES.md, "Path").
+/// An answer to a request, which repeats all of it: a yes if the asked rate was granted along the whole path, a no if
+/// some port refused it (I.371; docs/RULES.md, "Path").
 #[derive(Clone, Copy, Debug, PartialEq, Eq, Hash)]
 pub struct Answer {
     request: Request,
@@ -107,7 +107,7 @@ impl Model for Answer {
 }
 
 impl Answer {
-    /// The answer to a request: a yes where it was granted, else a no.
+    /// The answer to a request: a yes if it was granted, else a no.
     pub fn of(request: &Request, granted: bool) -> Answer
         ensures { result ≡ record { terms = request.now; granted = granted } }
     {

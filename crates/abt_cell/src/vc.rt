@@ -30,7 +30,7 @@ impl Model for Vc {
 }
 
 impl Vc {
-    /// The channel of these identifiers, or `None` where `vpi` doesn't fit its 12 bits.
+    /// The channel of these identifiers, or `None` if `vpi` doesn't fit its 12 bits.
     pub fn new(vpi: u16, vci: u16) -> Option<Vc>
         ensures some { IsSome result ↔ (vpi < 2 ^ 12) }
         ensures value { IfSome result (λ vc. vc ≡ record { vpi = vpi; vci = vci }) }

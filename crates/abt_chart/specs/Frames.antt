@@ -19,7 +19,7 @@ stack_after net past p = map (λ numbered. held_on (facts_of numbered.0 past) nu
 abbrev pub stacks_after : Topology → Past → List (List ℕ)
 stacks_after net past = map (λ numbered. stack_after net past numbered.0) (enumerate_from 0 net.capacities)
 
--- the least that the first so many hops of a path hold, 0 where there is none
+-- the least that the first so many hops of a path hold, 0 if there is none
 abbrev pub least_held : List Fact → (hops : ℕ) → ℕ
 least_held facts zero = 0
 least_held facts (suc zero) = held_of facts 1
@@ -38,7 +38,7 @@ frame_after net past = record {
   capacities = capacities_after net past;
 }
 
--- the same after a past, and after each of these events
+-- the frame after a past, and those after each of these events
 abbrev pub frames_from : Topology → Past → List Event → List Frame
 frames_from net past [] = frame_after net past ∷ []
 frames_from net past (event ∷ events) = frame_after net past ∷ frames_from net (after_event net past event) events

@@ -55,7 +55,7 @@ abbrev pub sent_by_answer : (c hop seq : ℕ) → Bool → Outcome → Option Me
 sent_by_answer c hop seq granted (Answered back.Pass) = Some (answer_to c (stop_before hop) seq granted)
 sent_by_answer c hop seq granted outcome = None
 
--- the message that an event sent, by what it answered; a cell is none
+-- the message that an event sent, by its outcome; a cell is no message
 abbrev pub sent_by : (hops : ℕ) → Event → Outcome → Option Message
 sent_by hops (Ask c rate plan) outcome = sent_by_ask c outcome
 sent_by hops (Again c) outcome = sent_by_again c outcome

@@ -1,4 +1,4 @@
--- The events of a run, each with what it answered and with the messages that it sent and brought.
+-- The events of a run, each with its outcome and the messages that it sent and brought.
 use Rattle.std.specs.Prelude.{ℕ, List, [], ◌∷◌, length, Option, None, Some, option_map, unwrap_or}
 use Rattle.abt_net.specs.declared.conn.Conn.{Conn}
 use Rattle.abt_net.specs.Topology.{Topology, conn_at}
@@ -23,11 +23,11 @@ told_of net event outcome = record {
   brought = brought_by event outcome;
 }
 
--- the events after a past, each with what it answers after those before it
+-- the events after a past, each with its outcome after those before it
 abbrev pub told_from : Topology → Past → List Event → List Told
 told_from net past [] = []
 told_from net past (event ∷ events) = told_of net event (outcome_of net past event) ∷ told_from net (after_event net past event) events
 
--- the same from the beginning
+-- the events from the beginning, each with its outcome after those before it
 abbrev pub told_after : Topology → List Event → List Told
 told_after net events = told_from net [] events

@@ -34,7 +34,7 @@ pub struct Chart {
 /// and `after` behind them.
 ///
 /// # Errors
-/// Where memory is refused.
+/// If memory is refused.
 pub fn chart_of(
     alloc: Global,
     net: &Net,
@@ -97,7 +97,7 @@ fn carry(
     Ok(())
 }
 
-// The same, with what is held and shaped before the first and after each.
+// Lets events happen, and keeps what they told, and what is held and shaped before the first and after each.
 fn carry_shown(
     alloc: Global,
     world: &mut World<'_>,

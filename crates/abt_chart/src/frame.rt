@@ -28,7 +28,7 @@ pub struct Frame {
 /// What stands in a picture after what happened to a world.
 ///
 /// # Errors
-/// Where memory is refused.
+/// If memory is refused.
 pub fn frame_of(alloc: Global, world: &World<'_>, net: &Net) -> Result<Frame, AllocError>
     ensures value { (events : List EventSpec) → StandsFor net.now events world.now →
         IfOk result (λ frame. frame ≡ spec.frame_after net.now (facts_after net.now events)) }

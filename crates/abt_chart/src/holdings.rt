@@ -16,7 +16,7 @@ use abt_rate::Rate;
 use abt_world::World;
 use std::alloc::{AllocError, Global};
 
-// The units of a rate, 0 where there is none.
+// The units of a rate, 0 if there is none.
 fn units_of(rate: Option<Rate>) -> u64
     ensures { result ≡ unwrap_or rate 0 }
 {
@@ -26,7 +26,7 @@ fn units_of(rate: Option<Rate>) -> u64
     }
 }
 
-// A number that is read, 0 where there is none.
+// A number that is read, 0 if there is none.
 fn number_of(read: Option<u64>) -> u64
     ensures { result ≡ unwrap_or read 0 }
 {
@@ -124,7 +124,7 @@ fn stack_of(
     Ok(stack)
 }
 
-// What a connection holds on a port: nothing where its path doesn't go through it.
+// What a connection holds on a port: nothing if its path doesn't go through it.
 fn held_at(world: &World<'_>, place: u16, conn: &Conn, port: u16) -> u64
     requires { length conn.now.path ≤ u16.MAX }
     ensures { (net : Topology) (events : List EventSpec) → StandsFor net events world.now →

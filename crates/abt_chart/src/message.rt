@@ -5,7 +5,7 @@ ghost use Rattle.abt_chart.specs.Messages as spec;
 use abt_model::{Event, Outcome};
 use abt_node::{Back, Onward};
 
-/// What a message is.
+/// The kinds of messages.
 #[derive(Clone, Copy, Debug, PartialEq, Eq)]
 pub enum Kind {
     /// A request.
@@ -32,7 +32,7 @@ pub enum Stop {
 pub struct Message {
     /// The connection, as its place in the net, from 0.
     pub conn: u16,
-    /// What it is.
+    /// Its kind.
     pub kind: Kind,
     /// Where it goes.
     pub stop: Stop,

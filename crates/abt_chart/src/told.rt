@@ -6,12 +6,12 @@ use crate::message::{Message, brought_by, sent_by};
 use abt_model::{Event, Outcome};
 use abt_net::Net;
 
-/// An event of a run, what it answered, and the messages that it sent and brought.
+/// An event of a run, its outcome, and the messages that it sent and brought.
 #[derive(Clone, Copy, Debug)]
 pub struct Told {
     /// The event.
     pub event: Event,
-    /// What it answered.
+    /// Its outcome.
     pub outcome: Outcome,
     /// The message that it sent, if it sent one.
     pub sent: Option<Message>,
@@ -32,7 +32,7 @@ pub fn told_of(net: &Net, event: &Event, outcome: &Outcome) -> Told
     }
 }
 
-// How many hops the path of a connection has; none where the net hasn't so many.
+// How many hops the path of a connection has; none if the net hasn't so many.
 fn hops_of(net: &Net, conn: Option<u16>) -> u16
     ensures { result ≡ spec.hops_of net.now conn }
 {

@@ -17,7 +17,7 @@ pub record SaysScenario (text : Text) : Type 0 where
   pub scenario : Scenario
   pub read : Reads text (Ok scenario)
 
--- The first fault is the one with which the text is read; there is none where the text is read as a scenario.
+-- The first fault is the one with which the text is read; there is none if the text is read as a scenario.
 abbrev pub AreFaultsOf : Text → List Found → Type 0
 AreFaultsOf text [] = SaysScenario text
 AreFaultsOf text (found ∷ others) = Reads text (Err found.fault)

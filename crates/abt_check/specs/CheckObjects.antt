@@ -17,7 +17,7 @@ use Rattle.abt_check.specs.declared.finding.Checked.{Checked}
 abbrev pub line_and_column : Place → List Token
 line_and_column place = number_member (codes "line") place.line ++ number_member (codes "column") place.column
 
--- the place behind so many octets of a text, where they are known
+-- the place behind so many octets of a text, if they are known
 abbrev pub place_members : Text → Option ℕ → List Token
 place_members source None = []
 place_members source (Some at) = line_and_column (place_at at source)

@@ -11,7 +11,7 @@ use Rattle.abt_check.specs.declared.finding.Checked.{Checked}
 abbrev pub line_and_column : Place → Text
 line_and_column place = codes "line " ⋅ decimal place.line ⋅ codes ", column " ⋅ decimal place.column ⋅ codes ": "
 
--- the place behind so many octets of a text, where they are known
+-- the place behind so many octets of a text, if they are known
 abbrev pub place_text : Text → Option ℕ → Text
 place_text source None = []
 place_text source (Some at) = line_and_column (place_at at source)

@@ -1,4 +1,4 @@
--- What goes out where a scenario is checked.
+-- What goes out when a scenario is checked.
 use Rattle.std.specs.Prelude.{◌≡◌, ◌⊎◌, Bool, true, false, List, [], ◌∷◌, Option, IfSome, string_bytes}
 use Rattle.std.specs.Io.KnownBytes.{Appends, Keeps}
 use Rattle.abt_text.specs.Text.{Text}
@@ -38,7 +38,7 @@ pub record IsSaidOf (as_json faulty : Bool) (text source : Text) : Type 0 where
   pub told : text ≡ said_of as_json source checked
   pub is_faulty : faulty ≡ has_some checked.faults.items
 
--- Such a text of what a reader had left went out.
+-- Such a text went out, made of the octets that a reader had left.
 pub record Answers (as_json faulty : Bool) (left old new : Option Text) : Type 0 where
   pub text : Text
   pub said : IfSome left (IsSaidOf as_json faulty text)
@@ -51,8 +51,8 @@ pub record AnswersPart (as_json : Bool) (left old new : Option Text) : Type 0 wh
   pub said : IfSome left (IsSaidOf as_json faulty text)
   pub written : AppendsPrefix old new text
 
--- what a fault says, and what it leaves with the writer: a part of the answer where that failed, and else what was there; what the text
--- has of faults is no such fault
+-- what a fault says, and what it leaves with the writer: a part of the check if the writer failed, and else nothing;
+-- a fault of the text is no such fault
 abbrev pub Leaves : EngineFault → (as_json : Bool) → (left old new : Option Text) → Type 0
 Leaves Write as_json left old new = AnswersPart as_json left old new
 Leaves (Scenario fault) as_json left old new = ⊥

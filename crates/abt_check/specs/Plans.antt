@@ -1,4 +1,4 @@
--- What the words of `abt check` ask for.
+-- The plans that the words of `abt check` ask for.
 use Rattle.std.specs.Prelude.{◌≡◌, true, false, codes, option_map, string_bytes, Option, Some}
 use Rattle.clap.specs.declared.parser.matches.ArgMatches.{ArgMatches}
 use Rattle.clap.specs.Words.{found_of, first_value, one_text}

@@ -8,11 +8,11 @@ use abt_scenario::{Scenario, ScenarioFault, read};
 use std::alloc::{AllocError, Global};
 use toml::de::Error;
 
-/// What is wrong and what is doubtful in a scenario's text (docs/FORMATS.md, "Checks"). The first fault is the one for which
-/// [`read`](abt_scenario::read) refuses the text, and there is none where it reads a scenario.
+/// What is wrong and what is doubtful in a scenario's text (docs/FORMATS.md, "Checks"). The first fault is the one
+/// for which [`read`](abt_scenario::read) refuses the text, and there is none if it reads a scenario.
 ///
 /// # Errors
-/// Where memory is refused.
+/// If memory is refused.
 pub fn check(alloc: Global, text: &str) -> Result<Checked, AllocError>
     ensures { IfOk result (λ checked. IsCheckOf text.now checked) }
 {

@@ -6,7 +6,7 @@ use std::alloc::{AllocError, Global};
 /// The most faults, and the most warnings, that are told of one text.
 pub const FOUND_MAX: usize = 100;
 
-/// A fault of a text, the octets before its place where that is known, and what is wrong, in words.
+/// A fault of a text, the octets before its place if that is known, and what is wrong, in words.
 #[derive(Debug, Drop)]
 pub struct Found {
     pub fault: ScenarioFault,
@@ -14,7 +14,7 @@ pub struct Found {
     pub text: String,
 }
 
-/// What is doubtful in a text, and the octets before its place where that is known.
+/// What is doubtful in a text, and the octets before its place if that is known.
 #[derive(Debug, Drop)]
 pub struct Warning {
     pub at: Option<usize>,

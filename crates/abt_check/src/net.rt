@@ -187,7 +187,7 @@ impl Findings<'_> {
     }
 }
 
-// The items of an array at a key, none where there is no array.
+// The items of an array at a key, none if there is no array.
 pub(crate) fn items_at<'a>(table: &'a Table, name: &str) -> &'a [Value] {
     match table.get(name) {
         Some(value) => items_of(value),

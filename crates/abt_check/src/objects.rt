@@ -93,7 +93,7 @@ fn push_counts(alloc: Global, text: &mut Vec<u8>, checked: &Checked) -> Result<(
     end(object, text)
 }
 
-// Adds the place behind so many octets of a text, where they are known.
+// Adds the place behind so many octets of a text, if they are known.
 fn push_place(object: &mut Writer, source: &str, at: Option<usize>) -> Result<(), AllocError>
     ensures { OnOk result (Adds (spec.place_members source.now at) object.old object.new) }
 {

@@ -21,7 +21,7 @@ struct Said {
     is_faulty: bool,
 }
 
-// Checks the text that a reader has left, and writes the check. Nothing is written before the whole check is made; where the writer fails,
+// Checks the text that a reader has left, and writes the check. Nothing is written before the whole check is made; if the writer fails,
 // or takes no octet, a part of it went out.
 fn check_from<R: Read, W: Write>(
     alloc: Global,
@@ -94,8 +94,8 @@ fn objects_of(alloc: Global, source: &str) -> Result<Said, AllocError>
     Ok(Said { octets, is_faulty })
 }
 
-/// Carries a plan out, and gives the exit status: 0 where the whole check went out to `writer` and tells no fault, 1 where it tells one, or
-/// where a line on `errors` tells why there is no check. A line that can't be written there changes no status.
+/// Carries a plan out, and gives the exit status: 0 if the whole check went out to `writer` and tells no fault, 1 if it tells one, or
+/// if a line on `errors` tells why there is no check. A line that can't be written there changes no status.
 pub fn perform_check<R: Read, W: Write, E: Write>(
     alloc: Global,
     plan: &CheckPlan,

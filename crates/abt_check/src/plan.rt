@@ -13,7 +13,8 @@ const FILE: &str = "FILE";
 // Whether the check is to be told as JSON.
 const JSON: &str = "json";
 
-/// What the words of `abt check` ask for: to check the scenario of this file, or of the standard input, and to tell it in lines, or as JSON.
+/// A plan that the words of `abt check` ask for: to check the scenario of this file, or of the standard input, and to tell it in lines,
+/// or as JSON.
 #[derive(Drop)]
 pub struct CheckPlan {
     pub file: Option<String>,
@@ -37,7 +38,7 @@ pub fn add_commands<'a>(alloc: Global, program: Command<'a>) -> Result<Command<'
     program.subcommand(check)
 }
 
-/// The plan that the words behind a command's name ask for, or `None` if the command is none of these.
+/// The plan that the words behind a command's name ask for, or `None` if it is another command.
 pub fn plan_of(
     alloc: Global,
     name: &str,

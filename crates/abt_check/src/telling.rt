@@ -20,7 +20,7 @@ pub struct Answer {
 /// The check of a text, told line by line.
 ///
 /// # Errors
-/// Where memory is refused.
+/// If memory is refused.
 pub fn answer_of(alloc: Global, source: &str) -> Result<Answer, AllocError>
     ensures { IfOk result (IsAnswerTo source.now) }
 {
@@ -128,7 +128,7 @@ fn count_text(alloc: Global, count: usize) -> Result<String, AllocError>
     format!(in alloc; "{count}{more}")
 }
 
-// The place behind so many octets of a text, where they are known.
+// The place behind so many octets of a text, if they are known.
 fn place_text(alloc: Global, source: &str, at: Option<usize>) -> Result<String, AllocError>
     ensures { IfOk result (λ text. string_bytes text ≡ spec.place_text source.now at) }
 {

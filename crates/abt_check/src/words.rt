@@ -4,7 +4,7 @@ use abt_format::rate_of;
 use abt_text::{u16_of, u32_of, u64_of, words_of};
 use std::alloc::{AllocError, Global};
 
-// What a text is to say.
+// The kinds of texts.
 #[derive(Clone, Copy)]
 pub(crate) enum Kind {
     Event,
@@ -12,7 +12,7 @@ pub(crate) enum Kind {
     Operation,
 }
 
-// What a word behind the first one is to be. No word comes where `End` stands.
+// The kind of a word behind the first one. No word comes where `End` stands.
 #[derive(Clone, Copy)]
 enum Slot {
     Short,

@@ -1,4 +1,4 @@
--- What `abt code` prints (docs/FORMATS.md, "Rates in words").
+-- The text that `abt code` prints (docs/FORMATS.md, "Rates in words").
 use Rattle.std.specs.Prelude.{◌≡◌, ℕ, Option, Some, None, codes}
 use Rattle.abt_text.specs.Text.{Text, ◌⋅◌}
 use Rattle.abt_perform.specs.RateText.{rate_line}

@@ -1,4 +1,4 @@
--- What the words of `abt code` and `abt write` ask for.
+-- The plans that the words of `abt code` and `abt write` ask for.
 use Rattle.std.specs.Prelude.{◌≡◌, ◌≢◌, ◌⊎◌, codes, string_bytes, [], unwrap_or}
 use Rattle.clap.specs.declared.parser.matches.ArgMatches.{ArgMatches}
 use Rattle.clap.specs.Words.{found_of, first_value}
@@ -11,7 +11,7 @@ use Rattle.abt_codes.specs.declared.message.MessageWords.{MessageWords}
 use Rattle.abt_codes.specs.declared.plan.CodesPlan.{CodesPlan}
 use Rattle.abt_codes.specs.declared.plan.CodesPlan.TheVariants.{Code, Write}
 
--- the word that stands for a name of the help, empty if there is none
+-- the word that stands for a name of the help, empty if none does
 abbrev pub word_in : ArgMatches → (name : Text) → Text
 word_in found name = unwrap_or (first_value (found_of found) name) []
 

@@ -1,4 +1,4 @@
--- What goes out where a rate's codes are asked for, or a cell is to be written.
+-- What goes out when a rate's codes are asked for, or a cell is to be written.
 use Rattle.std.specs.Prelude.{◌≡◌, ◌⊎◌, Option, None, Err, IsSomeAnd, IsOkAnd, codes, string_bytes}
 use Rattle.std.specs.Io.KnownBytes.{Appends, Keeps}
 use Rattle.abt_text.specs.Text.{Text, ◌⋅◌, newline}
@@ -51,7 +51,7 @@ pub record IsPrintedPart (plan : CodesPlan) (old new : Option Text) : Type 0 whe
   pub says : Says plan text
   pub written : AppendsPrefix old new text
 
--- what went out where a plan isn't done for this fault: a part where the output failed, and else nothing
+-- what went out if a plan isn't done for this fault: a part if the output failed, and else nothing
 abbrev pub EndsBy : CodesFault → CodesPlan → (old new : Option Text) → Type 0
 EndsBy fault plan old new =
     ((fault ≡ Write) × IsPrintedPart plan old new) ⊎ (((fault ≡ Memory) ⊎ Refuses plan fault) × Keeps old new)

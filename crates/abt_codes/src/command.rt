@@ -26,7 +26,7 @@ const FLOOR: &str = "FLOOR";
 
 const ASK: &str = "ASK";
 
-// What a message has to be.
+// The rule of a message.
 const MESSAGE_RULE: &str = "a message is request, yes or no";
 
 /// Adds `code` and `write` to the commands of a program.
@@ -74,7 +74,7 @@ fn word<'a>(alloc: Global, id: &'a str, help: &'a str) -> Arg<'a> {
     Arg::new(alloc, id).required(true).help(help)
 }
 
-/// The plan that the words behind a command's name ask for, or `None` if the command is none of these.
+/// The plan that the words behind a command's name ask for, or `None` if it is another command.
 pub fn plan_of(
     alloc: Global,
     name: &str,

@@ -13,7 +13,7 @@ use abt_text::put;
 use std::alloc::Global;
 use std::io::Write;
 
-/// Prints what a plan asks for, and gives the exit status: 0 where all of it went out to `writer`, and 1 where a line on `errors` tells why
+/// Prints what a plan asks for, and gives the exit status: 0 if all of it went out to `writer`, and 1 if a line on `errors` tells why
 /// not. A line that can't be written there changes no status.
 pub fn perform_codes<W: Write, E: Write>(
     alloc: Global,

@@ -1,4 +1,4 @@
-//! What is asked for.
+//! The plans of `abt code` and `abt write`.
 use crate::message::MessageWords;
 
 /// What to say of codes, or in them.

@@ -17,13 +17,13 @@ const CELL_BITS: u128 = 424;
 /// A rate in units of 1/512 cell/s, as a quotient of two numbers: it may lie between two numbers of units.
 #[derive(Clone, Copy, Debug, PartialEq, Eq)]
 pub struct Quantity {
-    /// What is divided.
+    /// The dividend.
     pub over: u128,
     /// By what, above 0.
     pub under: u128,
 }
 
-/// What a rate counts in a second.
+/// The unit that a rate counts in a second.
 #[derive(Clone, Copy, Debug, PartialEq, Eq)]
 pub enum RateUnit {
     /// Cells.

@@ -38,7 +38,7 @@ pub fn written_is_read(rm: &Rm)
     octets_are_read(&cell.to_octets(), rm);
 }
 
-// The same of the octets that were written, if they are read so.
+// The text of the octets that were written is read as the message, if the octets are.
 fn octets_are_read(octets: &[u8], rm: &Rm)
     requires written { octets.now ≡ written_of rm.now }
     requires long { length octets.now ≡ 52 }

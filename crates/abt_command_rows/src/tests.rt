@@ -132,7 +132,7 @@ fn expect(
     Ok(())
 }
 
-/// The same of a plan.
+/// Carries out a plan, and demands the status, what goes out and what is told.
 fn expect_of(rt: &impl Abort, alloc: Global, plan: &Plan, status: u8, text: &str, fault: &str)
     requires { IsWithinLimits plan.now }
 {

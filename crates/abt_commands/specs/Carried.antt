@@ -12,7 +12,7 @@ use Rattle.abt_perform.specs.declared.plan.Plan.TheVariants.{Run, Threads}
 use Rattle.abt_perform.specs.declared.fault.Fault.TheVariants.{Memory}
 use Rattle.abt_perform_threads.specs.Performing as threads
 
--- What the plan prints went out, all of it, where this is what the reader had left.
+-- What the plan prints went out, all of it, if this is what the reader had left.
 abbrev pub IsDone : Plan → (left old new : Option Text) → Type 0
 IsDone (Threads file workers) left old new = threads.IsShown workers left old new
 IsDone plan left old new = Prints plan left old new
@@ -39,11 +39,11 @@ IsDoneHere plan left old new = MatchOption (file_of plan) (IsDone plan left old 
 abbrev pub ReadsHere : Plan → (old new : Option Text) → Type 0
 ReadsHere plan old new = MatchOption (file_of plan) (ReadsFor plan old new) (λ name. Keeps old new)
 
--- what is told of a file that isn't opened
+-- the line of a file that isn't opened
 abbrev pub open_line : Text
 open_line = codes "fault: open" ⋅ newline
 
--- what is told of an error in opening a file, by what it is to the system
+-- the line of an error in opening a file, by its kind to the system
 abbrev pub line_of_kind : ErrorKind → Text
 line_of_kind OutOfMemory = fault_line Memory
 line_of_kind _ = open_line

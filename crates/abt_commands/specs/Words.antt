@@ -1,4 +1,4 @@
--- What the words of the commands ask for, by what `clap` found of them.
+-- The plans that the words of the commands ask for, by the matches of `clap`.
 use Rattle.std.specs.Prelude.{◌≡◌, ◌⊎◌, ◌≤◌, ℕ, List, [], map, Option, None, Some, IsSome, unwrap_or, option_map, string_bytes, codes}
 use Rattle.clap.specs.declared.parser.matches.ArgMatches.{ArgMatches}
 use Rattle.clap.specs.Words.{found_of, first_value, matched_of, raw_values, one_text}
@@ -14,7 +14,7 @@ use Rattle.abt_perform.specs.declared.plan.WordsFault.TheVariants.{Memory}
 abbrev pub text_in : ArgMatches → (name : Text) → Option Text
 text_in found name = first_value (found_of found) name
 
--- the same, empty if none does
+-- the word that stands for a name of the help, empty if none does
 abbrev pub word_in : ArgMatches → (name : Text) → Text
 word_in found name = unwrap_or (text_in found name) []
 
@@ -45,7 +45,7 @@ abbrev pub IsCommand : (name : Text) → Type 0
 IsCommand name =
     (name ≡ codes "rate") ⊎ (name ≡ codes "cell") ⊎ (name ≡ codes "port") ⊎ (name ≡ codes "run") ⊎ (name ≡ codes "threads")
 
--- whether a flag is set; None where the command has no such flag
+-- whether a flag is set; None if the command has no such flag
 abbrev pub flag_in : ArgMatches → (flag : Text) → Option Text
 flag_in found flag = one_text (found_of found) flag
 

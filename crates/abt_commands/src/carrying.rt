@@ -55,7 +55,7 @@ where
     }
 }
 
-/// What is told of a file that isn't opened: that, or want of memory.
+/// The line of a file that isn't opened: that, or want of memory.
 pub fn line_of_unopened(error: &Error) -> &'static str
     ensures value { result.now ≡ line_of_kind (error_kind error.now) }
     ensures either { (result.now ≡ open_line) ⊎ (result.now ≡ fault_line Memory) }
@@ -80,7 +80,7 @@ fn file_of(plan: &Plan) -> Option<&str>
     }
 }
 
-/// Carries a plan out over a reader, and gives the exit status: 0 where all went out, and 1 where a line on `errors` tells why not.
+/// Carries a plan out over a reader, and gives the exit status: 0 if all went out, and 1 if a line on `errors` tells why not.
 pub fn carry_out_over<T: Threads + Wait + Sync, R: Read, W: Write, E: Write>(
     rt: &T,
     alloc: Global,

@@ -53,12 +53,20 @@ pub fn program<'a>(alloc: Global) -> Result<Command<'a>, AllocError> {
 
 /// A command line with the commands of this crate.
 pub fn add_commands<'a>(alloc: Global, program: Command<'a>) -> Result<Command<'a>, AllocError> {
-    program
-        .subcommand(rate_command(alloc)?)?
-        .subcommand(cell_command(alloc)?)?
-        .subcommand(port_command(alloc)?)?
-        .subcommand(run_command(alloc)?)?
-        .subcommand(threads_command(alloc)?)
+    let program = with(program, rate_command(alloc))?;
+    let program = with(program, cell_command(alloc))?;
+    let program = with(program, port_command(alloc))?;
+    let program = with(program, run_command(alloc))?;
+    with(program, threads_command(alloc))
+}
+
+// A command line with one more command, if there was memory for it. A `?` for each command, with the whole line alive, takes longer to
+// prove.
+fn with<'a>(
+    program: Command<'a>,
+    command: Result<Command<'a>, AllocError>,
+) -> Result<Command<'a>, AllocError> {
+    program.subcommand(command?)
 }
 
 fn rate_command<'a>(alloc: Global) -> Result<Command<'a>, AllocError> {

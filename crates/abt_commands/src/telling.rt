@@ -1,4 +1,4 @@
-//! What is told where words are no plan.
+//! What is told if words are no plan.
 ghost use Rattle.std.specs.Prelude.{◌≡◌};
 ghost use Rattle.abt_perform.specs.Plans.{AnswersWords};
 
@@ -7,7 +7,7 @@ use abt_text::put;
 use std::io::Write;
 
 /// Tells why words are no plan, and gives the exit status: 0 for help, which goes to `writer`, 2 for words that
-/// are refused, and 1 where memory or the writer failed.
+/// are refused, and 1 if memory or the writer failed.
 pub fn answer_words<W: Write, E: Write>(fault: &WordsFault, writer: &mut W, errors: &mut E) -> u8
     ensures { AnswersWords fault.now result (W.contents writer.old) (W.contents writer.new)
         (E.contents errors.old) (E.contents errors.new) }

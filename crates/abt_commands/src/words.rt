@@ -17,13 +17,13 @@ use std::alloc::{AllocError, Global};
 /// Why words are wrong that name no command.
 pub const NO_COMMAND: &str = "no such command";
 
-// What a capacity has to be.
+// The rule of a capacity.
 const CAPACITY_RULE: &str = "a capacity is a decimal number of at most 2^60, digits alone";
 
-// What a count of link workers has to be.
+// The rule of a count of link workers.
 const WORKERS_RULE: &str = "there are 1 to 64 link workers, a decimal number, digits alone";
 
-/// The plan that the words behind the program's name ask for, where they name one of the commands of this crate.
+/// The plan that the words behind the program's name ask for, if they name one of the commands of this crate.
 ///
 /// `clap` decides which words are refused, and writes what is told then, and the help; a number is 1 to 19 digits, and nothing else.
 pub fn plan_words<'a>(alloc: Global, words: &'a [&'a str]) -> Result<Plan, WordsFault>

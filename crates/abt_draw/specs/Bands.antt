@@ -60,7 +60,7 @@ pub record HasLevel (class : Text) (base height : ℕ) (text : Text) : Type 0 wh
   pub to : ℕ
   pub line : Holds text (line_text class (record { x = from; y = base - height }) (record { x = to; y = base - height }))
 
--- What is held on a port has its blocks, where it is no more than the capacity, and the capacity has a line.
+-- What is held on a port has its blocks, if it is no more than the capacity, and the capacity has a line.
 pub record DrawsPort (base most : ℕ) (held : List ℕ) (limit : ℕ) (text : Text) : Type 0 where
   pub stack : sum held ≤ limit → HasStack base most held text
   pub capacity : HasLevel (codes "capacity") base (height_of limit most) text

@@ -6,7 +6,7 @@ use Rattle.abt_net.specs.Topology.{Topology}
 use Rattle.abt_draw.specs.declared.actor.Actor.{Actor}
 use Rattle.abt_draw.specs.declared.actor.Actor.TheVariants.{Source, Port, End}
 
--- A connection is shown if it is named; where none is named, all are.
+-- A connection is shown if it is named; if none is named, all are.
 abbrev pub is_shown : (only : List ℕ) → (c : ℕ) → Bool
 is_shown only c = (length only == 0) || list_any (λ named. named == c) only
 
@@ -14,11 +14,11 @@ is_shown only c = (length only == 0) || list_any (λ named. named == c) only
 abbrev pub along : (c : ℕ) → (path : List ℕ) → List Actor
 along c path = Source c ∷ (map Port path ++ End c ∷ [])
 
--- the same along the path of a connection, if that is shown
+-- everybody along the path of a connection, if that is shown
 abbrev pub shown_along : (only : List ℕ) → (c : ℕ) → (path : List ℕ) → List Actor
 shown_along only c path = if is_shown only c then along c path else []
 
--- the same of all connections, of which the first one is connection c
+-- everybody along the paths of connections, of which the first is connection c
 abbrev pub along_all : (only : List ℕ) → (c : ℕ) → List Conn → List Actor
 along_all only c [] = []
 along_all only c (conn ∷ conns) = shown_along only c conn.path ++ along_all only (c + 1) conns

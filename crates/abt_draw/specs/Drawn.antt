@@ -39,7 +39,7 @@ pub record IsUnknown (only : List ℕ) (conns conn : ℕ) : Type 0 where
   pub beyond : conns ≤ conn
   pub first : (k other : ℕ) → k < place → slice_get only k ≡ Some other → other < conns
 
--- the range as that of places from 0, of which the second one is behind the last event that is shown
+-- the range as places from 0: of the first event that is shown, and behind the last one
 pub record IsShownRange (plan : PicturePlan) (events first last : ℕ) : Type 0 where
   pub is_range : IsRange plan events
   pub first_is : first + 1 ≡ first_of plan

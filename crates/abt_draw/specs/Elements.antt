@@ -33,13 +33,13 @@ abbrev pub group_text : (class name title content : Text) → Text
 group_text class name title content = codes "<g class='" ⋅ escaped class ⋅ codes "' id='" ⋅ escaped name ⋅ codes "' tabindex='0'><title>"
     ⋅ escaped title ⋅ codes "</title>" ⋅ newline ⋅ content ⋅ codes "</g>" ⋅ newline
 
--- what a picture of a size begins with
+-- the beginning of a picture of a size
 unfoldable pub opening_text : Size → Text
 opening_text size = codes "<svg xmlns='http://www.w3.org/2000/svg' viewBox='0 0 " ⋅ tenths_text size.width ⋅ codes " " ⋅ tenths_text size.height
     ⋅ codes "' width='" ⋅ tenths_text size.width ⋅ codes "' height='" ⋅ tenths_text size.height
     ⋅ codes "' role='img' aria-labelledby='title' aria-describedby='description'>" ⋅ newline
 
--- what it is of, and what it shows in words
+-- its title and its description
 unfoldable pub about_text : (title description : Text) → Text
 about_text title description = codes "<title id='title'>" ⋅ escaped title ⋅ codes "</title>" ⋅ newline
     ⋅ codes "<desc id='description'>" ⋅ escaped description ⋅ codes "</desc>" ⋅ newline

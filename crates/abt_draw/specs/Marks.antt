@@ -21,7 +21,7 @@ use Rattle.abt_draw.specs.declared.mark.Mark.{Mark}
 use Rattle.abt_draw.specs.declared.mark.Mark.TheVariants.{Start, Crash, Ask, Cell, Set, Refused, Idle}
 use Rattle.abt_draw.specs.declared.point.Point.{Point}
 
--- what an event looks like by what it answered: messages that go on, are turned or are heard have their arrows alone
+-- what an event looks like by its outcome: messages that go on, are turned or are heard have their arrows alone
 abbrev pub mark_of : Outcome → Option Mark
 mark_of outcome.Started = Some Start
 mark_of outcome.Crashed = Some Crash

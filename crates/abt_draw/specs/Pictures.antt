@@ -27,7 +27,7 @@ abbrev pub stuck_lines : List StuckMark → Text
 stuck_lines [] = []
 stuck_lines (mark ∷ marks) = codes "stuck: " ⋅ mark.text.now ⋅ newline ⋅ stuck_lines marks
 
--- The same in words: the explanation of the run, and behind it what is told of these entries.
+-- The words of a picture: the explanation of the run, and behind it what is told of stuck entries.
 pub record IsInWords (scene : Scene) (words : Text) : Type 0 where
   pub explanation : Text
   pub explained : IsExplanation scene.net.now scene.lines.now scene.events.now explanation

@@ -62,6 +62,6 @@ pub record IsLost (net : Topology) (columns : List Actor) (rows : Rows) (event :
 abbrev pub IsAbsent : List Actor → Option Actor → Type 0
 IsAbsent columns who = IfSome who (HasNoColumn columns)
 
--- One of those between whom a message goes has no column.
+-- The sender or the receiver of a message has no column.
 abbrev pub IsUnseen : Topology → List Actor → Message → Type 0
 IsUnseen net columns message = IsAbsent columns (sender_of net message) ⊎ IsAbsent columns (receiver_of net message)

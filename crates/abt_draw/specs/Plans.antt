@@ -1,4 +1,4 @@
--- What the words of `abt draw` ask for (docs/PICTURES.md, "Drawing").
+-- The plans that the words of `abt draw` ask for (docs/PICTURES.md, "Drawing").
 use Rattle.std.specs.Prelude.{◌≡◌, ◌⊎◌, ◌^◌, ◌≤◌, ℕ, ◌==◌, eqb, Bool, true, false, if◌then◌else◌, List, [], map, Option, None, Some, option_map, codes, string_bytes}
 use Rattle.std.specs.List.{ends_with, slice_split}
 use Rattle.clap.specs.Words.{found_of, first_value}

@@ -1,5 +1,5 @@
--- The rows of a picture (docs/PICTURES.md, "Drawing"): each event that is shown has one, in which all that it brings, sends and answers
--- is drawn.
+-- The rows of a picture (docs/PICTURES.md, "Drawing"): each event that is shown has one, with all that it brings and
+-- sends, and its outcome.
 use Rattle.std.specs.Prelude.{◌≡◌, ◌⊎◌, ℕ, ◌+◌, ◌-◌, ◌/◌, ◌<◌, ◌||◌, nat_lt, false, if◌then◌else◌, [], Option, None, Some, IfSome, codes, slice_get}
 use Rattle.abt_text.specs.Text.{Text, ◌⋅◌, decimal}
 use Rattle.abt_chart.specs.declared.arrow.Arrival.{Arrival}
@@ -40,7 +40,7 @@ abbrev pub DrawsArrow : Sheet → Arrow → Text → Type 0
 DrawsArrow sheet arrow text =
     Holds text (line_text (arrow_class arrow) (point_of sheet arrow.from) (point_of sheet arrow.to))
 
--- The message that an event brings has its arrow, unless one of those between whom it goes isn't shown.
+-- The message that an event brings has its arrow, unless its sender or receiver isn't shown.
 abbrev pub DrawsArrival : Sheet → (event : ℕ) → Arrival → Text → Type 0
 DrawsArrival sheet event arrival text = IsUnseen sheet.net.now sheet.columns.now arrival.message
     ⊎ ((arrow : Arrow) × IsArrow sheet.net.now sheet.columns.now sheet.rows event arrival arrow × DrawsArrow sheet arrow text)
@@ -59,12 +59,12 @@ abbrev pub DrawsLost : Sheet → Lost → Text → Type 0
 DrawsLost sheet lost text =
     Holds text (line_text (codes "stump " ⋅ kind_class lost.message.kind) (point_of sheet lost.from) (stump_end sheet lost))
 
--- A message that never comes has its stump, unless one of those between whom it goes isn't shown.
+-- A message that never comes has its stump, unless its sender or receiver isn't shown.
 abbrev pub DrawsStump : Sheet → (event : ℕ) → Departure → Text → Type 0
 DrawsStump sheet event departure text = IsUnseen sheet.net.now sheet.columns.now departure.message
     ⊎ ((lost : Lost) × IsLost sheet.net.now sheet.columns.now sheet.rows event departure lost × DrawsLost sheet lost text)
 
--- a message that an event sends, where it comes behind the last row
+-- a message that an event sends, if it comes behind the last row
 abbrev pub leaving : (event : ℕ) → Departure → Arrival
 leaving event departure = record { message = departure.message; sent = Some event; again = false; late = false }
 
@@ -74,12 +74,12 @@ DrawsSent sheet event departure None text = DrawsStump sheet event departure tex
 DrawsSent sheet event departure (Some came) text =
     sheet.rows.count < level_of sheet.rows came → DrawsArrival sheet came (leaving event departure) text
 
--- The message that an event sends has its stump where it never comes, and its arrow where it comes behind the last row; where it comes in
--- a row, that row has its arrow.
+-- The message that an event sends has its stump if it never comes, and its arrow if it comes behind the last row; if
+-- it comes in a row, that row has its arrow.
 abbrev pub DrawsDeparture : Sheet → (event : ℕ) → Departure → Text → Type 0
 DrawsDeparture sheet event departure text = DrawsSent sheet event departure departure.came text
 
--- The mark of an event is on the lifeline where it happens, or, where that isn't shown, beside the lifelines.
+-- The mark of an event is on the lifeline where it happens, or, if that isn't shown, beside the lifelines.
 abbrev pub IsBeside : Sheet → (who : Option Actor) → (x : ℕ) → Type 0
 IsBeside sheet who x = ((column : ℕ) × Stands sheet.columns.now who column × (x ≡ x_of sheet.left sheet.step column))
     ⊎ (IsAbsent sheet.columns.now who × (x ≡ sheet.left - sheet.step / 2 - 20))
@@ -89,7 +89,7 @@ pub record DrawsMark (sheet : Sheet) (event : ℕ) (told : Told) (mark : Mark) (
   pub beside : IsBeside sheet (actor_of sheet.net.now told.event) x
   pub shape : Holds text (shape_text mark (record { x = x; y = y_of (level_of sheet.rows event) }))
 
--- What an event brings, sends and answers is drawn.
+-- What an event brings and sends, and its outcome, are drawn.
 pub record DrawsEvent (sheet : Sheet) (event : ℕ) (told : Told) (crossing : Crossing) (text : Text) : Type 0 where
   pub arrival : IfSome crossing.arrival (λ arrival. DrawsArrival sheet event arrival text)
   pub departure : IfSome crossing.departure (λ departure. DrawsDeparture sheet event departure text)

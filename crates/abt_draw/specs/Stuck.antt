@@ -10,8 +10,8 @@ use Rattle.abt_draw.specs.declared.point.Point.{Point}
 use Rattle.abt_draw.specs.declared.scene.StuckMark.{StuckMark}
 use Rattle.abt_draw.specs.declared.sheet.Sheet.{Sheet}
 
--- A circle with a cross in it stands on the lifeline of whose journal is stuck, or, where that isn't shown, beside the lifelines, behind the
--- last row of the events.
+-- A circle with a cross in it stands on the lifeline of whose journal is stuck, or, if that isn't shown, beside the
+-- lifelines, behind the last row of the events.
 pub record DrawsStuck (sheet : Sheet) (mark : StuckMark) (text : Text) : Type 0 where
   pub at : Point
   pub beside : IsBeside sheet (Some mark.actor) at.x

@@ -62,12 +62,12 @@ pub fn column_of(columns: &[Actor], who: Actor) -> Option<u32>
     None
 }
 
-/// The columns of a picture, in the order of the paths: for each connection that is shown its source, the ports of its path that have no
-/// column yet, and the end of its path. They are all connections where `only` names none. `None` where there are more than
-/// [`COLUMNS_MAX`] columns.
+/// The columns of a picture, in the order of the paths: for each connection that is shown its source, the ports of
+/// its path that have no column yet, and the end of its path. They are all connections if `only` names none. `None`
+/// if there are more than [`COLUMNS_MAX`] columns.
 ///
 /// # Errors
-/// Where memory is refused.
+/// If memory is refused.
 pub fn columns_of(
     alloc: Global,
     net: &Net,

@@ -45,7 +45,7 @@ pub struct Lost {
     pub toward: u32,
 }
 
-/// The arrow of the message that an event brings, if the columns have both between whom it goes.
+/// The arrow of the message that an event brings, if its sender and receiver have columns.
 pub fn arrow_of(
     net: &Net,
     columns: &[Actor],
@@ -76,7 +76,7 @@ pub fn arrow_of(
     })
 }
 
-/// The stump of the message that an event sends, if it never comes and the columns have both between whom it goes.
+/// The stump of the message that an event sends, if it never comes and its sender and receiver have columns.
 pub fn lost_of(
     net: &Net,
     columns: &[Actor],
@@ -138,7 +138,7 @@ fn sender_of(net: &Net, message: &Message) -> Option<Actor>
     )
 }
 
-// How many hops the path of a connection has; none where the net hasn't so many.
+// How many hops the path of a connection has; none if the net hasn't so many.
 fn hops_of(net: &Net, conn: u16) -> u16
     ensures { result ≡ tellings.hops_of net.now (Some conn) }
 {

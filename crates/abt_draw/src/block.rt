@@ -33,7 +33,7 @@ pub fn height_of(value: u64, most: u64) -> u64
 /// The blocks of a stack, the first connection's first. What goes beyond the room of the band isn't drawn.
 ///
 /// # Errors
-/// Where memory is refused.
+/// If memory is refused.
 pub fn blocks_of(alloc: Global, stack: &[u64], most: u64) -> Result<Sequence<Block>, AllocError>
     ensures blocks { sum stack.now ≤ most → IfOk result (AreBlocks stack.now most) }
     ensures below { (capacity : ℕ) → sum stack.now ≤ capacity → capacity ≤ most →

@@ -55,7 +55,7 @@ pub fn drawing_of<R: Read>(
 /// are stuck behind them.
 ///
 /// # Errors
-/// Which connection or which events are named that there aren't, what is too much for one picture, or want of memory.
+/// A connection or events that are named and aren't there, what is too much for one picture, or want of memory.
 pub fn picture_of(alloc: Global, plan: &PicturePlan, scene: &Scene<'_>) -> Result<String, DrawFault>
     ensures ok { IfOk result (λ text. IsPicture plan.now scene.now (string_bytes text)) }
     ensures err { IfErr result (IsUndrawn plan.now scene.now.net.now scene.now.events.now) }
@@ -139,7 +139,7 @@ fn unknown_in(only: &[u16], conns: usize) -> Option<u16>
     None
 }
 
-// The text of a picture of these rows; None where there are too many columns.
+// The text of a picture of these rows; None if there are too many columns.
 fn text_of(
     alloc: Global,
     plan: &PicturePlan,

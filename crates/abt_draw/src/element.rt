@@ -105,7 +105,7 @@ pub fn push_group(
     )
 }
 
-/// What a whole picture is made of.
+/// The parts of a whole picture.
 #[derive(Clone, Copy)]
 pub struct Picture<'a> {
     /// What it is of.
@@ -139,7 +139,7 @@ pub fn push_document(
     out.push_str("</svg>\n")
 }
 
-// What a picture of a size begins with.
+// The beginning of a picture of a size.
 #[tactic(auto, unfolding(crate::specs::Elements::opening_text))]
 fn push_opening(out: &mut String, size: Size) -> Result<(), AllocError>
     ensures { OnOk result (string_bytes out.new ≡ string_bytes out.old ++ spec.opening_text size) }
@@ -151,7 +151,7 @@ fn push_opening(out: &mut String, size: Size) -> Result<(), AllocError>
     )
 }
 
-// What a picture is of, and what it shows in words.
+// The title and the description of a picture.
 fn push_about(
     alloc: Global,
     out: &mut String,

@@ -9,7 +9,7 @@ use std::alloc::{AllocError, Global};
 /// XML has none.
 ///
 /// # Errors
-/// Where memory is refused.
+/// If memory is refused.
 pub fn escaped(alloc: Global, text: &str) -> Result<String, AllocError>
     ensures value { IfOk result (λ out. string_bytes out ≡ spec.escaped text.entry.now) }
 {

@@ -53,7 +53,7 @@ impl From<AllocError> for DrawFault {
     }
 }
 
-/// Tells a fault, as far as the writer takes it; want of memory, where its line can't be made.
+/// Tells a fault, as far as the writer takes it; want of memory, if its line can't be made.
 pub fn tell_draw_fault<E: Write>(alloc: Global, fault: DrawFault, errors: &mut E)
     ensures { TellsSome (E.contents errors.old) (E.contents errors.new) }
 {

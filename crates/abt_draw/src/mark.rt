@@ -26,7 +26,7 @@ pub(crate) enum Mark {
     Idle,
 }
 
-/// The mark of what an event answered, if it has one.
+/// The mark of an event's outcome, if it has one.
 pub(crate) fn mark_of(outcome: &Outcome) -> Option<Mark>
     ensures { result ≡ spec.mark_of outcome.now }
 {
@@ -108,7 +108,7 @@ pub(crate) fn push_mark(
     push_shape(sheet, out, mark, Point { x, y })
 }
 
-/// The middle of the column of somebody, or a place beside all of them where there is none.
+/// The middle of an actor's column, or a place beside all columns if it has none.
 pub(crate) fn x_beside(sheet: &Sheet<'_>, who: Option<Actor>) -> u64
     ensures { IsBeside sheet.now who result }
 {

@@ -136,7 +136,7 @@ fn push_both(
     write!(out, "<pre>{text}</pre>\n")
 }
 
-// What a page begins with: it takes nothing from outside.
+// The head of a page: it takes nothing from outside.
 const HEAD: &str = "<!DOCTYPE html>
 <html lang='en'>
 <head>

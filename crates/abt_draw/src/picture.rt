@@ -137,7 +137,7 @@ fn push_port(
     Ok(base.saturating_add(BAND_STEP))
 }
 
-// The same, if it is a source.
+// The band of an actor, if it is a source; the base of the next band.
 #[tactic(auto, using(crate::proofs::Within::growing))]
 fn push_source(
     sheet: &Sheet<'_>,

@@ -45,7 +45,7 @@ pub struct PicturePlan {
     pub to: Option<u64>,
 }
 
-/// What the words of `abt draw` ask for: to draw the scenario of this file, or of the standard input.
+/// A plan that the words of `abt draw` ask for: to draw the scenario of this file, or of the standard input.
 #[derive(Drop)]
 pub struct DrawPlan {
     /// The file of the scenario.
@@ -160,7 +160,7 @@ pub fn picture_plan_of(
     })
 }
 
-// The file under a name, and whether it is for a page; none where its name ends in no way that is known.
+// The file under a name, and whether it is for a page; none if its name ends in no way that is known.
 fn file_of<'a>(found: &ArgMatches<'a>, name: &str) -> Option<(&'a str, bool)>
     ensures some { IfSome result (λ file. (spec.value_in found.now name.now ≡ Some file.0.now) ×
         (spec.is_page file.0.now ≡ Some file.1)) }

@@ -1,4 +1,4 @@
-//! The rows of a picture: what each event sent, brought and answered.
+//! The rows of a picture: what each event sent and brought, and its outcome.
 ghost use Rattle.std.specs.Prelude.{◌≡◌, ◌<◌, nat_lt, None, IfSome, OnOk, codes, string_bytes};
 ghost use Rattle.abt_text.specs.Text.{◌⋅◌};
 ghost use Rattle.abt_draw.specs.Places as places;
@@ -87,7 +87,7 @@ fn class_of(told: &Told) -> &'static str {
     }
 }
 
-// The number and the text of the event, and below them what it answered.
+// The number and the text of the event, and below them its outcome.
 #[tactic(auto, using(crate::proofs::Within::growing))]
 fn push_words(
     sheet: &Sheet<'_>,
@@ -207,7 +207,7 @@ fn arrow_class(arrow: &Arrow) -> &'static str
     }
 }
 
-// What an event sends: nothing is drawn of it where it comes in a row of the picture, since its arrow is drawn there.
+// What an event sends: nothing is drawn of it if it comes in a row of the picture, since its arrow is drawn there.
 #[tactic(auto, using(crate::proofs::Within::growing))]
 fn push_departure(
     sheet: &Sheet<'_>,
@@ -240,7 +240,7 @@ fn is_behind(sheet: &Sheet<'_>, event: usize) -> bool
     level_of(&sheet.rows, event) > sheet.rows.count
 }
 
-// A message that never comes, if those between whom it goes are shown.
+// A message that never comes, if its sender and receiver are shown.
 #[tactic(auto, using(crate::proofs::Within::growing))]
 fn push_lost(
     sheet: &Sheet<'_>,

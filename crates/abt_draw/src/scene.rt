@@ -1,9 +1,9 @@
-//! What pictures are drawn of.
+//! The scenes of pictures.
 use crate::Actor;
 use abt_model::Event;
 use abt_net::Net;
 
-/// What a picture is drawn of: events over a net to which nothing happened before.
+/// The scene of a picture: events over a net to which nothing happened before.
 #[derive(Clone, Copy)]
 pub struct Scene<'a> {
     /// The net.

@@ -1,4 +1,4 @@
-//! What a picture is drawn of, and where.
+//! The sheets of pictures.
 ghost use Rattle.std.specs.Prelude.{◌≡◌, ◌≤◌, length};
 ghost use Rattle.abt_draw.specs.Lines.{first_line, behind_line};
 
@@ -9,7 +9,7 @@ use abt_format::push_event;
 use abt_net::Net;
 use std::alloc::{AllocError, Global};
 
-// How far the columns are apart, in tenths of a unit, where there are few, some and many.
+// How far the columns are apart, in tenths of a unit, if there are few, some and many.
 const STEP_WIDE: u32 = 1100;
 
 const STEP_MIDDLE: u32 = 720;
@@ -27,7 +27,7 @@ const ROW_HEIGHT: u64 = 260;
 // How wide a picture is at least.
 const WIDTH_MIN: u64 = 6000;
 
-/// What a picture is drawn of, and where its columns and rows are.
+/// A scene, and the places of its columns and rows.
 #[derive(Clone, Copy)]
 pub(crate) struct Sheet<'a> {
     pub(crate) alloc: Global,
@@ -147,12 +147,12 @@ pub(crate) fn left_of(
     Ok(left_behind(signs, step))
 }
 
-/// The same behind words that take all the room that there is.
+/// Where the middle of the first column is if the words of the rows take all the room that there is.
 pub(crate) fn left_most(step: u32) -> u32 {
     left_behind(SIGNS_MAX, step)
 }
 
-// The same behind words of so many signs.
+// Where the middle of the first column is behind words of so many signs.
 fn left_behind(signs: usize, step: u32) -> u32 {
     let signs = signs.min(SIGNS_MAX) as u32;
     signs * SIGN_WIDTH + step / 2 + 100

@@ -12,7 +12,7 @@ use crate::{Block, Point, Size, blocks_of, height_of, push_label, push_line, pus
 use abt_chart::Frame;
 use std::alloc::AllocError;
 
-// What is held on a port, and its capacity.
+// The rates that connections hold on a port, and its capacity.
 fn stack_in(frame: &Frame, port: u16) -> &[u64]
     ensures { result.now ≡ spec.stack_in frame.now port }
 {
@@ -132,7 +132,7 @@ fn push_stack(
     Ok(())
 }
 
-// What a connection holds in a stack.
+// The rate that a connection holds in a stack.
 fn held_at(stack: &[u64], conn: usize) -> u64
     ensures { result ≡ unwrap_or (slice_get stack.now conn) 0 }
 {

@@ -84,7 +84,7 @@ pre { overflow-x: auto; font-size: 12px }
 @media print { .steps { display: none } svg { width: 100% } pre { white-space: pre-wrap } }
 ";
 
-/// What the page of a picture says before it.
+/// The legend, which stands before the picture on its page.
 pub(crate) const KEYS: &str =
     "<p>Time goes down, event by event. Thin line: a request; thick line: a yes; long dashes: a no; short dashes: a
 message that came again or late. A cross ends what never came. On a lifeline, a circle is a start, a large cross a crash, a dot a request that is
@@ -94,7 +94,7 @@ Below, over the events: what each connection holds at each port, under its capac
 that its path holds for it (dashes). Rates are cells per second; a + stands for a fraction.</p>
 ";
 
-// What the page of a picture does by keys, by mouse and by its slider.
+// The script of the page of a picture: keys, mouse and slider.
 const SCRIPT: &str = "
 (function () {
   var events = Array.prototype.slice.call(document.querySelectorAll('g.event'));
@@ -153,7 +153,7 @@ pub(crate) fn definitions() -> &'static str {
     DEFINITIONS
 }
 
-/// What the page of a picture does by keys, by mouse and by its slider.
+/// The script of the page of a picture: keys, mouse and slider.
 pub(crate) fn script() -> &'static str {
     SCRIPT
 }

@@ -52,7 +52,7 @@ fn asked_rate(told: &[Told], message: &Message) -> Option<Rate> {
     None
 }
 
-/// A rate in whole cells per second, with a sign behind it where more than that is meant.
+/// A rate in whole cells per second, with a sign behind it if more than that is meant.
 pub(crate) fn short_rate(alloc: Global, units: u64) -> Result<String, AllocError> {
     let whole = units / 512;
     let more = if units % 512 == 0 { "" } else { "+" };
@@ -67,7 +67,7 @@ pub(crate) fn answer_in(line: &str) -> &str {
     }
 }
 
-/// The beginning of a text, with a sign behind it where it goes on.
+/// The beginning of a text, with a sign behind it if it goes on.
 pub(crate) fn clipped(alloc: Global, text: &str) -> Result<String, AllocError> {
     let mut out = String::new(alloc);
     let mut signs: usize = 0;

@@ -1,4 +1,4 @@
--- What members say of channels, requests and answers.
+-- Channels, requests and answers in members.
 use Rattle.std.specs.Prelude.{ℕ, ◌^◌, nat_le, nat_lt, if◌then◌else◌, List, Option, Some, None, Result, Ok, Err}
 use Rattle.json.specs.Json.{Json}
 use Rattle.json.specs.Find.{as_str}

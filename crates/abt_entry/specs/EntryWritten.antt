@@ -1,4 +1,4 @@
--- What is written of steps of ports and of entries of sources (docs/JOURNALS.md).
+-- Steps of ports and entries of sources, as they are written (docs/JOURNALS.md).
 use Rattle.std.specs.Prelude.{ℕ, Bool, List, [], ◌∷◌, ◌++◌, codes, Ok, Err}
 use Rattle.std.specs.Fmt.{decimal}
 use Rattle.json.specs.Json.{Json, string, boolean, object, no_members}
@@ -73,7 +73,7 @@ ask_json rate plan = object (with_member of.Ask (rate_json rate) (with_member of
 abbrev pub told_json : ℕ → Bool → Json
 told_json seq granted = object (with_member of.Told (number_json seq) (with_member of.Granted (boolean granted) no_members))
 
--- what a source was to do; what happens elsewhere has no words here
+-- the deed of a source; an event elsewhere has no words here
 abbrev pub did_json : Event → Json
 did_json (event.Start conn now) = only of.Start (number_json now)
 did_json (event.Ask conn rate plan) = ask_json rate plan

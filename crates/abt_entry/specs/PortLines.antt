@@ -28,7 +28,7 @@ arrive_in json = do
   at ← whole_at (2 ^ 64) of.At json
   Ok (input.Arrive vc at)
 
--- what came to the port: one of `request`, `answer`, `arrive` and `capacity`
+-- the input of the port: one of `request`, `answer`, `arrive` and `capacity`
 abbrev pub input_in : Json → Read PortInput
 input_in json =
     if_there (find of.Request json) (λ cell. request_in of.Request cell >>= (λ request. Ok (input.Request request)))
@@ -42,7 +42,7 @@ abbrev pub if_passed : {A : Type 0} → A → Option Text → Read A → Read A
 if_passed pass (Some word) other = if bytes_eq word (codes "passed") then Ok pass else Err (fault.Member of.Reply)
 if_passed pass None other = other
 
--- what became of a request
+-- the reply to a request
 abbrev pub onward_in : Json → Read Onward
 onward_in json =
     if_passed onward.Pass (as_str json)
@@ -50,7 +50,7 @@ onward_in json =
     (if_there (find of.Dropped json) (λ word. needed of.Dropped (option_and_then drop_of (as_str word)) >>= (λ cause. Ok (onward.Drop cause)))
     (Err fault.Kind)))
 
--- what became of an answer
+-- the reply to an answer
 abbrev pub back_in : Json → Read Back
 back_in json =
     if_passed back.Pass (as_str json)
@@ -75,14 +75,14 @@ capped_in json =
     (if_there (find of.Refused json) (λ word. needed of.Refused (option_and_then capacity_fault_of (as_str word)) >>= (λ why. Ok (reply.Capped (Err why))))
     (Err fault.Kind))
 
--- what the port replied to an input of this kind
+-- the reply of the port to an input of this kind
 abbrev pub reply_in : PortInput → Json → Read PortReply
 reply_in (input.Request request) json = onward_in json >>= (λ onward. Ok (reply.Requested onward))
 reply_in (input.Answer answer) json = back_in json >>= (λ back. Ok (reply.Answered back))
 reply_in (input.Arrive vc at) json = judged_in json
 reply_in (input.Capacity capacity) json = capped_in json
 
--- who had it done: 0 where that isn't said
+-- who had it done: 0 if that isn't said
 abbrev pub caller_in : Option Json → Read ℕ
 caller_in None = Ok 0
 caller_in (Some json) = whole_of (2 ^ 16) of.Caller json

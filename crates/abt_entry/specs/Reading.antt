@@ -1,4 +1,4 @@
--- Readings of lines, and what a function answers of them that needs memory.
+-- Readings of lines, and the result of a function that needs memory for them.
 use Rattle.std.specs.Prelude.{Option, Some, None, Result, Ok, Err}
 use Rattle.abt_text.specs.FirstFault.{GivesOr}
 use Rattle.abt_entry.specs.declared.fault.LineFault.{LineFault}
@@ -13,6 +13,6 @@ abbrev pub needed : {A : Type 0} → Member → Option A → Read A
 needed name (Some x) = Ok x
 needed name None = Err (fault.Member name)
 
--- The answer is the exact one, seen so, or memory was refused.
+-- The result is the exact one, seen so, or memory was refused.
 abbrev pub Gives : {A B : Type 0} → (B → A) → Read A → Read B → Type 0
 Gives seen exact answer = GivesOr fault.Memory seen exact answer

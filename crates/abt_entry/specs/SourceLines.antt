@@ -23,7 +23,7 @@ use Rattle.abt_entry.specs.Reading.{Read, needed}
 use Rattle.abt_entry.specs.Values.{find, member_at, whole_of, whole_at, rate_as, truth_at, if_there}
 use Rattle.abt_entry.specs.Words.{start_fault_of, ask_fault_of, heard_of, cause_of, plan_of, is_failed}
 
--- how the store does at an ask: it works where that isn't said
+-- the plan of the store at an ask: it works if that isn't said
 abbrev pub plan_in : Option Json → Read StorePlan
 plan_in None = Ok Works
 plan_in (Some json) = needed of.Store (option_and_then plan_of (as_str json))
@@ -53,7 +53,7 @@ abbrev pub leaves_open : Event → Json → Bool
 leaves_open (event.Ask conn rate plan) json = is_failed (option_and_then as_str (find of.Store json))
 leaves_open other json = false
 
--- what the source of a connection was to do: one of `again`, `crash`, `start`, `ask`, `emit` and `told`
+-- the deed of the source of a connection: one of `again`, `crash`, `start`, `ask`, `emit` and `told`
 abbrev pub did_in : ℕ → Json → Read Event
 did_in conn json =
     if_word conn (as_str json)
@@ -96,7 +96,7 @@ if_plain (Some word) other =
     else Err (fault.Member of.Outcome)
 if_plain None other = other
 
--- what came of an event: one of `started`, `crashed`, `refused`, `asked`, `again`, `emitted`, `told` and `not-enabled`
+-- the outcome of an event: one of `started`, `crashed`, `refused`, `asked`, `again`, `emitted`, `told` and `not-enabled`
 abbrev pub outcome_in : Event → Json → Read Outcome
 outcome_in deed json =
     if_plain (as_str json)
@@ -121,7 +121,7 @@ arrived_in json = do
   place ← whole_at (2 ^ 64) of.Place json
   Ok (entry.Arrived cell place)
 
--- whether an entry leaves that open, where this is the value of its `did`
+-- whether an entry leaves that open whose `did` has this value
 abbrev pub is_open_in : SourceEntry → Option Json → Bool
 is_open_in (entry.Did deed came) (Some json) = leaves_open deed json
 is_open_in (entry.Did deed came) None = false

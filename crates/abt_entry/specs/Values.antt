@@ -1,4 +1,4 @@
--- What members say: numbers, words, rates and channels.
+-- The values of members: numbers, words, rates and channels.
 use Rattle.std.specs.Prelude.{ℕ, ◌^◌, ◌&&◌, nat_le, Bool, if◌then◌else◌, List, length, Option, Some, None, option_and_then}
 use Rattle.std.specs.Char.{is_ascii_digit}
 use Rattle.std.specs.List.{list_all}
@@ -36,7 +36,7 @@ whole_below limit json = below limit (option_and_then digits_of (as_number json)
 abbrev pub whole_of : ℕ → Member → Json → Read ℕ
 whole_of limit name json = needed name (whole_below limit json)
 
--- the same of a member that has to be there
+-- such a number of a member that has to be there
 abbrev pub whole_at : ℕ → Member → Json → Read ℕ
 whole_at limit name json = do
   value ← member_at name json

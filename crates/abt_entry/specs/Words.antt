@@ -89,7 +89,7 @@ cause_of word =
     else if bytes_eq word (cause_name NotAsking) then Some NotAsking
     else None
 
--- how the store does at an ask: `works`, or `before` and `after`, where it fails before or after the write
+-- the plan of the store at an ask: `works`, or `before` and `after`, if it fails before or after the write
 abbrev pub plan_name : StorePlan → Text
 plan_name Works = codes "works"
 plan_name FailsBefore = codes "before"
@@ -99,7 +99,7 @@ plan_name FailsAfter = codes "after"
 abbrev pub failed_name : Text
 failed_name = codes "failed"
 
--- where that is left open, the plan is that nothing was stored
+-- if that is left open, the plan is that nothing was stored
 abbrev pub plan_of : Text → Option StorePlan
 plan_of word =
     if bytes_eq word (plan_name Works) then Some Works

@@ -1,4 +1,4 @@
--- What is written of numbers, rates, channels, requests and answers.
+-- Numbers, rates, channels, requests and answers, as they are written.
 use Rattle.std.specs.Prelude.{◌≡◌, ℕ, List, [], ◌∷◌, ◌++◌, OnOk, Result}
 use Rattle.std.specs.Fmt.{decimal}
 use Rattle.std.specs.Int.{w16, to_be_bytes}

@@ -1,4 +1,4 @@
-//! What a line says.
+//! The lines of journals.
 use abt_journal::Entry;
 use abt_model::SourceEntry;
 use abt_net::Conn;

@@ -29,9 +29,9 @@ pub enum Member {
     Place,
     /// Who had a step done.
     Caller,
-    /// What came to a port.
+    /// The input of a port.
     Input,
-    /// What a port replied.
+    /// The reply of a port.
     Reply,
     /// A request.
     Request,
@@ -51,19 +51,19 @@ pub enum Member {
     Ask,
     /// Whether an answer is a yes.
     Granted,
-    /// What went back or wasn't done.
+    /// The answer that went back, or the refusal.
     Refused,
     /// Why a message was dropped.
     Dropped,
     /// The connection whose source an entry is of.
     Source,
-    /// What a source was to do.
+    /// The deed of a source.
     Did,
-    /// What came of it.
+    /// Its outcome.
     Outcome,
     /// A start.
     Start,
-    /// What the store does at an ask.
+    /// The plan of the store at an ask.
     Store,
     /// An emission.
     Emit,

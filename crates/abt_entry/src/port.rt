@@ -20,7 +20,7 @@ fn arrive_in(value: &Value<'_>) -> Result<PortInput, LineFault>
     Ok(PortInput::Arrive { vc, at })
 }
 
-// What came to the port.
+// The input of the port.
 fn input_in(value: &Value<'_>) -> Result<PortInput, LineFault>
     ensures { result ≡ lines.input_in (value_view value.now) }
 {
@@ -39,7 +39,7 @@ fn input_in(value: &Value<'_>) -> Result<PortInput, LineFault>
     Err(LineFault::Kind)
 }
 
-// What became of a request.
+// The reply to a request.
 fn onward_in(value: &Value<'_>) -> Result<Onward, LineFault>
     ensures { result ≡ lines.onward_in (value_view value.now) }
 {
@@ -58,7 +58,7 @@ fn onward_in(value: &Value<'_>) -> Result<Onward, LineFault>
     Err(LineFault::Kind)
 }
 
-// What became of an answer.
+// The reply to an answer.
 fn back_in(value: &Value<'_>) -> Result<Back, LineFault>
     ensures { result ≡ lines.back_in (value_view value.now) }
 {
@@ -103,7 +103,7 @@ fn capped_in(value: &Value<'_>) -> Result<PortReply, LineFault>
     Err(LineFault::Kind)
 }
 
-// What the port replied to an input.
+// The reply of the port to an input.
 fn reply_in(input: &PortInput, value: &Value<'_>) -> Result<PortReply, LineFault>
     ensures { result ≡ lines.reply_in input.now (value_view value.now) }
 {
@@ -115,7 +115,7 @@ fn reply_in(input: &PortInput, value: &Value<'_>) -> Result<PortReply, LineFault
     }
 }
 
-// Who had the step done, nobody in particular where that isn't said.
+// Who had the step done, nobody in particular if that isn't said.
 fn caller_in(value: Option<&Value<'_>>) -> Result<u16, LineFault>
     ensures { result ≡ lines.caller_in (option_map (λ found. value_view found.now) value.entry) }
 {

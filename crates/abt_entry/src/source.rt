@@ -42,7 +42,7 @@ fn told_in(conn: u16, value: &Value<'_>, number: &Value<'_>) -> Result<Event, Li
     Ok(Event::Told { conn, seq, granted })
 }
 
-// What the source of a connection was to do.
+// The deed of the source of a connection.
 fn did_in(conn: u16, value: &Value<'_>) -> Result<Event, LineFault>
     ensures { result ≡ lines.did_in conn (value_view value.now) }
 {
@@ -106,7 +106,7 @@ fn emitted_in(value: &Value<'_>) -> Result<Outcome, LineFault>
     Ok(Outcome::Emitted { cell, next })
 }
 
-// What came of an event.
+// The outcome of an event.
 fn outcome_in(event: &Event, value: &Value<'_>) -> Result<Outcome, LineFault>
     ensures { result ≡ lines.outcome_in event.now (value_view value.now) }
 {

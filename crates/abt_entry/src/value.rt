@@ -1,4 +1,4 @@
-//! What members say.
+//! The values of members.
 ghost use Rattle.std.specs.Prelude.{◌≡◌, ◌^◌, ◌<◌, ◌≤◌, option_map, option_and_then, MatchResult, IfOk, Ok, Err};
 ghost use Rattle.json.specs.Find.{as_str};
 ghost use Rattle.json.specs.Value.{value_view};

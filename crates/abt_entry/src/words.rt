@@ -142,7 +142,7 @@ pub(crate) fn is_failed_in(value: Option<&Value<'_>>) -> bool
     }
 }
 
-// The same of the value of a member.
+// The cause of a drop that the value of a member names.
 pub(crate) fn drop_in(value: &Value<'_>) -> Result<DropCause, LineFault>
     ensures { result ≡ needed of.Dropped (option_and_then words.drop_of (as_str (value_view value.now))) }
 {
@@ -152,7 +152,7 @@ pub(crate) fn drop_in(value: &Value<'_>) -> Result<DropCause, LineFault>
     }
 }
 
-// The same of the value of a member.
+// The verdict that the value of a member names.
 pub(crate) fn verdict_in(value: &Value<'_>) -> Result<Verdict, LineFault>
     ensures { result ≡ needed of.Arrived (option_and_then words.verdict_of (as_str (value_view value.now))) }
 {
@@ -162,7 +162,7 @@ pub(crate) fn verdict_in(value: &Value<'_>) -> Result<Verdict, LineFault>
     }
 }
 
-// The same of the value of a member.
+// The fault of an arrival that the value of a member names.
 pub(crate) fn arrive_fault_in(value: &Value<'_>) -> Result<ArriveFault, LineFault>
     ensures { result ≡
         needed of.Refused (option_and_then words.arrive_fault_of (as_str (value_view value.now))) }
@@ -173,7 +173,7 @@ pub(crate) fn arrive_fault_in(value: &Value<'_>) -> Result<ArriveFault, LineFaul
     }
 }
 
-// The same of the value of a member.
+// The fault of a capacity that the value of a member names.
 pub(crate) fn capacity_fault_in(value: &Value<'_>) -> Result<CapacityFault, LineFault>
     ensures { result ≡
         needed of.Refused (option_and_then words.capacity_fault_of (as_str (value_view value.now))) }
@@ -184,7 +184,7 @@ pub(crate) fn capacity_fault_in(value: &Value<'_>) -> Result<CapacityFault, Line
     }
 }
 
-// The same of the value of a member.
+// The fault of a start that the value of a member names.
 pub(crate) fn start_fault_in(value: &Value<'_>) -> Result<StartFault, LineFault>
     ensures { result ≡
         needed of.Refused (option_and_then words.start_fault_of (as_str (value_view value.now))) }
@@ -195,7 +195,7 @@ pub(crate) fn start_fault_in(value: &Value<'_>) -> Result<StartFault, LineFault>
     }
 }
 
-// The same of the value of a member.
+// The fault of an ask that the value of a member names.
 pub(crate) fn ask_fault_in(value: &Value<'_>) -> Result<AskFault, LineFault>
     ensures { result ≡
         needed of.Refused (option_and_then words.ask_fault_of (as_str (value_view value.now))) }
@@ -206,7 +206,7 @@ pub(crate) fn ask_fault_in(value: &Value<'_>) -> Result<AskFault, LineFault>
     }
 }
 
-// The same of the value of a member.
+// What a source made of an answer, as the value of a member names it.
 pub(crate) fn heard_in(value: &Value<'_>) -> Result<Heard, LineFault>
     ensures { result ≡ needed of.Told (option_and_then words.heard_of (as_str (value_view value.now))) }
 {
@@ -216,7 +216,7 @@ pub(crate) fn heard_in(value: &Value<'_>) -> Result<Heard, LineFault>
     }
 }
 
-// The same of the value of a member.
+// The cause for which an event isn't enabled, as the value of a member names it.
 pub(crate) fn cause_in(value: &Value<'_>) -> Result<Cause, LineFault>
     ensures { result ≡ needed of.NotEnabled (option_and_then words.cause_of (as_str (value_view value.now))) }
 {
@@ -226,7 +226,7 @@ pub(crate) fn cause_in(value: &Value<'_>) -> Result<Cause, LineFault>
     }
 }
 
-// The same of the value of a member.
+// The plan of a store that the value of a member names.
 pub(crate) fn plan_word_in(value: &Value<'_>) -> Result<StorePlan, LineFault>
     ensures { result ≡ needed of.Store (option_and_then words.plan_of (as_str (value_view value.now))) }
 {

@@ -29,7 +29,7 @@ pub fn entry_line(alloc: Global, conn: u16, entry: &SourceEntry) -> Result<Vec<u
     Ok(writer.into_inner())
 }
 
-/// The text of what a port replied.
+/// The text of a port's reply.
 pub fn reply_text(alloc: Global, reply: &PortReply) -> Result<Vec<u8>, AllocError>
     ensures { IfOk result (λ text. text.items ≡ print (json_tokens (reply_json reply.now))) }
 {
@@ -38,7 +38,7 @@ pub fn reply_text(alloc: Global, reply: &PortReply) -> Result<Vec<u8>, AllocErro
     Ok(writer.into_inner())
 }
 
-/// The text of what came of what a source was to do.
+/// The text of the outcome of a source's deed.
 pub fn outcome_text(alloc: Global, outcome: &Outcome) -> Result<Vec<u8>, AllocError>
     ensures { IfOk result (λ text. text.items ≡ print (json_tokens (outcome_json outcome.now))) }
 {

@@ -24,7 +24,7 @@ abbrev pub refused_by : Outcome → ℕ
 refused_by (Told Refused) = 1
 refused_by outcome = 0
 
--- what the request asked for that an event tells a source the answer to; 0 if it tells none
+-- the asked rate of the request whose answer an event tells a source; 0 if it tells none
 abbrev pub units_asked : Topology → Past → Event → ℕ
 units_asked net past (event.Told c seq granted) = number (option_map (λ terms. terms.1) (asked_for net past c seq))
 units_asked net past other = 0
@@ -34,13 +34,13 @@ verdict_text at c seq units verdict =
     codes "event " ⋅ decimal at ⋅ codes ": connection " ⋅ decimal c ⋅ codes " is " ⋅ verdict ⋅ codes " " ⋅ cells_text units
     ⋅ codes " cells/s by request " ⋅ decimal seq ⋅ newline
 
--- the line of an answer, by what its source made of it; nothing where it didn't wait for it
+-- the line of an answer, by what its source made of it; nothing if it didn't wait for it
 abbrev pub heard_text : (at c seq units : ℕ) → Heard → Text
 heard_text at c seq units Raised = verdict_text at c seq units (codes "granted")
 heard_text at c seq units Refused = verdict_text at c seq units (codes "refused")
 heard_text at c seq units Ignored = []
 
--- the same of the event of a number; nothing for one that tells no source an answer
+-- the line of the event of a number; nothing for one that tells no source an answer
 abbrev pub answer_text : (at : ℕ) → Event → (units : ℕ) → Outcome → Text
 answer_text at (event.Told c seq granted) units (Told heard) = heard_text at c seq units heard
 answer_text at other units outcome = []

@@ -1,4 +1,4 @@
--- What goes out where a scenario is explained.
+-- What goes out when a scenario is explained.
 use Rattle.std.specs.Prelude.{Option, IfSome}
 use Rattle.std.specs.Io.KnownBytes.{Appends, Keeps}
 use Rattle.abt_text.specs.Text.{Text}
@@ -31,7 +31,7 @@ pub record IsExplainedPart (left old new : Option Text) : Type 0 where
   pub explanation : IsExplanationOf left text
   pub written : AppendsPrefix old new text
 
--- what a fault says, and what it leaves with the writer: a part of the explanation where that failed, and else what was there
+-- what a fault says, and what it leaves with the writer: a part of the explanation if that failed, and else what was there
 abbrev pub Leaves : EngineFault → (left old new : Option Text) → Type 0
 Leaves Write left old new = IsExplainedPart left old new
 Leaves fault left old new = IfSome left (Explains fault) × Keeps old new

@@ -1,4 +1,4 @@
--- What the words of `abt explain` ask for.
+-- The plans that the words of `abt explain` ask for.
 use Rattle.std.specs.Prelude.{◌≡◌, codes, option_map, string_bytes, Option}
 use Rattle.clap.specs.declared.parser.matches.ArgMatches.{ArgMatches}
 use Rattle.clap.specs.Words.{found_of, first_value, one_text}

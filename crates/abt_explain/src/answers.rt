@@ -110,7 +110,7 @@ fn push_answer(
     push_heard(alloc, text, number, conn, seq, units, heard)
 }
 
-// The same by what the source made of the answer; nothing where it didn't wait for it.
+// The line of an answer by what its source made of it, behind a text; nothing if the source didn't wait for it.
 fn push_heard(
     alloc: Global,
     text: &mut String,

@@ -16,7 +16,7 @@ use std::alloc::{AllocError, Global};
 use std::io::{Read, Write};
 
 /// Reads a scenario, runs it and writes its explanation, with the line of each event (docs/EXPLAIN.md). Nothing is written before the
-/// whole explanation is made; where the writer fails, or takes no octet, a part of it went out.
+/// whole explanation is made; if the writer fails, or takes no octet, a part of it went out.
 pub fn explain_text<R: Read, W: Write>(
     alloc: Global,
     reader: &mut R,
@@ -64,7 +64,7 @@ fn explanation_in(alloc: Global, placed: &Placed) -> Result<String, AllocError>
     )
 }
 
-/// Carries a plan out, and gives the exit status: 0 where the whole explanation went out to `writer`, and 1 where a line on `errors`
+/// Carries a plan out, and gives the exit status: 0 if the whole explanation went out to `writer`, and 1 if a line on `errors`
 /// tells why not. A line that can't be written there changes no status.
 pub fn perform_explain<R: Read, W: Write, E: Write>(
     alloc: Global,

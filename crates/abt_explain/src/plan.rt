@@ -16,7 +16,7 @@ const JSON: &str = "json";
 // Whether nothing is shown of how far it is.
 const QUIET: &str = "quiet";
 
-/// What the words of `abt explain` ask for: to explain the scenario of this file, or of the standard input.
+/// A plan that the words of `abt explain` ask for: to explain the scenario of this file, or of the standard input.
 #[derive(Drop)]
 pub struct ExplainPlan {
     pub file: Option<String>,
@@ -44,7 +44,7 @@ pub fn add_commands<'a>(alloc: Global, program: Command<'a>) -> Result<Command<'
     program.subcommand(explain)
 }
 
-/// The plan that the words behind a command's name ask for, or `None` if the command is none of these, or is to answer as JSON.
+/// The plan that the words behind a command's name ask for, or `None` if it is another command, or is to print JSON.
 pub fn plan_of(
     alloc: Global,
     name: &str,

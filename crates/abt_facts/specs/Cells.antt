@@ -14,7 +14,7 @@ emitted_of [] = 0
 emitted_of (Emitted cell at rate ∷ facts) = emitted_of facts + 1
 emitted_of (fact ∷ facts) = emitted_of facts
 
--- a part of the emission of a cell, of its moment and its rate; 0 where it wasn't emitted
+-- a part of the emission of a cell, of its moment and its rate; 0 if it wasn't emitted
 abbrev pub emitted_under : ((at rate : ℕ) → ℕ) → List Fact → ℕ → ℕ
 emitted_under part [] n = 0
 emitted_under part (Emitted cell at rate ∷ facts) n = if cell == n then part at rate else emitted_under part facts n
@@ -27,13 +27,13 @@ moment_of facts n = emitted_under (λ at rate. at) facts n
 abbrev pub cell_rate_of : List Fact → ℕ → ℕ
 cell_rate_of facts n = emitted_under (λ at rate. rate) facts n
 
--- a part of the last arrival, of its cell and its moment; 0 where there was none
+-- a part of the last arrival, of its cell and its moment; 0 if there was none
 abbrev pub last_arrived : ((cell at : ℕ) → ℕ) → List Fact → ℕ
 last_arrived part [] = 0
 last_arrived part (Arrived cell at rate verdict ∷ facts) = part cell at
 last_arrived part (fact ∷ facts) = last_arrived part facts
 
--- the number behind the last cell that arrived, 0 where none did, and the moment of the last arrival
+-- the number behind the last cell that arrived, 0 if none did, and the moment of the last arrival
 abbrev pub after_last_of : List Fact → ℕ
 after_last_of facts = last_arrived (λ cell at. cell + 1) facts
 

@@ -1,11 +1,12 @@
--- What a hop of a connection's path keeps and holds, by the connection's facts, the newest first (docs/RULES.md, "Node").
+-- The state of a hop of a connection's path, and the rate that it holds, by the connection's facts, the newest first (docs/RULES.md,
+-- "Node").
 use Rattle.std.specs.Prelude.{ℕ, ◌==◌, ◌&&◌, not, Bool, List, [], ◌∷◌, if◌then◌else◌, max}
 use Rattle.abt_facts.specs.declared.fact.Fact.{Fact}
 use Rattle.abt_facts.specs.declared.fact.Fact.TheVariants.{Passed, Shut}
 use Rattle.abt_facts.specs.Requests.{floor_of, ask_of}
 use Rattle.abt_facts.specs.Sent.{was_shut}
 
--- the newest number that hop j has passed or shut, 0 where there is none
+-- the newest number that hop j has passed or shut, 0 if there is none
 abbrev pub newest_of : List Fact → ℕ → ℕ
 newest_of [] j = 0
 newest_of (Passed seq hop ∷ facts) j = if hop == j then max seq (newest_of facts j) else newest_of facts j

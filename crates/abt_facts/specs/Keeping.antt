@@ -17,7 +17,7 @@ counted rate = if rate == 0 then 0 else spacing_of rate
 abbrev pub need_by : (gap rate awaited ask : ℕ) → ℕ
 need_by gap rate awaited ask = max gap (max (counted rate) (max (counted awaited) (counted ask)))
 
--- An ask after number `last` writes where its number or its need is above what is kept.
+-- An ask after number `last` writes if its number or its need is above what is kept.
 abbrev pub writes_by : KeptRecord → (last need : ℕ) → Bool
 writes_by kept last need = nat_lt kept.number (last + 1) || nat_lt kept.spacing need
 

@@ -1,4 +1,4 @@
--- What was asked for under a number. Facts are those of one connection, the newest first.
+-- The request of a number. Facts are those of one connection, the newest first.
 use Rattle.std.specs.Prelude.{ℕ, ◌==◌, Bool, false, List, [], ◌∷◌, if◌then◌else◌}
 use Rattle.std.specs.List.{list_any}
 use Rattle.abt_facts.specs.declared.fact.Fact.{Fact}
@@ -12,7 +12,7 @@ is_ask_of s other = false
 abbrev pub was_asked : List Fact → ℕ → Bool
 was_asked facts s = list_any (is_ask_of s) facts
 
--- a part of what was asked under a number: of its floor, its asked rate and its mark; 0 where it was not asked
+-- the floor, the asked rate or the mark asked under a number; 0 if it was not asked
 abbrev pub asked_under : ((floor ask mark : ℕ) → ℕ) → List Fact → ℕ → ℕ
 asked_under part [] s = 0
 asked_under part (Asked seq floor ask mark ∷ facts) s = if seq == s then part floor ask mark else asked_under part facts s

@@ -44,7 +44,7 @@ first_source = record {
   emission = None;
 }
 
--- the rate that an open request asks for, zero where none waits for its answer
+-- the rate that an open request asks for, zero if none waits for its answer
 abbrev pub open_ask : List Fact → SourceState → ℕ
 open_ask facts Down = 0
 open_ask facts Idle = 0

@@ -1,4 +1,4 @@
-//! What an event leaves behind.
+//! The facts that events leave.
 use abt_gcra::Verdict;
 use abt_keep::Record;
 use abt_rate::Rate;
@@ -52,7 +52,7 @@ pub enum Fact {
         seq: u32,
         hop: u16,
     },
-    /// What the last hop passed was turned into a yes.
+    /// The request that the last hop passed was turned into a yes.
     Turned {
         seq: u32,
     },

@@ -43,7 +43,7 @@ ask_with c code plan = do
   rate ← rate_of code
   Some (event.Ask conn rate plan)
 
--- `ask C CODE`, where the store works; `ask C CODE before`, `ask C CODE after`, where it fails
+-- `ask C CODE`, if the store works; `ask C CODE before`, `ask C CODE after`, if it fails
 abbrev pub ask_of : List Text → Option Event
 ask_of (c ∷ code ∷ []) = ask_with c code Works
 ask_of (c ∷ code ∷ word ∷ []) = do

@@ -13,7 +13,7 @@ digits_of (suc places) parts rest =
 abbrev pub rest_text : (places parts rest : ℕ) → Text
 rest_text places parts rest = if rest == 0 then [] else (codes "." ⋅ digits_of places parts rest)
 
--- a number of parts, so many of which are one
+-- a number as a decimal fraction, given how many parts are one
 abbrev pub fraction_text : (places parts number : ℕ) → Text
 fraction_text places parts number =
     decimal (number / parts) ⋅ rest_text places parts (number % parts)

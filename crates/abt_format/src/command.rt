@@ -10,7 +10,7 @@ use abt_text::{u32_of, u64_of, words_of};
 /// The words of a command's text at most: the order and what two more say.
 const WORDS_MAX: usize = 3;
 
-/// The command that a text of a script says, or `None` where it says none (docs/FORMATS.md, "Scripts").
+/// The command that a text of a script says, or `None` if it says none (docs/FORMATS.md, "Scripts").
 pub fn command_of(text: &str) -> Option<Command>
     ensures { result ≡ command_of text.now }
 {

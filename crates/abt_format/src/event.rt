@@ -11,7 +11,7 @@ use abt_text::{u16_of, u32_of, u64_of, words_of};
 /// The words of an event's text at most: the verb and what three more say.
 const WORDS_MAX: usize = 4;
 
-/// The event that a text says, or `None` where it says none (docs/FORMATS.md, "Scenario").
+/// The event that a text says, or `None` if it says none (docs/FORMATS.md, "Scenario").
 pub fn event_of(text: &str) -> Option<Event>
     ensures { result ≡ event_of text.now }
 {

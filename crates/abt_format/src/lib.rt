@@ -11,10 +11,6 @@ mod operation;
 mod outcome;
 mod pieces;
 mod report;
-#[cfg(test)]
-mod report_tests;
-#[cfg(test)]
-mod tests;
 mod value;
 
 pub use command::command_of;

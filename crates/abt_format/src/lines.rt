@@ -16,7 +16,7 @@ pub(crate) fn count_line(alloc: Global, count: usize) -> Result<String, AllocErr
     format!(in alloc; "events {count}\n")
 }
 
-// What the event of a number answered. There are many such lines, so none is a text of its own.
+// The outcome of the event of a number. It is written into the report at once, as there are many such lines.
 pub(crate) fn push_outcome_line(
     text: &mut String,
     number: u64,
@@ -56,7 +56,7 @@ fn rates_text(alloc: Global, rates: &[Rate]) -> Result<String, AllocError>
     Ok(text)
 }
 
-// What a port holds reserved, and its capacity.
+// The rate reserved on a port, and its capacity.
 pub(crate) fn port_line(
     alloc: Global,
     port: u64,

@@ -18,7 +18,7 @@ pub fn seconds_text(alloc: Global, moment: u64) -> Result<String, AllocError>
     fraction_text(alloc, 12, 1_000_000_000_000, moment)
 }
 
-// A number of parts, so many of which are one, with so many places at most.
+// A number as a decimal fraction, given how many parts are one, with at most so many places.
 fn fraction_text(alloc: Global, places: u8, parts: u64, number: u64) -> Result<String, AllocError>
     requires some { 0 < parts }
     requires few { parts ≤ 10 ^ 12 }

@@ -24,7 +24,7 @@ pub fn cause_name(cause: Cause) -> &'static str
     }
 }
 
-/// What the policer says of a cell (docs/FORMATS.md, "Report").
+/// The name of a policer's verdict (docs/FORMATS.md, "Report").
 pub fn verdict_name(verdict: Verdict) -> &'static str
     ensures { result.now ≡ verdict_name verdict }
 {

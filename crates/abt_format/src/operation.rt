@@ -8,7 +8,7 @@ use abt_text::{u16_of, u64_of, words_of};
 /// The words of an operation's text: what is done, to which port, and by how many units.
 const WORDS_MAX: usize = 3;
 
-/// The operation that a text says, or `None` where it says none (docs/FORMATS.md, "Operator").
+/// The operation that a text says, or `None` if it says none (docs/FORMATS.md, "Operator").
 pub fn operation_of(text: &str) -> Option<Operation>
     ensures { result ≡ operation_of text.now }
 {

@@ -13,7 +13,7 @@ use abt_shaper::ShapeFault;
 use abt_text::HexCode;
 use std::alloc::AllocError;
 
-/// Adds what an event answered, as reports say it (docs/FORMATS.md, "Report").
+/// Adds the outcome of an event, as reports say it (docs/FORMATS.md, "Report").
 pub fn push_outcome(text: &mut String, outcome: &Outcome) -> Result<(), AllocError>
     ensures { OnOk result (string_bytes text.new ≡ string_bytes text.old ++ outcome_text outcome.now) }
 {

@@ -1,4 +1,4 @@
-//! Numbers in the lines of reports. There are many of them, so none is a text of its own.
+//! Numbers in the lines of reports, written into the report at once, as there are many.
 ghost use Rattle.std.specs.Prelude.{◌≡◌, ◌++◌, OnOk, string_bytes};
 ghost use Rattle.abt_text.specs.Text.{decimal};
 

@@ -7,9 +7,9 @@ use abt_model::{Outcome, Sequence, Trace};
 use abt_rate::Rate;
 use std::alloc::{AllocError, Global};
 
-/// The report of a run (docs/FORMATS.md, "Report"): how many events there were, what each answered, then each connection
-/// with its rate and what its hops hold, each port with its total and the capacity that it has in the end, and whether all
-/// that is safe.
+/// The report of a run (docs/FORMATS.md, "Report"): how many events there were, the outcome of each, then each
+/// connection with its rate and what its hops hold, each port with its total and the capacity that it has in the end,
+/// and whether all that is safe.
 pub fn report_text(alloc: Global, trace: &Trace) -> Result<String, AllocError>
     ensures { IfOk result (λ text. string_bytes text ≡ report_of trace.now) }
 {

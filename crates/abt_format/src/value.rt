@@ -1,4 +1,4 @@
-//! What single words say.
+//! The values of single words.
 ghost use Rattle.std.specs.Prelude.{◌≡◌};
 ghost use Rattle.abt_format.specs.Values.{rate_of, plan_of};
 
@@ -7,7 +7,7 @@ use abt_rate::Rate;
 use hex::FromHex;
 
 /// The rate of a rate code, which is written as four hexadecimal digits of either case (docs/FORMATS.md, "Scenario"); no
-/// rate where the text is anything else.
+/// rate if the text is anything else.
 pub fn rate_of(word: &str) -> Option<Rate>
     ensures { result ≡ rate_of word.now }
 {
@@ -17,7 +17,7 @@ pub fn rate_of(word: &str) -> Option<Rate>
     }
 }
 
-// How the store fails, where a word says that it does.
+// How the store fails, if a word says that it does.
 pub(crate) fn plan_of(word: &str) -> Option<StorePlan>
     ensures { result ≡ plan_of word.now }
 {

@@ -37,6 +37,6 @@ AreInOrder cells =
 abbrev pub AreHeldFor : List Passage → Type 0
 AreHeldFor cells = All (λ cell. (0 < cell.rate) × (cell.rate ≤ cell.held)) cells
 
--- what the policer meets
+-- the arrivals at the policer
 abbrev pub arrivals_of : List Passage → List Arrival
 arrivals_of cells = map (λ cell. record { at = cell.arrived; spacing = spacing_of cell.held }) cells

@@ -36,7 +36,7 @@ IsLevelAt clock last level = (last ≤ clock) × (level ≤ tau_max + spacing_ma
 abbrev pub fresh_policing : ℕ → Policing
 fresh_policing tau = record { tau = tau; tat = None; clock = 0 }
 
--- when the next cell is due: the theoretical arrival time, or its own arrival where there is none
+-- when the next cell is due: the theoretical arrival time, or its own arrival if there is none
 abbrev pub due_at : Policing → ℕ → ℕ
 due_at p at = unwrap_or p.tat at
 

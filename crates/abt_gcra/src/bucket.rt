@@ -59,7 +59,7 @@ impl Bucket {
         }
     }
 
-    /// The bucket that keeps these, as [`Bucket::tau`], [`Bucket::level`] and [`Bucket::clock`] gave them, or `None` where
+    /// The bucket that keeps these, as [`Bucket::tau`], [`Bucket::level`] and [`Bucket::clock`] gave them, or `None` if
     /// the tolerance or the level is above its limit, or a cell was taken after the clock.
     pub fn of_parts(tau: u64, level: Option<(u64, u64)>, clock: u64) -> Option<Bucket>
         ensures some { IsSome result ↔

@@ -31,7 +31,7 @@ pub enum PoliceFault {
     Memory,
 }
 
-// Whether a cell may arrive at a moment, where the last one arrived at the clock.
+// Whether a cell may arrive at a moment, if the last one arrived at the clock.
 pub(crate) fn may_arrive(clock: u64, at: u64) -> Result<(), GcraFault>
     ensures clock_back { IsErrOf result GcraFault.ClockBack ↔ (at < clock) }
     ensures time_range { IsErrOf result GcraFault.TimeRange ↔ ((clock ≤ at) × (arrive_max < at)) }

@@ -50,7 +50,7 @@ impl Gcra {
         }
     }
 
-    /// The algorithm that keeps these, as [`Gcra::tau`], [`Gcra::tat`] and [`Gcra::clock`] gave them, or `None` where the
+    /// The algorithm that keeps these, as [`Gcra::tau`], [`Gcra::tat`] and [`Gcra::clock`] gave them, or `None` if the
     /// tolerance is above its limit, or the theoretical arrival time is one that no cell leaves.
     pub fn of_parts(tau: u64, tat: Option<u64>, clock: u64) -> Option<Gcra>
         ensures some { IsSome result ↔ IsKept (record { tau = tau; tat = tat; clock = clock }) }

@@ -45,7 +45,7 @@ impl Policer {
         }
     }
 
-    /// The policer that keeps these, as [`Policer::tau`], [`Policer::tat`] and [`Policer::clock`] gave them, or `None` where
+    /// The policer that keeps these, as [`Policer::tau`], [`Policer::tat`] and [`Policer::clock`] gave them, or `None` if
     /// the tolerance is above its limit, or the theoretical arrival time is one that no cell leaves.
     pub fn of_parts(tau: u64, tat: Option<u64>, clock: u64) -> Option<Policer>
         ensures some { IsSome result ↔ IsKept (record { tau = tau; tat = tat; clock = clock }) }
@@ -58,7 +58,7 @@ impl Policer {
     }
 
     /// The verdict on a cell that arrives at a moment, where a rate is held for its connection. It is
-    /// [`Verdict::NoRate`](crate::Verdict::NoRate) where that rate is zero.
+    /// [`Verdict::NoRate`](crate::Verdict::NoRate) if that rate is zero.
     ///
     /// # Errors
     /// [`GcraFault::ClockBack`] if the arrival is below that of the last cell that was given a verdict, and else

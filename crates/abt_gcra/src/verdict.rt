@@ -1,6 +1,6 @@
 //! Verdicts.
 
-/// What a policer says of a data cell (docs/RULES.md, "GCRA").
+/// The verdict of a policer on a data cell (docs/RULES.md, "GCRA").
 #[derive(Clone, Copy, Debug, PartialEq, Eq)]
 pub enum Verdict {
     /// The cell keeps every window with the cells that were taken before it, and is taken.

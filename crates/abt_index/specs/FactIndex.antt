@@ -14,7 +14,7 @@ pub record EmissionsView : Type 0 where
   pub moments : List (ℕ × ℕ)
   pub room : ℕ
 
--- the index of what was noted, and for how many more facts there is room
+-- the index of the noted facts, and for how many more there is room
 pub record LogView : Type 0 where
   pub index : Index
   pub room : ℕ

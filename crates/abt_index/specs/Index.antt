@@ -25,12 +25,12 @@ blank = record { asked = false; floor = 0; ask = 0; mark = 0; delivered = false;
 abbrev pub message_in : List (ℕ × Message) → ℕ → Message
 message_in messages seq = unwrap_or (lookup (nat_eq seq) messages) blank
 
--- the moment of a cell, 0 where it wasn't emitted
+-- the moment of a cell, 0 if it wasn't emitted
 abbrev pub moment_in : List (ℕ × ℕ) → ℕ → ℕ
 moment_in [] n = 0
 moment_in (emission ∷ emissions) n = if emission.0 == n then emission.1 else moment_in emissions n
 
--- what is known of a number after one more fact of it
+-- a message after one more fact of it
 abbrev pub changed : Fact → Message → Message
 changed (Asked seq floor ask mark) message = record message { asked = true; floor = floor; ask = ask; mark = mark }
 changed (Delivered seq) message = record message { delivered = true }

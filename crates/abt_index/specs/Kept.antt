@@ -1,4 +1,4 @@
--- What is asked of the facts of a connection.
+-- The questions that are asked of the facts of a connection.
 use Rattle.std.specs.Prelude.{ℕ, Bool, true, false, List, Option, None, Some, if◌then◌else◌}
 use Rattle.abt_gcra.specs.declared.verdict.Verdict.TheVariants.{Conforming}
 use Rattle.abt_facts.specs.declared.fact.Fact.{Fact}

@@ -53,7 +53,7 @@ impl Emissions {
         self.moments.push_reserved(at);
     }
 
-    // The moment of a cell, 0 where it wasn't emitted.
+    // The moment of a cell, 0 if it wasn't emitted.
     #[tactic(auto, using(crate::proofs::Emitted::moment_at, crate::proofs::Emitted::no_moment))]
     pub(crate) fn of(&self, cell: u64, looks: &mut Lookups) -> u64
         ensures value { result ≡ moment_in self.now.moments cell }

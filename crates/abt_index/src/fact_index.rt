@@ -72,7 +72,7 @@ impl FactIndex {
     /// Makes room for two more facts.
     ///
     /// # Errors
-    /// Where memory is refused the log is the same.
+    /// If memory is refused the log is the same.
     pub fn reserve(&mut self) -> Result<(), AllocError>
         ensures ok { OnOk result (2 ≤ self.new.room) }
         ensures same { self.new.index ≡ self.old.index }
@@ -210,7 +210,7 @@ impl FactIndex {
         }
     }
 
-    // The number behind the last cell that arrived, 0 where none did.
+    // The number behind the last cell that arrived, 0 if none did.
     fn after_last(&self) -> u64
         ensures { (facts : List FactSpec) → IsLogOf facts self.now → after_last_of facts ≤ u64.MAX →
             result ≡ after_last_of facts }

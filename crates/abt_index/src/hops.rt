@@ -10,7 +10,7 @@ pub(crate) struct Hops {
     pub(crate) bits: u32,
 }
 
-// Whether a bit of a number is set, of which all from number 32 on aren't.
+// Whether a bit of a number is set; bits from number 32 on never are.
 fn has_bit(bits: u32, number: u16) -> bool
     ensures { result ≡ (bit_at bits number == 1) }
 {

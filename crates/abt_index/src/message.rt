@@ -9,7 +9,7 @@ use abt_rate::Rate;
 /// What happened to a request and to the answers to it.
 #[derive(Clone, Copy, Debug, PartialEq, Eq)]
 pub(crate) struct Message {
-    /// Whether it was asked. Where it wasn't, the next three are 0.
+    /// Whether it was asked. If it wasn't, the next three are 0.
     pub(crate) asked: bool,
     /// The floor.
     pub(crate) floor: Rate,

@@ -55,7 +55,7 @@ impl Messages {
         }
     }
 
-    // Notes one more fact of a number, for which there is room, and gives the mark of its ask, 0 where there was none.
+    // Notes one more fact of a number, for which there is room, and gives the mark of its ask, 0 if there was none.
     pub(crate) fn note(&mut self, seq: u32, fact: &Fact, looks: &mut Lookups) -> u64
         requires { 1 ≤ self.old.room }
         ensures mark { result ≡ (message_in self.old.entries seq).mark }

@@ -1,4 +1,4 @@
--- Which fault is answered where states and seats aren't those of one run.
+-- Which fault is returned if states and seats aren't those of one run.
 use Rattle.std.specs.Prelude.{List}
 use Rattle.abt_net.specs.Topology.{Topology}
 use Rattle.abt_journal.specs.Journaled.{Journaled}

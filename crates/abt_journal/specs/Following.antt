@@ -1,4 +1,4 @@
--- What is sent after a port's reply (docs/RULES.md, "Path").
+-- Messages that are sent after a port's reply (docs/RULES.md, "Path").
 use Rattle.std.specs.Prelude.{ℕ, ◌-◌, ◌==◌, ◌&&◌, not, Bool, true, List, length, slice_index, if◌then◌else◌}
 use Rattle.abt_cell.specs.Channel.{Channel, same_channel}
 use Rattle.abt_cell.specs.Message.{Terms, Reply, answer_to}
@@ -36,7 +36,7 @@ is_no_to request answer =
     && answer.terms.floor == request.floor
     && answer.terms.ask == request.ask
 
--- what is sent after hop j of connection c replied so to a message; a drop ends its way
+-- the message that is sent after hop j of connection c replied so to one; a drop ends its way
 abbrev pub sent_after : List ℕ → (c j : ℕ) → Rm → PortReply → Next
 sent_after path c j (Request request) (Requested Pass) = on_from path j request
 sent_after path c j (Request request) (Requested (Refuse answer)) =

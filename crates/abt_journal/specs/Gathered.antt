@@ -40,7 +40,7 @@ pub record IsEntryOf (journals : List (List Entry)) (caller : ℕ) (r : Receipt)
 abbrev pub PlacesRise : List Receipt → Type 0
 PlacesRise receipts = AllPairs (λ q r. q.port ≡ r.port → q.entry.place < r.entry.place) receipts
 
--- What the receipts of all callers are to the journals, one by one.
+-- The receipts of all callers beside the journals, one by one.
 pub record AreGathered (journals : List (List Entry)) (seats : List Seated) : Type 0 where
   pub entries : All (λ s. All (IsEntryOf journals s.caller) s.receipts) seats
   pub rise : All (λ s. PlacesRise s.receipts) seats

@@ -5,7 +5,7 @@ use Rattle.std.specs.FinMap.{entries, from_entries}
 use Rattle.abt_cell.specs.Channel.{Channel}
 use Rattle.abt_node.specs.Table.{Connection, Table, opening, connection_at}
 
--- the tolerance of a connection's policer, where the port is its ingress
+-- the tolerance of a connection's policer, if the port is its ingress
 abbrev pub tau_of : Connection → Option ℕ
 tau_of c = option_map (λ p. p.tau) c.policing
 

@@ -10,9 +10,9 @@ pub struct Entry {
     pub place: u64,
     /// Who had the step done.
     pub caller: u16,
-    /// What came to the port.
+    /// The input of the port.
     pub input: PortInput,
-    /// What the port replied.
+    /// The reply of the port.
     pub reply: PortReply,
 }
 
@@ -35,7 +35,7 @@ impl Entry {
     }
 }
 
-/// What a caller keeps of a step that it had done: the entry, and the port in whose journal it is.
+/// The receipt of a caller for a step that it had done: the entry, and the port in whose journal it is.
 #[derive(Clone, Copy, Debug, PartialEq, Eq)]
 pub struct Receipt {
     /// The number of the port.

@@ -11,11 +11,11 @@ use crate::path::sent_after;
 use abt_cell::Rm;
 use abt_net::Net;
 
-/// What is sent once a port replied to a message (docs/RULES.md, "Path"): a request that it passed goes to the next port
-/// of its path, and its yes to the last port itself; a no, or an answer that it passed back, goes to the port before, or
-/// from the first to the source.
+/// The message that is sent once a port replied to one (docs/RULES.md, "Path"): a request that it passed goes to the
+/// next port of its path, and its yes to the last port itself; a no, or an answer that it passed back, goes to the port
+/// before, or from the first to the source.
 ///
-/// Nothing is sent after a drop, of a connection that the net doesn't have, by a port off the connection's path, or where
+/// Nothing is sent after a drop, of a connection that the net doesn't have, by a port off the connection's path, or if
 /// the reply isn't one to such a message: one of the other kind, or a refusal with another answer than the request's no.
 pub fn follow(net: &Net, port: u16, rm: &Rm, reply: &PortReply) -> Next
     ensures on_path { (c : ℕ) (conn : Conn) → conn_at net.now c ≡ Some conn →

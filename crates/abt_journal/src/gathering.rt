@@ -15,7 +15,7 @@ use std::alloc::Global;
 // The numbers of callers have 16 bits.
 const CALLERS: usize = 65_536;
 
-/// Takes the journals out of the states of all ports of a net, by the numbers of the ports, where the receipts of the
+/// Takes the journals out of the states of all ports of a net, by the numbers of the ports, if the receipts of the
 /// seats are just their entries: each is for one entry, each entry has one, and each caller's are in its order
 /// (docs/RULES.md, "Journals"). Memory is looked for first. Otherwise the fault is the first that applies, and all is
 /// dropped.

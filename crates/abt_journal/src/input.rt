@@ -1,11 +1,11 @@
-//! What comes to a port, and what is replied.
+//! Inputs of ports, and their replies.
 ghost use Rattle.std.specs.Prelude.{◌≡◌, ◌↔◌, IsTrue};
 
 use abt_cell::{Answer, Request, Vc};
 use abt_gcra::Verdict;
 use abt_node::{ArriveFault, Back, CapacityFault, Onward, Port};
 
-/// What comes to a port.
+/// An input of a port.
 #[derive(Clone, Copy, Debug, PartialEq, Eq)]
 pub enum PortInput {
     /// A request, on its way to the last port of its path.
@@ -18,12 +18,12 @@ pub enum PortInput {
     Capacity(u64),
 }
 
-/// What the port replies to an input of each kind.
+/// The reply of a port to an input of each kind.
 #[derive(Clone, Copy, Debug, PartialEq, Eq)]
 pub enum PortReply {
-    /// What becomes of a request.
+    /// The reply to a request.
     Requested(Onward),
-    /// What becomes of an answer.
+    /// The reply to an answer.
     Answered(Back),
     /// The verdict on a data cell, or why it has none.
     Arrived(Result<Verdict, ArriveFault>),

@@ -1,4 +1,4 @@
-//! What is sent next.
+//! The message that is sent next.
 use abt_cell::{Answer, Rm};
 
 /// What becomes of a message once a port replied to it (docs/RULES.md, "Path").

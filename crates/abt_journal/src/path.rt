@@ -7,7 +7,7 @@ use crate::next_message::Next;
 use abt_cell::{Answer, Request, Rm};
 use abt_node::{Back, Onward};
 
-// What goes back from a hop.
+// The answer that goes back from a hop.
 fn back_from(path: &[u16], conn: u16, hop: usize, answer: Answer) -> Next
     requires first { 1 ≤ hop }
     requires last { hop ≤ length path.now }
@@ -22,7 +22,7 @@ fn back_from(path: &[u16], conn: u16, hop: usize, answer: Answer) -> Next
     }
 }
 
-// What goes on from a hop that passed a request.
+// The message that goes on from a hop that passed a request.
 fn on_from(path: &[u16], hop: usize, request: Request) -> Next
     requires first { 1 ≤ hop }
     requires last { hop ≤ length path.now }
@@ -51,7 +51,7 @@ fn is_no_to(request: &Request, answer: &Answer) -> bool
         && answer.ask() == request.ask()
 }
 
-// What is sent after a hop's reply to a message.
+// The message that is sent after a hop's reply to one.
 pub(crate) fn sent_after(path: &[u16], conn: u16, hop: usize, rm: &Rm, reply: &PortReply) -> Next
     requires first { 1 ≤ hop }
     requires last { hop ≤ length path.now }

@@ -81,7 +81,7 @@ impl PortState {
         self.port.count()
     }
 
-    /// The tolerance of a connection's policer, which is the one that it had when the journal began: `Some(None)` where
+    /// The tolerance of a connection's policer, which is the one that it had when the journal began: `Some(None)` if
     /// the port isn't the ingress, and `None` for another's connection.
     pub fn tau(&self, vc: Vc) -> Option<Option<u64>>
         ensures value { result ≡ option_map tau_of (connection_at self.now.opening vc) }
@@ -90,7 +90,7 @@ impl PortState {
         self.port.tau(vc)
     }
 
-    /// The journal, of which the port's table is the replay.
+    /// The journal. The port's table is its replay.
     pub fn entries(&self) -> &[Entry]
         ensures value { result.now ≡ self.now.entries }
         ensures history { IsHistory self.now.opening self.now.entries }
@@ -108,7 +108,7 @@ impl PortState {
         place < self.entries.len() && self.entries[place].is(entry)
     }
 
-    /// Hands an input to the port and puts the step into the journal. The answer is its place there, and the reply.
+    /// Hands an input to the port and puts the step into the journal. The result is its place there, and the reply.
     pub fn step(&mut self, caller: u16, input: PortInput) -> Result<(u64, PortReply), AllocError>
         ensures value { IfOk result (λ r. r ≡ (length self.old.entries, reply_by self.old.table input)) }
         ensures within { IfOk result (λ r. r.0 + 1 < 2 ^ 64) }

@@ -7,6 +7,7 @@ mod runs;
 mod sources;
 mod streams;
 mod text_faults;
+mod threads;
 mod whole_texts;
 
 use abt_cell::{Answer, Request, Vc};
@@ -27,7 +28,7 @@ fn same<T: PartialEq + Debug>(rt: &impl Abort, found: &T, expected: &T) {
     assert_eq!(rt; *found, *expected);
 }
 
-/// A text out of its pieces, which is made again where memory was refused for it.
+/// A text out of its pieces, which is made again if memory was refused for it.
 fn joined(alloc: Global, pieces: &[&str]) -> Result<String, AllocError> {
     match joined_once(alloc, pieces) {
         Ok(text) => Ok(text),
@@ -43,7 +44,7 @@ fn joined_once(alloc: Global, pieces: &[&str]) -> Result<String, AllocError> {
     Ok(text)
 }
 
-/// What a line says, or why it says nothing. Where memory is refused, it is read again.
+/// What a line says, or why it says nothing. If memory is refused, it is read again.
 fn line_of(alloc: Global, text: &str) -> Result<Line, LineFault> {
     match read_line(alloc, text, &mut Scratch::new(alloc)) {
         Err(LineFault::Memory) => read_line(alloc, text, &mut Scratch::new(alloc)),

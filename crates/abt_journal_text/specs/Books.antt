@@ -43,7 +43,7 @@ with_text told = record {
   ended = false;
 }
 
--- lists without where they lie in memory
+-- lists, not seen by where they lie in memory
 abbrev pub lists_of : {A : Type 0} → Vec (Vec A Global) Global → List (List A)
 lists_of {A} lists = map (λ (items : Vec A Global). items.items) lists.items
 
@@ -95,7 +95,7 @@ with_entry spot c entry told = record {
   ended = told.ended;
 }
 
--- the same, of one that leaves open whether a write that failed was stored
+-- an entry more, of a source that leaves open whether a write that failed was stored
 abbrev pub with_open : Spot → ℕ → SourceEntry → Told → Told
 with_open spot c entry told = record {
   net = told.net;
@@ -134,7 +134,7 @@ pub record IsToldRun (told : Told) (run : Run) : Type 0 where
   pub port_count : length run.journals ≡ length run.net.capacities
   pub source_count : length run.sources.items ≡ length run.net.conns
 
--- the same, if a net was told
+-- The run is the one that was told, if a net was told.
 abbrev pub IsToldRunIfAny : Told → Option Run → Type 0
 IsToldRunIfAny told None = told.net ≡ None
 IsToldRunIfAny told (Some run) = IsToldRun told run

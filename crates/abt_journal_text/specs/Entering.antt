@@ -73,7 +73,7 @@ RefusesLine told octets why =
     ⊎ ((told.ended ≡ false) × (why ≡ cause.Line Utf8) × ¬ IsUtf8 octets)
     ⊎ ((told.ended ≡ false) × IsUtf8 octets × (IsNoLine octets why ⊎ RefusesKind told octets why))
 
--- what the texts aren't to blame for
+-- the causes for which texts aren't to blame
 abbrev pub IsOwn : Cause → Type 0
 IsOwn cause.Read = ⊤
 IsOwn cause.Endless = ⊤

@@ -55,7 +55,7 @@ pub record Sends (lines : List Text) (old new : Option Text) : Type 0 where
   pub sent : Appends old new (text_of lines)
   pub short : All IsShort lines
 
--- what went out where this line, behind others, isn't written: those before it, and a part of it if the writer failed, which is told
+-- what went out if this line, behind others, isn't written: those before it, and a part of it if the writer failed, which is told
 -- only of a line that isn't too long
 abbrev pub BreaksAt : WriteFault → List Text → Text → (old new : Option Text) → Type 0
 BreaksAt fault.TooLong front line old new = (line_max < length line) × Appends old new (text_of front)
@@ -63,7 +63,7 @@ BreaksAt fault.Write front line old new =
     (count : ℕ) × (count < length line + 1) × IsShort line × Appends old new (text_of front ⋅ take count (line ⋅ newline))
 BreaksAt fault.Memory front line old new = Appends old new (text_of front)
 
--- The lines up to one of them went out, none of which is too long; that one isn't written, for this reason.
+-- The lines before one went out, and none of them is too long; that one isn't written, for this reason.
 pub record Stops (lines : List Text) (why : WriteFault) (old new : Option Text) : Type 0 where
   pub front : List Text
   pub line : Text
@@ -72,6 +72,6 @@ pub record Stops (lines : List Text) (why : WriteFault) (old new : Option Text) 
   pub short : All IsShort front
   pub breaks : BreaksAt why front line old new
 
--- what became of writing some lines
+-- the outcome of writing some lines
 abbrev pub Writes : Result (Unit {0}) WriteFault → List Text → (old new : Option Text) → Type 0
 Writes result lines old new = MatchResult result (λ _. Sends lines old new) (λ why. Stops lines why old new)

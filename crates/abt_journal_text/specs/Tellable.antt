@@ -1,4 +1,4 @@
--- What a line can say: numbers that fit it, and what came of an input or of an event by its kind.
+-- Entries that a line can say: their numbers fit it, and the reply or the outcome is one of the kind of the input or the event.
 use Rattle.std.specs.Prelude.{◌≡◌, ℕ, ◌<◌, ◌^◌, ⊤, All}
 use Rattle.abt_rate.specs.Rate.{IsRate}
 use Rattle.abt_net.specs.Topology.{Topology}
@@ -45,7 +45,7 @@ pub record IsStep (step : Entry) : Type 0 where
   pub input : IsInput step.input
   pub reply : IsReply step.input step.reply
 
--- what the source of a connection was to do
+-- the deed of the source of a connection
 abbrev pub IsDeed : ℕ → Event → Type 0
 IsDeed conn (event.Start c now) = (c ≡ conn) × (now < 2 ^ 64)
 IsDeed conn (event.Ask c rate plan) = (c ≡ conn) × IsRate rate
@@ -71,7 +71,7 @@ abbrev pub IsEmit : Event → Type 0
 IsEmit (event.Emit c now) = ⊤
 IsEmit other = ⊥
 
--- what can come of it: each refusal is one of what was to be done
+-- the outcomes of a deed: each refusal is one that the deed can have
 abbrev pub CanCome : Event → Outcome → Type 0
 CanCome deed outcome.Started = ⊤
 CanCome deed (outcome.StartRefused fault) = IsStart deed

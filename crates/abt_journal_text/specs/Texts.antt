@@ -26,7 +26,7 @@ text_of (line ∷ lines) = line ⋅ line_feed ∷ text_of lines
 abbrev pub below : Spot → ℕ → Spot
 below spot count = record { text = spot.text; line = spot.line + count }
 
--- lines are taken in one after the other, the first of which stands here
+-- lines are taken in one after the other, from this place on
 abbrev pub TakesAll : Spot → Told → List Text → Told → Type 0
 TakesAll spot told [] after = after ≡ told
 TakesAll spot told (line ∷ lines) after =
@@ -81,7 +81,7 @@ pub record IsUnread (number : ℕ) (told : Told) (fault : TextFault) (left : Opt
   pub is : IfSome left (λ octets. text ≡ octets)
   pub fails : Fails (top number) (with_text told) text fault
 
--- Where octets of a line have come, and then a piece more: what is read from the next line on, behind what has come of it, is what was
+-- Once octets of a line have come, and then a piece more: what is read from the next line on, behind what has come of it, is what was
 -- read before.
 pub record GoesOn (spot : Spot) (told : Told) (begun piece : Text) (next : Spot) (then : Told) (begins : Text) : Type 0 where
   pub reads : (rest : Text) (after : Told) → Reads next then (begins ⋅ rest) after → Reads spot told (begun ⋅ piece ⋅ rest) after

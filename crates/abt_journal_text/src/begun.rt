@@ -13,7 +13,7 @@ use std::alloc::Global;
 /// The octets of a line at most, without its line feed.
 pub const LINE_MAX: usize = 16777215;
 
-// What has come of the next line.
+// The octets of the next line that have come.
 #[derive(Drop)]
 pub(crate) struct Begun {
     pub(crate) octets: Vec<u8>,

@@ -1,4 +1,4 @@
-//! What texts have told so far.
+//! The net and the journals that texts have told so far.
 ghost use Rattle.std.specs.Prelude.{◌≡◌, ◌⊎◌, IfErr, OnOk};
 ghost use Rattle.abt_entry.specs.declared.line.Line.TheVariants as line;
 ghost use Rattle.abt_journal_text.specs.Books as books;

@@ -1,4 +1,4 @@
-//! What faults of nets and of lines are to a text.
+//! The causes of a text's faults, from faults of nets and of lines.
 ghost use Rattle.std.specs.Prelude.{◌≡◌, ◌≢◌, ◌⊎◌, IfOk, IfErr};
 ghost use Rattle.abt_journal_text.specs.Entering.{IsNoNet};
 ghost use Rattle.abt_journal_text.specs.declared.fault.Cause.TheVariants as cause;
@@ -22,7 +22,7 @@ pub(crate) fn net_of(alloc: Global, draft: NetDraft) -> Result<Net, Cause>
     }
 }
 
-// What a fault of a net is to a text.
+// The cause of a text's fault, from a fault of a net.
 fn cause_of_net(fault: NetFault) -> Cause
     ensures { ((fault ≡ net_fault.Memory) × (result ≡ cause.Memory)) ⊎
         ((fault ≢ net_fault.Memory) × (result ≡ cause.Net fault)) }
@@ -33,7 +33,7 @@ fn cause_of_net(fault: NetFault) -> Cause
     }
 }
 
-// What a fault of a line is to a text.
+// The cause of a text's fault, from a fault of a line.
 pub(crate) fn cause_of_line(fault: LineFault) -> Cause
     ensures { ((fault ≡ line_fault.Memory) × (result ≡ cause.Memory)) ⊎
         ((fault ≢ line_fault.Memory) × (result ≡ cause.Line fault)) }

@@ -10,7 +10,7 @@ use thiserror::Error;
 pub struct TextFault {
     /// The line.
     pub spot: Spot,
-    /// What is wrong there.
+    /// The cause there.
     pub cause: Cause,
 }
 
@@ -29,7 +29,7 @@ pub enum Cause {
     /// The end of the text comes before the line.
     #[error("the line stands behind the end of its text")]
     Behind,
-    /// The line is none of a journal.
+    /// The line is no line of a journal.
     #[error("{0}")]
     Line(LineFault),
     /// The net isn't known yet.

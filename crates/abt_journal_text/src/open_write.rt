@@ -1,4 +1,4 @@
-//! What texts leave open.
+//! The writes that texts leave open.
 
 /// An entry of a source that leaves open whether a write that failed was stored.
 #[derive(Clone, Copy, Debug, PartialEq, Eq)]

@@ -1,4 +1,4 @@
-//! What texts tell, all in all.
+//! The run that texts tell.
 ghost use Rattle.std.specs.Prelude.{◌≡◌, IfOk, map};
 ghost use Rattle.abt_journal_text.specs.Books.{IsToldRun, IsToldRunIfAny, journal_of, lists_of};
 
@@ -28,7 +28,7 @@ pub struct Run {
 }
 
 impl Book {
-    /// What the texts have told, or `None` if no net was told.
+    /// The run that the texts have told, or `None` if no net was told.
     pub fn into_run(self, alloc: Global) -> Result<Option<Run>, AllocError>
         ensures { IfOk result (IsToldRunIfAny self) }
     {

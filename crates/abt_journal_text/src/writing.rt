@@ -19,8 +19,8 @@ use std::io::Write;
 /// entries of each source, and the end. What is in memory at a time is one line.
 ///
 /// # Errors
-/// [`WriteFault::Write`] where the writer failed; [`WriteFault::Memory`] where memory for a line was refused; [`WriteFault::TooLong`]
-/// where the next line has more than 16,777,215 octets. The lines before it went out, and of it at most a part that isn't all of it.
+/// [`WriteFault::Write`] if the writer failed; [`WriteFault::Memory`] if memory for a line was refused; [`WriteFault::TooLong`] if
+/// the next line has more than 16,777,215 octets. The lines before it went out, and of it at most a part that isn't all of it.
 pub fn write_journals<W: Write>(
     alloc: Global,
     net: &Net,

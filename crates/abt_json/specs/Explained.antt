@@ -17,12 +17,12 @@ use Rattle.abt_reason.specs.Reasons.{reason_text}
 use Rattle.abt_entry.specs.ObjectMembers.{text_member, number_member, object_line}
 use Rattle.abt_json.specs.Objects.{outcome_members, end_objects}
 
--- the line of the file in which an event's text stands, where it is known
+-- the line of the file in which an event's text stands, if it is known
 abbrev pub line_members : Option ℕ → List Token
 line_members None = []
 line_members (Some line) = number_member (codes "line") line
 
--- an event of a number: its line, its own text, what it answers, and the same in words with its reason
+-- an event of a number: its line, its own text, its outcome, and the outcome in words with its reason
 abbrev pub explained_members : ℕ → Option ℕ → Event → Grounds → Outcome → List Token
 explained_members number line event grounds outcome =
     number_member (codes "event") number ++ line_members line ++ text_member (codes "text") (event_text event) ++ outcome_members outcome

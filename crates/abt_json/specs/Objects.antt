@@ -26,7 +26,7 @@ use Rattle.abt_perform.specs.declared.fault.Fault.{Fault}
 use Rattle.abt_perform.specs.declared.fault.Fault.TheVariants.{Code}
 use Rattle.abt_entry.specs.ObjectMembers.{text_member, number_member, rate_member, object_line}
 
--- the spacing of a rate's cells in picoseconds, of which the rate 0 has none
+-- the spacing of a rate's cells in picoseconds, null for the rate 0
 abbrev pub spacing_token : ℕ → Token
 spacing_token units = if units == 0 then null else number (decimal (spacing_of units))
 
@@ -132,7 +132,7 @@ abbrev pub rate_strings : List ℕ → List Token
 rate_strings [] = []
 rate_strings (rate ∷ rates) = string (code_text (code_of rate)) ∷ rate_strings rates
 
--- what the hops of a path hold
+-- the rates that the hops of a path hold
 abbrev pub held_member : List ℕ → List Token
 held_member held = key (codes "held") ∷ begin_array ∷ (rate_strings held ++ end_array ∷ [])
 
@@ -161,6 +161,6 @@ abbrev pub end_objects : Trace → Text
 end_objects trace =
     conn_objects 0 trace.rates trace.held ⋅ port_objects 0 trace.totals trace.capacities ⋅ safe_object trace.safe
 
--- what a run of events answered, and the net in the end
+-- the outcomes of a run of events, and the net in the end
 abbrev pub trace_objects : Trace → Text
 trace_objects trace = outcome_objects 1 trace.outcomes ⋅ end_objects trace

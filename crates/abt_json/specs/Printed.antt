@@ -59,25 +59,25 @@ pub record ReportsPart (telling : Telling) (left old new : Option Text) : Type 0
   pub report : SaysOf telling left text
   pub written : AppendsPrefix old new text
 
--- what a fault says, and what it leaves with the writer: a part of what was to go out where that failed, and else what was there
+-- what a fault says, and what it leaves with the writer: a part of the objects if the writer failed, and else nothing
 abbrev pub Leaves : EngineFault → Telling → (left old new : Option Text) → Type 0
 Leaves engine.Write telling left old new = ReportsPart telling left old new
 Leaves fault telling left old new = IfSome left (Explains fault) × Keeps old new
 
--- what a plan prints went out, all of it, where this is what the reader had left
+-- what a plan prints went out, all of it, if this is what the reader had left
 abbrev pub Prints : JsonPlan → (left old new : Option Text) → Type 0
 Prints (Rate code) left old new = IsOkAnd (rate_json (string_bytes code)) (Appends old new)
 Prints (Cell hex) left old new = IsOkAnd (cell_json (string_bytes hex)) (Appends old new)
 Prints (Run file) left old new = Reports Report left old new
 Prints (Explain file) left old new = Reports Explanation left old new
 
--- what went out of what is said of a run where it isn't printed for this fault
+-- what went out of a run's objects if this fault ended it
 pub record EndsRunBy (fault : Fault) (telling : Telling) (left old new : Option Text) : Type 0 where
   pub engine_fault : EngineFault
   pub named : fault ≡ fault_of_engine engine_fault
   pub leaves : Leaves engine_fault telling left old new
 
--- the same of each plan
+-- what went out of a plan's objects if this fault ended it
 abbrev pub EndsBy : Fault → JsonPlan → (left old new : Option Text) → Type 0
 EndsBy fault (Rate code) left old new = EndsTextBy fault (rate_json (string_bytes code)) old new
 EndsBy fault (Cell hex) left old new = EndsTextBy fault (cell_json (string_bytes hex)) old new
@@ -96,7 +96,7 @@ pub record IsRefused (plan : JsonPlan) (left old new errors_old errors_new : Opt
   pub printed : EndsBy fault plan left old new
   pub told : Tells (fault_line fault) errors_old errors_new
 
--- a text without where it lies in memory
+-- a text, not seen by where it lies in memory
 abbrev pub text_seen : Result (Vec ℕ Global) Fault → Result Text Fault
 text_seen (Ok text) = Ok text.items
 text_seen (Err fault) = Err fault

@@ -1,4 +1,4 @@
-//! What `abt cell --json` says.
+//! The object of `abt cell --json`.
 ghost use Rattle.std.specs.Prelude.{◌≡◌, ◌⊎◌, ◌++◌, Ok, Err, IfOk, IfErr, OnOk};
 ghost use Rattle.abt_cell.specs.Message.{Terms};
 ghost use Rattle.abt_perform.specs.declared.fault.Fault.TheVariants.{Memory};

@@ -16,12 +16,12 @@ use abt_world::{Event, Outcome, World};
 use json::Writer;
 use std::alloc::{AllocError, Global};
 
-/// The explanation of a run of events over a net to which nothing happened before (docs/EXPLAIN.md), an object a line: each event with its
-/// text, what it answers, and the same in words with its reason; then each connection, each port, and whether all that is safe. Where `lines`
-/// has one for it, the event's line in its file stands behind its number.
+/// The explanation of a run of events over a net to which nothing happened before (docs/EXPLAIN.md), an object a
+/// line: each event with its text, its outcome, and the outcome in words with its reason; then each connection, each
+/// port, and whether all that is safe.
 ///
 /// # Errors
-/// Where memory is refused.
+/// If memory is refused.
 pub fn explanation_json(
     alloc: Global,
     net: &Net,
@@ -82,7 +82,7 @@ fn push_explained(
     end(object, text)
 }
 
-// Adds the line of an event, where it is known.
+// Adds the line of an event, if it is known.
 fn push_line(object: &mut Writer, line: Option<u64>) -> Result<(), AllocError>
     ensures { OnOk result (Adds (spec.line_members line) object.old object.new) }
 {
@@ -92,7 +92,7 @@ fn push_line(object: &mut Writer, line: Option<u64>) -> Result<(), AllocError>
     }
 }
 
-// The line of an event in its file, where it is known.
+// The line of an event in its file, if it is known.
 fn line_at(lines: &[u64], index: usize) -> Option<u64>
     ensures { result ≡ slice_get lines.now index }
 {

@@ -1,4 +1,4 @@
-//! What events answered, as members of an object.
+//! The outcomes of events, as members of an object.
 ghost use Rattle.std.specs.Prelude.{OnOk};
 ghost use Rattle.abt_entry.specs.ObjectMembers.{Adds};
 ghost use Rattle.abt_json.specs.Objects.{outcome_named, outcome_with, refused_members, shape_fault_members, dropped_members, onward_members, back_members, outcome_members};
@@ -14,7 +14,7 @@ use abt_shaper::ShapeFault;
 use json::Writer;
 use std::alloc::{AllocError, Global};
 
-/// Adds what an event answered, by the words that reports have for it.
+/// Adds the outcome of an event, by the words of reports.
 pub(crate) fn push_outcome(
     alloc: Global,
     object: &mut Writer,

@@ -1,4 +1,4 @@
-//! Plans of what is said as JSON, carried out.
+//! Plans for JSON, carried out.
 ghost use Rattle.std.specs.Prelude.{◌≡◌, ◌⊎◌, ◌+◌, Ok, IfOk, IfErr, OnOk, IsOkAnd};
 ghost use Rattle.std.specs.Io.KnownBytes.{Appends, Keeps};
 ghost use Rattle.abt_perform.specs.Plans.{EndsTextBy};
@@ -13,7 +13,7 @@ use abt_text::put;
 use std::alloc::Global;
 use std::io::{Read, Write};
 
-/// Carries a plan out, and gives the exit status: 0 where all of its objects went out to `writer`, and 1 where a line on `errors` tells
+/// Carries a plan out, and gives the exit status: 0 if all of its objects went out to `writer`, and 1 if a line on `errors` tells
 /// why not. A line that can't be written there changes no status. Only a scenario is read.
 pub fn perform_json<R: Read, W: Write, E: Write>(
     alloc: Global,

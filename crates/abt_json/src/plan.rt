@@ -1,23 +1,23 @@
-//! What is asked for as JSON.
+//! The plans of commands with `--json`.
 
-/// What to say as JSON, one object a line.
+/// A plan whose output is JSON, one object a line.
 #[derive(Drop)]
 pub enum JsonPlan {
     /// What a rate code means.
     Rate(String),
     /// What the RM cell says that a text spells.
     Cell(String),
-    /// What a scenario's run answers: that of this file, or of the standard input.
+    /// The report of a scenario's run: that of this file, or of the standard input.
     Run(Option<String>),
-    /// Why it answers that, of such a scenario.
+    /// The explanation of such a scenario's run.
     Explain(Option<String>),
 }
 
-/// What is said of a scenario that was read.
+/// The parts of a scenario's run that are told.
 #[derive(Clone, Copy, Debug, PartialEq, Eq)]
 pub enum Telling {
-    /// What its run answers.
+    /// The report of its run.
     Report,
-    /// Why it answers that.
+    /// The explanation of its run.
     Explanation,
 }

@@ -1,4 +1,4 @@
-//! What `abt rate --json` says.
+//! The object of `abt rate --json`.
 ghost use Rattle.std.specs.Prelude.{◌≡◌, ◌⊎◌, ◌++◌, Ok, IfOk, IfErr, OnOk, Err};
 ghost use Rattle.abt_perform.specs.declared.fault.Fault.TheVariants.{Memory};
 ghost use Rattle.abt_json.specs.Objects.{rate_json, rate_object};

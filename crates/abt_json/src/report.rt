@@ -10,8 +10,8 @@ use abt_rate::Rate;
 use json::Writer;
 use std::alloc::{AllocError, Global};
 
-/// The report of a run, an object a line: what each event answered, then each connection with its rate and what its hops hold, each port
-/// with its total and the capacity that it has in the end, and whether all that is safe.
+/// The report of a run, an object a line: the outcome of each event, then each connection with its rate and what its
+/// hops hold, each port with its total and the capacity that it has in the end, and whether all that is safe.
 pub fn report_json(alloc: Global, trace: &Trace) -> Result<Vec<u8>, AllocError>
     ensures { IfOk result (λ text. text.items ≡ trace_objects trace.now) }
 {

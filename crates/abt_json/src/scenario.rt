@@ -14,8 +14,8 @@ use abt_text::put;
 use std::alloc::{AllocError, Global};
 use std::io::{Read, Write};
 
-/// Reads a scenario, runs it and writes its report or its explanation, an object a line. Nothing is written before the whole of it is made;
-/// where the writer fails, or takes no octet, a part of it went out.
+/// Reads a scenario, runs it and writes its report or its explanation, an object a line. Nothing is written before the whole of it is
+/// made; if the writer fails, or takes no octet, a part of it went out.
 pub fn scenario_json<R: Read, W: Write>(
     alloc: Global,
     telling: Telling,

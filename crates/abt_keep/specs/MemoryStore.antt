@@ -23,13 +23,13 @@ after_success m kept = record { kept = kept; plan = Works; failures = m.failures
 abbrev pub after_failure : StoreView → KeptRecord → StoreView
 after_failure m kept = record { kept = kept; plan = Works; failures = one_more m.failures }
 
--- what a read answers under a plan, and the store after it
+-- the result of a read under a plan, and the store after it
 abbrev pub kept_under : StorePlan → StoreView → Result KeptRecord StoreFault × StoreView
 kept_under Works m = (Ok m.kept, after_success m m.kept)
 kept_under FailsBefore m = (Err Device, after_failure m m.kept)
 kept_under FailsAfter m = (Err Device, after_failure m m.kept)
 
--- what a write answers under a plan, and the store after it
+-- the result of a write under a plan, and the store after it
 abbrev pub keep_under : StorePlan → StoreView → KeptRecord → Result (Unit {0}) StoreFault × StoreView
 keep_under Works m kept = (Ok tt, after_success m kept)
 keep_under FailsBefore m kept = (Err Device, after_failure m m.kept)

@@ -1,4 +1,4 @@
--- What a store keeps of a source, and its octets (docs/RULES.md, "Kept records"; docs/FORMATS.md, "Kept records").
+-- The record that a store keeps of a source, and its octets (docs/RULES.md, "Kept records"; docs/FORMATS.md, "Kept records").
 use Rattle.std.specs.Prelude.{ℕ, ◌==◌, ◌≤◌, ◌&&◌, ◌++◌, nat_le, Bool, List, length, take, drop, Result, Ok, Err, if◌then◌else◌, refl}
 use Rattle.std.specs.Coded.{Coded, code_by, coded×, coded_ℕ}
 use Rattle.std.specs.Int.{w32, w64, to_be_bytes, from_be_bytes}

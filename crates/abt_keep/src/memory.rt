@@ -9,8 +9,8 @@ use crate::store::SeqStore;
 use std::marker::Model;
 use std::mem;
 
-/// A store in memory, which stands for stable storage: each call goes by the plan that was made for it, and works
-/// where none was.
+/// A store in memory, which stands for stable storage: each call goes by the plan that was made for it, and works if
+/// none was.
 #[derive(Debug, Drop)]
 pub struct MemoryStore {
     kept: Record,

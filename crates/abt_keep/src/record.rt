@@ -1,4 +1,4 @@
-//! What a store keeps of a source.
+//! The record that a store keeps of a source.
 ghost use Rattle.std.specs.Prelude.{◌≡◌, ◌≢◌, ◌≤◌, ◌↔◌, length, IsSome, IsErrOf, IfSome, IfOk, Ok};
 ghost use Rattle.abt_rate.specs.Limits.{spacing_max};
 ghost use Rattle.abt_keep.specs.Record.{IsSpacing, old_record, octets_of, record_in};
@@ -12,8 +12,8 @@ const SPACING_MIN: u64 = 234;
 /// The greatest, in picoseconds: that of one cell per second.
 const SPACING_MAX: u64 = 1_000_000_000_000;
 
-/// What a store keeps of a source over a crash (docs/RULES.md, "Kept records"): a number, and a spacing in picoseconds,
-/// which some rate may have.
+/// The record that a store keeps of a source over a crash (docs/RULES.md, "Kept records"): a number, and a spacing in
+/// picoseconds, which some rate may have.
 #[derive(Clone, Copy, Debug, PartialEq, Eq)]
 pub struct Record {
     number: u32,
@@ -35,7 +35,7 @@ impl Model for Record {
 }
 
 impl Record {
-    /// The record of a number and a spacing in picoseconds, or `None` where no rate has such a spacing: below 234, or above
+    /// The record of a number and a spacing in picoseconds, or `None` if no rate has such a spacing: below 234, or above
     /// 10^12.
     pub fn new(number: u32, spacing: u64) -> Option<Record>
         ensures some { IsSome result ↔ IsSpacing spacing }
@@ -85,7 +85,7 @@ impl Record {
     /// The record that octets say (docs/FORMATS.md, "Kept records"). Four octets are an old record.
     ///
     /// # Errors
-    /// [`RecordFault::Length`] where there are neither 4 nor 12 octets, else [`RecordFault::Spacing`] where no rate has the
+    /// [`RecordFault::Length`] if there are neither 4 nor 12 octets, else [`RecordFault::Spacing`] if no rate has the
     /// spacing.
     pub fn from_octets(octets: &[u8]) -> Result<Record, RecordFault>
         ensures value { result ≡ record_in octets.now }

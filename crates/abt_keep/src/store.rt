@@ -18,10 +18,10 @@ pub trait SeqStore {
     /// How many calls failed.
     ghost failure_count: { Self → ℕ };
 
-    /// What a read may answer, and the store that it may leave.
+    /// What a read may return, and the store that it may leave.
     ghost kept_gives: { (old : Self) → Result KeptRecord StoreFault → (new : Self) → Type 0 };
 
-    /// What a write may answer, and the store that it may leave.
+    /// What a write may return, and the store that it may leave.
     ghost keep_gives: { (old : Self) → KeptRecord → Result (Unit {0}) StoreFault → (new : Self) → Type 0 };
 
     /// Reads the record.

@@ -5,7 +5,7 @@ use base.Stored.{coded_via}
 use Rattle.std.proofs.Math.Bridge.{le_prop}
 use mathlib.Core.HLevel.{Σ_prop_path}
 
--- the capacity of a link, and the sum of what is held of it, which is never above it
+-- the capacity of a link, and the sum of its holds, which is never above it
 pub record Account : Type 0 where
   pub capacity : ℕ
   pub total : ℕ

@@ -4,7 +4,7 @@ use thiserror::Error;
 /// Why a capacity was not set: the first of these that applies, in this order.
 #[derive(Clone, Copy, Debug, PartialEq, Eq, Error)]
 pub enum CapacityFault {
-    /// It is below the sum of what is held.
+    /// It is below the sum of the holds.
     #[error("the capacity is below the sum of what is held")]
     BelowSum,
     /// It is above the greatest capacity of a link.

@@ -8,7 +8,7 @@ use crate::hold::Hold;
 use abt_rate::{CAPACITY_MAX, Rate};
 use std::marker::Model;
 
-/// The capacity of a link, and the sum of what is held of it, in units of 1/512 cell per second.
+/// The capacity of a link, and the sum of its holds, in units of 1/512 cell per second.
 ///
 /// The sum moves only as [`Hold`]s are exchanged and given back, and is never above the capacity.
 #[derive(Debug, Drop)]
@@ -29,7 +29,7 @@ impl Model for Ledger {
 }
 
 impl Ledger {
-    /// A ledger of a link of which nothing is held.
+    /// A ledger of a link without holds.
     pub fn new(capacity: u64) -> Ledger
         ensures capacity { result.capacity ≡ capacity }
         ensures total { result.total ≡ 0 }
@@ -44,7 +44,7 @@ impl Ledger {
         self.capacity
     }
 
-    /// Gives the link another capacity, in units, of which no less can be than is held. What is held stays.
+    /// Sets the link's capacity, in units, to no less than what is held. What is held stays.
     pub fn set_capacity(&mut self, capacity: u64) -> Result<(), CapacityFault>
         ensures value { result ≡ capacity_answer (capacity_fault self.old.total capacity) }
         ensures capacity { self.new.capacity ≡
@@ -82,7 +82,7 @@ impl Ledger {
         Hold::of(Rate::ZERO)
     }
 
-    /// Exchanges a hold for one of another rate where that fits, and else hands it back.
+    /// Exchanges a hold for one of another rate if that fits, and else hands it back.
     pub fn change(&mut self, hold: Hold, rate: Rate) -> Result<Hold, Hold>
         requires { hold ≤ self.old.total }
         ensures fits { IsOk result ↔ (self.old.total - hold + rate ≤ self.old.capacity) }

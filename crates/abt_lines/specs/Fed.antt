@@ -1,4 +1,4 @@
--- What becomes of a piece of the input, as it is taken octet by octet.
+-- A piece of the input, taken octet by octet.
 use Rattle.std.specs.Prelude.{◌≡◌, ℕ, ◌+◌, ◌^◌, ◌<◌, ◌≤◌, ◌⊎◌, ⊤, List, [], ◌∷◌, ◌++◌, length, Option}
 use Rattle.abt_text.specs.Text.{Text, ◌⋅◌}
 use Rattle.abt_lines.specs.Lines.{seen_lines}

@@ -1,4 +1,4 @@
--- What went out where the lines of a reader are answered.
+-- What went out when the lines of a reader are answered.
 use Rattle.std.specs.Prelude.{◌≡◌, Option, IfSome}
 use Rattle.std.specs.Io.KnownBytes.{Appends}
 use Rattle.abt_text.specs.Text.{Text, ◌⋅◌}

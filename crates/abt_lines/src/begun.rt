@@ -10,7 +10,7 @@ use std::alloc::{AllocError, Global};
 /// The octets of a line at most, without its line feed and the carriage return before it.
 pub const LINE_MAX: usize = 4096;
 
-// What has come of the next line, as far as it matters: of a line that is too long its beginning.
+// The octets of the next line that have come, as far as they matter: of a line that is too long its beginning.
 #[derive(Drop)]
 pub(crate) struct Begun {
     pub(crate) octets: Vec<u8>,
@@ -33,7 +33,7 @@ impl Begun {
     }
 
     #[tactic(auto, using(crate::proofs::Lines::long_stays))]
-    // Adds an octet of the line. Where the line is too long already, it is as good as lost.
+    // Adds an octet of the line. If the line is too long already, it is as good as lost.
     pub(crate) fn add(&mut self, octet: u8) -> Result<(), AllocError>
         requires { octet ≢ line_feed }
         ensures ok { OnOk result ((rest : Text) → seen_lines (self.new.octets.items ⋅ rest)
@@ -47,7 +47,7 @@ impl Begun {
     }
 }
 
-// What is seen of a line: it without the carriage return at its end, or nothing where that is too long.
+// What is seen of a line: it without the carriage return at its end, or nothing if that is too long.
 pub(crate) fn seen_of(line: &[u8]) -> Option<&[u8]>
     ensures { option_map (λ seen. seen.now) result ≡ seen_of line.now }
 {

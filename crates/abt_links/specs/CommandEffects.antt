@@ -1,4 +1,4 @@
--- What a source does on a command of its script (docs/RULES.md, "Workers").
+-- Effects of the commands of a script on a source (docs/RULES.md, "Workers").
 use Rattle.std.specs.Prelude.{◌≡◌, ℕ, ◌+◌, ◌≤◌, ◌++◌, true, List, [], ◌∷◌, length, max, Option, None, Some}
 use Rattle.abt_cell.specs.Channel.{Channel}
 use Rattle.abt_cell.specs.Message.{Terms, Reply}
@@ -23,14 +23,15 @@ pub record LineStep : Type 0 where
   pub place : ℕ
   pub input : PortInput
 
--- what a command comes to: the entries of the source's journal, the steps that these name, and the facts of the source then,
+-- the effect of a command: the entries of the source's journal, the steps that these name, and the facts of the source then,
 -- the newest first
 pub record CommandEffect : Type 0 where
   pub entries : List SourceEntry
   pub steps : List LineStep
   pub facts : List Fact
 
--- What the source of connection c answers, by its facts, when it is told to do something: the entry for it, and the facts then.
+-- The outcome of the source of connection c, by its facts, when it is told to do something: the entry for it, and the
+-- facts then.
 abbrev pub did : Channel → (c : ℕ) → List Fact → SourceCommand → SourceEntry
 did vc c facts command = Did (event_of c command) (command_answer vc facts command)
 
@@ -77,7 +78,8 @@ Hears vc c facts (entry ∷ entries) after =
     (answer : Reply) × (is_asking_in (state_of facts) ≡ true) × (entry ≡ did vc c facts (source.Told answer))
     × Hears vc c (facts_past vc facts (source.Told answer)) entries after
 
--- What the source of connection c does on a command, by its facts, where the last cell of the connection arrived then.
+-- The effect of a command on the source of connection c, by its facts, given when the last cell of the connection
+-- arrived.
 abbrev pub Does : Conn → (c : ℕ) → List Fact → (arrived : ℕ) → Command → CommandEffect → Type 0
 Does conn c facts arrived (script.Start now) effect = Begins conn.vc c facts (source.Start now) [] effect × (effect.steps ≡ [])
 Does conn c facts arrived (script.Ask rate plan) effect =

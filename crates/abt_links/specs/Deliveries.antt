@@ -1,4 +1,5 @@
--- Where what follows a port's reply is left (docs/RULES.md, "Workers"), and what a port's reply is to a link worker.
+-- Where a worker leaves what follows a port's reply (docs/RULES.md, "Workers"), and what a port's reply is to a link
+-- worker.
 use Rattle.std.specs.Prelude.{ℕ, Option, None, Some, Result, Ok, Err}
 use Rattle.abt_cell.specs.Codec.{written_of}
 use Rattle.abt_journal.specs.declared.next_message.Next.{Next}
@@ -16,8 +17,8 @@ delivery_of (next.Send port rm) = ToLinks (Cell port (written_of rm))
 delivery_of (next.Tell conn answer) = ToBox conn answer
 delivery_of next.Nothing = Nowhere
 
--- What a link worker goes on with once a port was to serve a message: the port's reply, or nothing where memory was refused. A Wound
--- ends the worker.
+-- The reply with which a link worker goes on, after a port's try to serve a message: none if memory was refused. A
+-- Wound ends the worker.
 abbrev pub reply_in : Result (ℕ × PortReply) ServeFault → Result (Option PortReply) ServeFault
 reply_in (Ok served) = Ok (Some served.1)
 reply_in (Err Memory) = Ok None

@@ -9,12 +9,12 @@ use Rattle.abt_model.specs.declared.journal.SourceJournal.{SourceJournal}
 use Rattle.abt_links.specs.declared.fault.RunFault.{RunFault}
 use Rattle.abt_links.specs.declared.fault.RunFault.TheVariants.{Thread, Wound, Gather, Memory}
 
--- what a worker's fault is to the run
+-- the run's fault for a worker's
 abbrev pub run_fault : ServeFault → RunFault
 run_fault (serve.Wound seen found) = Wound seen found
 run_fault serve.Memory = Memory
 
--- what a fault of gathering is to the run; want of memory is the run's own
+-- the run's fault for one of gathering; want of memory is the run's own
 abbrev pub gather_fault : GatherFault → RunFault
 gather_fault gather.Memory = Memory
 gather_fault (gather.Foreign port) = Gather (gather.Foreign port)
@@ -38,20 +38,20 @@ abbrev pub fault_among : {A : Type 0} → List (Result A ServeFault) → Option 
 fault_among [] = None
 fault_among (r ∷ rs) = graver (fault_in r) (fault_among rs)
 
--- what those gave back that had no fault
+-- the results of the workers without a fault
 abbrev pub given_back : {A : Type 0} → List (Result A ServeFault) → List A
 given_back [] = []
 given_back (Ok given ∷ rs) = given ∷ given_back rs
 given_back (Err fault ∷ rs) = given_back rs
 
--- The fault that a run tells of its workers, if there is one: that not all could be started, of which the operator's is the last, or
--- else the first Wound, of the sources before the link workers and these before the operator, or else want of memory.
+-- The fault that a run tells of its workers, if there is one: that not all could be started (the operator's is the
+-- last); else the first Wound, of sources, then link workers, then the operator; else want of memory.
 abbrev pub fault_told : (operator : Option (Result Seated ServeFault)) → List (Result (Seated × SourceJournal) ServeFault) → List (Result Seated ServeFault) → Option RunFault
 fault_told None sources links = Some Thread
 fault_told (Some operator) sources links =
     option_map run_fault (graver (graver (fault_among sources) (fault_among links)) (fault_in operator))
 
--- A Wound is told only where fewer entries were found than seen.
+-- A Wound is told only if fewer entries were found than seen.
 abbrev pub IsRight : ServeFault → Type 0
 IsRight (serve.Wound seen short) = short < seen
 IsRight serve.Memory = Unit {0}

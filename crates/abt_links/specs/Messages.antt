@@ -6,7 +6,7 @@ use Rattle.abt_journal.specs.declared.entry.Receipt.{Receipt}
 use Rattle.abt_journal.specs.declared.input.PortInput.{PortInput}
 use Rattle.abt_journal.specs.declared.input.PortInput.TheVariants.{Request, Answer}
 
--- what a message is to a port
+-- the input of a port that a message is
 abbrev pub input_of : Rm → PortInput
 input_of (rm.Request request) = Request request
 input_of (rm.Answer answer) = Answer answer

@@ -1,4 +1,4 @@
--- What the operator of a net does (docs/RULES.md, "Workers").
+-- The operations of the operator of a net (docs/RULES.md, "Workers").
 use Rattle.std.specs.Prelude.{◌≡◌, ◌<◌, ◌==◌, ℕ, List, map, length, All}
 use Rattle.std.specs.List.{filter}
 use Rattle.abt_net.specs.Topology.{Topology}
@@ -10,11 +10,11 @@ use Rattle.abt_journal.specs.declared.input.PortInput.TheVariants.{Capacity}
 abbrev pub AreForPorts : Topology → List (ℕ × ℕ) → Type 0
 AreForPorts net operations = All (λ o. o.0 < length net.capacities) operations
 
--- what an operation hands to which port
+-- the port and the input of an operation
 abbrev pub handed_by : ℕ × ℕ → ℕ × PortInput
 handed_by o = (o.0, Capacity o.1)
 
--- what came to which port, for which there is a receipt
+-- the input and the port of a receipt
 abbrev pub handed_in : Receipt → ℕ × PortInput
 handed_in r = (r.port, r.entry.input)
 

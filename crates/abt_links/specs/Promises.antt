@@ -17,7 +17,7 @@ use Rattle.abt_links.specs.declared.fault.RunFault.{RunFault}
 use Rattle.abt_links.specs.declared.fault.RunFault.TheVariants as run
 use Rattle.abt_links.specs.declared.worker_results.WorkerResults.{WorkerResults}
 
--- A Wound is told only where fewer entries were found than seen.
+-- A Wound is told only if fewer entries were found than seen.
 abbrev pub WoundsRight : {A : Type 0} → Result A ServeFault → Type 0
 WoundsRight r = (seen found : ℕ) → IsErrOf r (Wound seen found) → found < seen
 

@@ -32,7 +32,7 @@ pub record IsRunOf (conn : Conn) (c : ℕ) (script : List Command) (journals : L
   pub runs : RunsScript conn c script source.entries (map step_of (entries_of c (journal_at journals (slice_index conn.path 0))))
   pub elsewhere : (p : ℕ) → p ≢ slice_index conn.path 0 → entries_of c (journal_at journals p) ≡ []
 
--- the same of the connections from c on
+-- what a run leaves of the connections from c on
 abbrev pub AreRunsFrom : ℕ → List Conn → List (List Command) → List (List Entry) → List SourceJournal → Type 0
 AreRunsFrom c [] [] journals [] = Unit {0}
 AreRunsFrom c (conn ∷ conns) (script ∷ scripts) journals (source ∷ sources) =

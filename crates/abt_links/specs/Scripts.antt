@@ -36,8 +36,8 @@ Runs conn c facts arrived (command ∷ commands) effect =
     (first : CommandEffect) × (rest : CommandEffect) × Does conn c facts arrived command first
     × Runs conn c first.facts (arrived_after arrived first.steps) commands rest × (effect ≡ then_done first rest)
 
--- The journal of the source of connection c, to which nothing had happened, runs the script, and names these steps of the first
--- port of its path.
+-- The journal of the source of connection c, to which nothing had happened, runs the script, and names these steps of
+-- the first port of its path.
 abbrev pub RunsScript : Conn → (c : ℕ) → List Command → List SourceEntry → List LineStep → Type 0
 RunsScript conn c commands entries steps =
     (facts : List Fact) × Runs conn c [] 0 commands (record { entries = entries; steps = steps; facts = facts })
@@ -51,7 +51,7 @@ pub record AreReceiptsFor (port : ℕ) (steps : List LineStep) (receipts : List 
   pub each : map (λ r. step_of r.entry) receipts ≡ steps
   pub there : All (λ r. r.port ≡ port) receipts
 
--- A cell of a script isn't later by more than the tau of its connection, as far as it isn't lost.
+-- No cell of a script that isn't lost is later by more than the tau of its connection.
 abbrev pub IsInTolerance : (tau : ℕ) → Command → Type 0
 IsInTolerance tau (Emit now jitter) = ForSome jitter (λ j. j ≤ tau)
 IsInTolerance tau (Start now) = Unit {0}

@@ -18,7 +18,7 @@ use Rattle.abt_links.specs.declared.source_worker.SourceWorker.{SourceWorker}
 abbrev pub IsGiven : Channel → ActorView → Type 0
 IsGiven vc actor = (facts : List Fact) × (actor ≡ actor_of vc facts)
 
--- The site carried out what its source was told to do, by these facts, and noted it.
+-- The worker carried out what its source was told to do, by these facts, and noted it.
 pub record HasDone (vc : Channel) (c : ℕ) (facts : List Fact) (command : SourceCommand) (old : SourceWorker) (outcome : Outcome) (new : SourceWorker) : Type 0 where
   pub answer : outcome ≡ command_answer vc facts command
   pub actor : new.actor ≡ actor_of vc (facts_past vc facts command)
@@ -26,7 +26,7 @@ pub record HasDone (vc : Channel) (c : ℕ) (facts : List Fact) (command : Sourc
   pub seat : new.seat ≡ old.seat
   pub arrived : new.arrived ≡ old.arrived
 
--- The site has this deed behind it, of which the steps are those of this port.
+-- The worker's journal and receipts have one deed more, whose steps are at this port.
 pub record IsAfter (vc : Channel) (port : ℕ) (effect : CommandEffect) (old new : SourceWorker) : Type 0 where
   pub actor : new.actor ≡ actor_of vc effect.facts
   pub entries : new.entries ≡ old.entries ++ effect.entries
@@ -34,13 +34,13 @@ pub record IsAfter (vc : Channel) (port : ℕ) (effect : CommandEffect) (old new
   pub caller : new.seat.caller ≡ old.seat.caller
   pub receipts : (more : List Receipt) × (new.seat.receipts ≡ old.seat.receipts ++ more) × AreReceiptsFor port effect.steps more
 
--- The site obeyed a command of its script.
+-- The worker obeyed a command of its script.
 abbrev pub Obeys : Conn → (c port : ℕ) → Command → SourceWorker → SourceWorker → Type 0
 Obeys conn c port command old new =
     (facts : List Fact) → old.actor ≡ actor_of conn.vc facts →
     (effect : CommandEffect) × Does conn c facts old.arrived command effect × IsAfter conn.vc port effect old new
 
--- The site took answers, so many at most, and nothing else.
+-- The worker took answers, so many at most, and nothing else.
 pub record HasHeard (vc : Channel) (c turns : ℕ) (facts : List Fact) (old new : SourceWorker) (entries : List SourceEntry) (after : List Fact) : Type 0 where
   pub hears : Hears vc c facts entries after
   pub most : length entries ≤ turns
@@ -54,7 +54,7 @@ Listened vc c turns old new =
     (facts : List Fact) → old.actor ≡ actor_of vc facts →
     (entries : List SourceEntry) × (after : List Fact) × HasHeard vc c turns facts old new entries after
 
--- The site has these commands of its script behind it.
+-- The worker has run these commands of its script.
 pub record HasRun (conn : Conn) (c port : ℕ) (commands : List Command) (facts : List Fact) (steps : List LineStep) (worker : SourceWorker) : Type 0 where
   pub actor : worker.actor ≡ actor_of conn.vc facts
   pub runs : Runs conn c [] 0 commands (record { entries = worker.entries; steps = steps; facts = facts })

@@ -20,9 +20,9 @@ use crossbeam_channel::Sender;
 use std::alloc::Global;
 use std::sync::Wait;
 
-/// Runs the script of a connection's source (docs/RULES.md, "Workers"): has the first port of the path serve each request that
-/// goes out, and each cell when it arrives, and sends on what the port's replies have sent. It may wait for the port, and for
-/// the lock of the source's answer box.
+/// Runs the script of a connection's source (docs/RULES.md, "Workers"): has the first port of the path serve each
+/// request that goes out, and each cell when it arrives, and sends what follows the port's replies. It may wait for
+/// the port, and for the lock of the source's answer box.
 ///
 /// # Errors
 /// A port whose journal is shorter than what the source has seen of it ends the worker, and so does want of memory.

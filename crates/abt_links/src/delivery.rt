@@ -17,7 +17,7 @@ pub(crate) enum Delivery {
     Nowhere,
 }
 
-// How what is sent next is delivered.
+// How the next message is delivered.
 pub(crate) fn delivery_of(next: &Next) -> Delivery
     ensures { result ≡ deliveries.delivery_of next.now }
 {

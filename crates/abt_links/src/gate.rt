@@ -1,6 +1,6 @@
-//! What a caller does round the lock of a port.
+//! Gates: the code of a caller round the lock of a port.
 
-/// Two moments of a call at a port, of which a caller may make something: tests hold threads there.
+/// Two moments of a call at a port at which a caller's code may run: tests hold threads there.
 pub trait Gate {
     /// Runs before the lock is asked for.
     fn before(&self, caller: u16, port: u16);

@@ -1,4 +1,4 @@
-//! What a run leaves.
+//! The journals and receipts that a run leaves.
 use abt_journal::Journals;
 use abt_model::SourceJournal;
 

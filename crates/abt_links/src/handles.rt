@@ -24,7 +24,7 @@ pub(crate) struct WorkerHandles {
 }
 
 impl WorkerHandles {
-    /// Nobody yet, with room for so many link workers and so many sources. By `to` the link workers are stopped.
+    /// No worker yet, with room for so many link workers and so many sources. The link workers are stopped by `to`.
     pub(crate) fn new(
         alloc: Global,
         to: Sender<Parcel>,
@@ -48,7 +48,7 @@ impl WorkerHandles {
         })
     }
 
-    /// Has a link worker in it that was started.
+    /// Adds a link worker that was started.
     pub(crate) fn add_link(&mut self, handle: LinkHandle)
         requires room { vec_len self.old.links < vec_capacity self.old.links }
         ensures links { self.new.links.items ≡ self.old.links.items ++ handle ∷ [] }
@@ -59,7 +59,7 @@ impl WorkerHandles {
         self.links.push_reserved(handle);
     }
 
-    /// Has an access worker in it that was started.
+    /// Adds an access worker that was started.
     pub(crate) fn add_source(&mut self, handle: AccessHandle)
         requires room { vec_len self.old.sources < vec_capacity self.old.sources }
         ensures sources { self.new.sources.items ≡ self.old.sources.items ++ handle ∷ [] }
@@ -77,7 +77,7 @@ impl WorkerHandles {
         self.complete
     }
 
-    /// The same handles, which aren't those of all workers: one couldn't be started.
+    /// These handles, marked as not those of all workers: one couldn't be started.
     pub(crate) fn broken_off(mut self) -> WorkerHandles
         ensures complete { result.complete ≡ false }
         ensures rest { (result.links ≡ self.links) × (result.sources ≡ self.sources) }
@@ -87,8 +87,8 @@ impl WorkerHandles {
     }
 }
 
-/// The workers that were started, and the operator's, which is started last: where there is none, not all workers could be started. It
-/// has no `Drop` either.
+/// The workers that were started, and the operator's, which is started last: without it, not all workers could be
+/// started. It has no `Drop` either.
 pub(crate) struct WorkersWithOperator<'run> {
     handles: WorkerHandles,
     operator: Option<OperatorHandle<'run>>,

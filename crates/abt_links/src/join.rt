@@ -7,13 +7,13 @@ use abt_journal::{Seat, ServeFault};
 use abt_model::SourceJournal;
 use std::thread::{PromisedHandle, Threads};
 
-/// What an access worker gives back.
+/// The result of an access worker.
 pub(crate) type AccessResult = Result<(Seat, SourceJournal), ServeFault>;
 
-/// What a link worker gives back.
+/// The result of a link worker.
 pub(crate) type LinkResult = Result<Seat, ServeFault>;
 
-/// What the operator's worker gives back.
+/// The result of the operator's worker.
 pub(crate) type OperatorResult = Result<Seat, ServeFault>;
 
 pub(crate) type AccessHandle = PromisedHandle<AccessResult, AccessOf>;
@@ -22,7 +22,7 @@ pub(crate) type LinkHandle = PromisedHandle<LinkResult, LinkOf>;
 
 pub(crate) type OperatorHandle<'run> = PromisedHandle<OperatorResult, OperatorOf<'run>>;
 
-/// What all workers that were started gave back. There is something of the operator's only if all that were to start were.
+/// The results of all workers that were started. There is the operator's only if all others were started.
 #[derive(Drop)]
 pub(crate) struct Joined {
     pub(crate) operator: Option<OperatorResult>,

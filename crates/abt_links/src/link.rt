@@ -19,10 +19,10 @@ use std::alloc::Global;
 use std::sync::Wait;
 
 /// Takes parcels from the channel until one says stop, or no more can come: has each message served by its port, and
-/// sends on what the port's reply has sent (docs/RULES.md, "Workers"). It may wait for a parcel and for a port.
+/// sends what follows the port's reply (docs/RULES.md, "Workers"). It may wait for a parcel and for a port.
 ///
-/// Parcels that the plan says, that no message can be read from, whose port isn't in the net, or for which there is no
-/// memory, are lost.
+/// Lost are parcels that the plan names, that say no message, whose port isn't in the net, or for which there is no
+/// memory.
 ///
 /// # Errors
 /// A port whose journal is shorter than what the worker has seen of it ends the worker.
@@ -62,7 +62,7 @@ pub fn link_worker<R: Wait, G: Gate>(
     Ok(seat)
 }
 
-// Has the message in a cell served by its port, and sends on what that has sent.
+// Has the message in a cell served by its port, and sends what follows the reply.
 fn relay<R: Wait, G: Gate>(
     rt: &R,
     router: &Router,
@@ -89,7 +89,7 @@ fn relay<R: Wait, G: Gate>(
     Ok(())
 }
 
-// What the worker goes on with once a port was to serve a message.
+// The reply with which the worker goes on, after a port's try to serve a message.
 fn reply_in(served: Result<(u64, PortReply), ServeFault>) -> Result<Option<PortReply>, ServeFault>
     ensures { result ≡ deliveries.reply_in served }
 {
@@ -100,7 +100,7 @@ fn reply_in(served: Result<(u64, PortReply), ServeFault>) -> Result<Option<PortR
     }
 }
 
-// What a message is to a port.
+// The input of a port that a message is.
 fn input_of(rm: &Rm) -> PortInput
     ensures { result ≡ messages.input_of rm.now }
 {

@@ -1,4 +1,4 @@
-//! What goes between workers.
+//! Parcels between workers.
 ghost use Rattle.std.specs.Prelude.{◌≡◌, IfSome, Some};
 ghost use Rattle.abt_cell.specs.Codec.{written_of};
 ghost use Rattle.abt_cell.specs.Reading.{Reads};
@@ -11,7 +11,7 @@ use std::sync::Mutex;
 /// The answers that wait for a source, the oldest first.
 pub type AnswerBox = Mutex<VecDeque<Answer>>;
 
-/// What link workers take from their channel.
+/// A parcel that link workers take from their channel.
 #[derive(Clone, Copy, Debug, PartialEq, Eq)]
 pub enum Parcel {
     /// An RM cell for the port of this number.
@@ -32,7 +32,7 @@ impl Parcel {
     }
 }
 
-// The message that these octets are the cell of, if they are that of any.
+// The message whose cell these octets are, if there is one.
 pub(crate) fn message_in(octets: &[u8; 52]) -> Option<Rm>
     ensures some { IfSome result (Reads octets.now) }
     ensures only { (rm : Rm) → Reads octets.now rm → result ≡ Some rm }

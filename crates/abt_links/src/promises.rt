@@ -1,4 +1,4 @@
-//! What workers promise of their results.
+//! The promises of workers about their results.
 use abt_journal::{Seat, ServeFault};
 use abt_model::{Operation, Script, SourceJournal};
 use abt_net::Net;

@@ -14,7 +14,7 @@ use abt_net::Net;
 use crossbeam_channel::Sender;
 use std::sync::Wait;
 
-/// Where a worker leaves what is to be sent: the channel to the link workers, and the answer boxes of the sources, by the
+/// Where a worker leaves messages: the channel to the link workers, and the answer boxes of the sources, by the
 /// numbers of their connections.
 #[derive(Drop)]
 pub struct Router<'net> {
@@ -36,7 +36,7 @@ impl<'net> Router<'net> {
         }
     }
 
-    /// Sends what a port's reply to a message has sent ([`follow`]). What there is no memory for is lost.
+    /// Sends what follows a port's reply to a message ([`follow`]). Without memory it is lost.
     pub fn send_on<R: Wait>(&self, rt: &R, port: u16, rm: &Rm, reply: &PortReply) {
         match self.delivery(port, rm, reply) {
             Delivery::ToLinks(parcel) => {
@@ -51,7 +51,7 @@ impl<'net> Router<'net> {
         }
     }
 
-    // Where what a port's reply to a message has sent is left.
+    // Where what follows a port's reply to a message is left.
     fn delivery(&self, port: u16, rm: &Rm, reply: &PortReply) -> Delivery
         ensures on_path { (c : ℕ) (conn : Conn) → conn_at self.now.net.now c ≡ Some conn →
             conn.vc ≡ following.channel_of rm.now →

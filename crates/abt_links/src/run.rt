@@ -20,10 +20,11 @@ use std::alloc::{AllocError, Global};
 use std::sync::Wait;
 use std::thread::Threads;
 
-/// Runs a net in threads of its own: an access worker for each connection, which carries out its script, link workers, which carry
-/// messages between ports, and one worker for the operator, which gives ports the capacities of its list (docs/RULES.md, "Workers").
-/// When all access workers and the operator's have ended, each link worker is stopped; what lies in the channel then is lost. All
-/// threads are joined, also where some couldn't be started. Then the journals are gathered.
+/// Runs a net in threads of its own: an access worker for each connection, which carries out its script, link
+/// workers, which carry messages between ports, and one worker for the operator, which gives ports the capacities of
+/// its list (docs/RULES.md, "Workers"). When all access workers and the operator's have ended, each link worker is
+/// stopped, and what lies in the channel is lost. All threads are joined, also if some couldn't be started. Then the
+/// journals are gathered.
 ///
 /// The callers are the connections by their numbers, after them the link workers, and last the operator.
 pub fn run_threads<R: Threads + Wait + Sync, G: Gate + Sync>(

@@ -41,7 +41,7 @@ fn is_in_tolerance(command: &Command, tau: u64) -> bool
     }
 }
 
-// The script of a connection, where scripts fit the net.
+// The script of a connection, if scripts fit the net.
 pub(crate) fn script_of<'run>(net: &Net, scripts: &'run [Script], conn: u16) -> &'run Script
     requires fit { ScriptsFit net.now.conns scripts.now }
     requires within { conn < length scripts.now }

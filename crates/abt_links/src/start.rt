@@ -19,7 +19,7 @@ use std::snapshot::Snapshot;
 use std::sync::Wait;
 use std::thread::{Scope, Threads};
 
-/// What all workers of a run share.
+/// The context that all workers of a run share.
 #[derive(Drop)]
 pub(crate) struct RunContext<'run, G> {
     pub(crate) net: &'run Net,

@@ -44,7 +44,7 @@ fn stop_one<R: Wait>(rt: &R, to: &Sender<Parcel>) {
     }
 }
 
-// Whether a stop that was sent so need not be sent again: the channel took it, or no link worker is left.
+// Whether a stop with this result need not be sent again: the channel took it, or no link worker is left.
 fn is_done(sent: &Result<(), SendError<Parcel>>) -> bool
     ensures { result ≡ stopping.is_done sent.now }
 {

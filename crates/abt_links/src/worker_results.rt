@@ -1,4 +1,4 @@
-//! What the joined workers of a run come to.
+//! The results of the joined workers of a run.
 ghost use Rattle.std.specs.Prelude.{◌≡◌, None, Some, Ok, IfOk, IfErr, map};
 ghost use Rattle.abt_links.specs.declared.fault.RunFault.{RunFault};
 ghost use Rattle.abt_links.specs.Faults as faults;
@@ -9,7 +9,7 @@ use abt_journal::{Seat, ServeFault};
 use abt_model::SourceJournal;
 use std::alloc::{AllocError, Global};
 
-/// What the workers of a run gave back.
+/// The results of the workers of a run.
 #[derive(Drop)]
 pub(crate) struct WorkerResults {
     pub(crate) accesses: Vec<Seat>,
@@ -18,7 +18,7 @@ pub(crate) struct WorkerResults {
     pub(crate) operator: Seat,
 }
 
-// What all workers gave back, or the fault that the run tells. Memory is asked for only where there is none of theirs.
+// The results of all workers, or the fault that the run tells. Memory is asked for only if no worker had a fault.
 pub(crate) fn worked_of(alloc: Global, joined: Joined) -> Result<WorkerResults, RunFault>
     ensures fault { (fault : RunFault) →
         faults.fault_told joined.operator joined.sources.items joined.links.items ≡ Some fault →
@@ -95,7 +95,7 @@ fn graver(fault: Option<ServeFault>, other: Option<ServeFault>) -> Option<ServeF
     }
 }
 
-// What those gave back that had no fault.
+// The results of the workers without a fault.
 fn given_back<T: Drop>(
     alloc: Global,
     results: Vec<Result<T, ServeFault>>,

@@ -63,7 +63,7 @@ pub(crate) fn run_workers<R: Threads + Wait + Sync, G: Gate + Sync>(
     )
 }
 
-// The same in a scope.
+// Starts the workers of a run in a scope, and joins them all.
 fn run_in<'run, E, R: Threads + Wait + Sync, G: Gate + Sync>(
     scope: &Scope<'run, E>,
     rt: &'run R,

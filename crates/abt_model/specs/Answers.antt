@@ -1,5 +1,5 @@
--- What the events of one connection answer, by the connection's facts, the newest first (docs/FORMATS.md, "Events and
--- outcomes"). The causes that stop an event are tried in the order of that table.
+-- The outcomes of the events of one connection, by the connection's facts, the newest first (docs/FORMATS.md, "Events
+-- and outcomes"). The causes that stop an event are tried in the order of that table.
 use Rattle.std.specs.Prelude.{ℕ, ◌+◌, ◌-◌, ◌==◌, ◌&&◌, not, nat_lt, nat_le, Bool, true, false, List, length, if◌then◌else◌, min, Result, Ok, Err}
 use Rattle.abt_rate.specs.Limits.{emit_max, number_max, start_max}
 use Rattle.abt_rate.specs.Rate.{spacing_of}
@@ -27,7 +27,7 @@ use Rattle.abt_model.specs.declared.outcome.Outcome.TheVariants.{Started, StartR
 use Rattle.abt_model.specs.Decision.{request_decision, answer_decision}
 use Rattle.abt_source.specs.SourceFacts.{request_of}
 
--- what a source that is up answers, while one that is down answers nothing else
+-- the outcome of a source that is up; of one that is down it is Down
 abbrev pub if_up : SourceState → Outcome → Outcome
 if_up Down outcome = NotEnabled IsDown
 if_up Idle outcome = outcome
@@ -49,7 +49,7 @@ stored_answer Works request = Asked request
 stored_answer FailsBefore request = AskRefused Keep
 stored_answer FailsAfter request = AskRefused Keep
 
--- the store is called only where the ask writes
+-- the store is called only if the ask writes
 abbrev pub kept_answer : (writes : Bool) → StorePlan → Terms → Outcome
 kept_answer true plan request = stored_answer plan request
 kept_answer false plan request = Asked request
@@ -93,8 +93,8 @@ told_answer (Asking newest) seq granted = if newest == seq then hearing granted 
 abbrev pub is_hop : (hops j : ℕ) → Bool
 is_hop hops j = nat_le 1 j && nat_le j hops
 
--- What an event of this connection answers, where so much is reserved on the port that it comes to, of this capacity. One of a port
--- alone is of no connection.
+-- The outcome of an event of this connection, given what is reserved on the port that it comes to, and its capacity.
+-- One of a port alone is of no connection.
 abbrev pub answer_by : Conn → (reserved capacity : ℕ) → List Fact → Event → Outcome
 answer_by conn reserved capacity facts (Start c now) = start_answer (state_of facts) facts now
 answer_by conn reserved capacity facts (Ask c rate plan) = if_up (state_of facts) (ask_answer conn.vc facts rate plan)
@@ -117,7 +117,7 @@ answer_by conn reserved capacity facts (Told c seq granted) =
     else HasTold (told_answer (state_of facts) seq granted)
 answer_by conn reserved capacity facts (Capacity p u) = NotEnabled Unknown
 
--- what an event answers by which a port is to have another capacity, where the port answers this
+-- the outcome of an event that gives a port another capacity, by what the port returns
 abbrev pub capped : Result (Unit {0}) CapacityFault → Outcome
 capped (Ok done) = CapacitySet
 capped (Err fault) = CapacityRefused fault

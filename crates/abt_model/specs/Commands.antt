@@ -1,4 +1,4 @@
--- What a command to a source is as an event.
+-- Commands to sources as events.
 use Rattle.abt_model.specs.declared.command.SourceCommand.{SourceCommand}
 use Rattle.abt_model.specs.declared.command.SourceCommand.TheVariants.{Start, Ask, Again, Crash, Emit, Told}
 use Rattle.abt_model.specs.declared.target.SourceEvent.{SourceEvent}

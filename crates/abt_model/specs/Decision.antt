@@ -9,7 +9,7 @@ use Rattle.abt_facts.specs.declared.fact.Fact.{Fact}
 use Rattle.abt_facts.specs.Requests.{floor_of, ask_of}
 use Rattle.abt_facts.specs.Hop.{newest_of, held_of, is_open_at}
 
--- what hop j reserves for the connection
+-- the reservation of hop j for the connection
 abbrev pub reservation_at : List Fact → ℕ → Reservation
 reservation_at facts j = record {
   newest = newest_of facts j;
@@ -18,11 +18,11 @@ reservation_at facts j = record {
   is_open = is_open_at facts j;
 }
 
--- what hop j answers to a request, where so much is reserved on its port, of this capacity
+-- the decision of hop j on a request, given what is reserved on its port, and its capacity
 abbrev pub request_decision : List Fact → (reserved capacity j : ℕ) → Terms → Onward
 request_decision facts reserved capacity j request =
     (decision_of capacity (reserved - held_of facts j) (reservation_at facts j) request).0
 
--- what hop j does with an answer
+-- the decision of hop j on an answer
 abbrev pub answer_decision : List Fact → (j : ℕ) → Reply → Back
 answer_decision facts j answer = (answer_of (reservation_at facts j) answer).0

@@ -1,4 +1,4 @@
--- What an event answers after the past of a net, and which facts it adds.
+-- The outcome of an event after the past of a net, and the facts that it adds.
 use Rattle.std.specs.Prelude.{ℕ, ◌+◌, ◌==◌, Bool, true, false, List, [], ◌∷◌, if◌then◌else◌, Option, None, Some, nat_lt, ◌++◌, length}
 use Rattle.abt_keep.specs.Record.{KeptRecord}
 use Rattle.abt_keep.specs.declared.plan.StorePlan.TheVariants.{FailsAfter}
@@ -34,25 +34,26 @@ conn_of event = conn_in (target_of event)
 abbrev pub port_of : List ℕ → Event → ℕ
 port_of path event = port_in path (target_of event)
 
--- what an event of connection c answers
+-- the outcome of an event of connection c
 abbrev pub outcome_at : Topology → Past → (c : ℕ) → Option Conn → Event → Outcome
 outcome_at net past c None event = NotEnabled Unknown
 outcome_at net past c (Some conn) event =
     let port = port_of conn.path event in
     answer_by conn (reserved_on net past port) (capacity_of net past port) (facts_of c past) event
 
--- what an event of a port alone answers: a capacity is set if no less than what is reserved on the port, and within the limit
+-- the outcome of an event of a port alone: a capacity is set if it is no less than what is reserved on the port, and
+-- within the limit
 abbrev pub outcome_alone : Topology → Past → Event → Outcome
 outcome_alone net past (Capacity p u) =
     if nat_lt p (length net.capacities) then capped (capacity_answer (capacity_fault (reserved_on net past p) u)) else NotEnabled Unknown
 outcome_alone net past event = NotEnabled Unknown
 
--- what an event answers: one of a connection by its facts
+-- the outcome of an event; of one of a connection, by its facts
 abbrev pub outcome_by : Topology → Past → Event → Option ℕ → Outcome
 outcome_by net past event None = outcome_alone net past event
 outcome_by net past event (Some c) = outcome_at net past c (conn_at net c) event
 
--- what an event answers after this past
+-- the outcome of an event after this past
 abbrev pub outcome_of : Topology → Past → Event → Outcome
 outcome_of net past event = outcome_by net past event (conn_of event)
 
@@ -74,7 +75,7 @@ answer_adds hop seq granted (DropBack cause) = []
 abbrev pub write_adds : (writes : Bool) → KeptRecord → List Fact
 write_adds writes written = if writes then Stored written ∷ [] else []
 
--- The facts that an event of a connection adds to those of that connection, by what it answers, the newest first.
+-- The facts that an event of a connection adds to those of that connection, by its outcome, the newest first.
 abbrev pub facts_added : List Fact → Event → Outcome → List Fact
 facts_added facts (Start c now) Started = FactStarted now (stored_of facts) ∷ []
 facts_added facts (Ask c rate plan) (Asked request) =
@@ -90,12 +91,13 @@ facts_added facts (Told c seq granted) (HasTold Raised) = FactHeard seq true ∷
 facts_added facts (Told c seq granted) (HasTold Refused) = FactHeard seq false ∷ []
 facts_added facts event outcome = []
 
--- the facts that an event of a port alone adds, by what it answers
+-- the facts that an event of a port alone adds, by its outcome
 abbrev pub port_facts_added : Event → Outcome → Past
 port_facts_added (Capacity p u) CapacitySet = Capped p u ∷ []
 port_facts_added event outcome = []
 
--- the past with the facts that an event adds by what it answers: those of its connection, if it is of one, else those of its port
+-- the past with the facts that an event adds by its outcome: those of its connection, if it is of one, else those of
+-- its port
 abbrev pub past_by : Past → Event → Outcome → Option ℕ → Past
 past_by past event outcome None = port_facts_added event outcome ++ past
 past_by past event outcome (Some c) = with_facts c (facts_added (facts_of c past) event outcome) past

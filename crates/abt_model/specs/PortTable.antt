@@ -63,7 +63,7 @@ port_table net past p = record {
   connections = from_entries (kept_from 0 net.conns past p);
 }
 
--- the hop that an event comes to, 0 where it comes to none; cells come to the first
+-- the hop that an event comes to, 0 if it comes to none; cells come to the first
 abbrev pub hop_visited : Event → ℕ
 hop_visited event = hop_in (target_of event)
 
@@ -98,7 +98,7 @@ RequestsServed net past =
     (reply_to (port_table net past p) (request_of conn.vc (facts_of c past) seq) ≡ onward) ×
     (table_after (port_table net past p) (request_of conn.vc (facts_of c past) seq) ≡ port_table net (after_event net past (Request c hop seq)) p)
 
--- The same of an answer.
+-- An answer that is enabled is served as the port that it comes to serves it, and the table after it is that of the past after it.
 abbrev pub AnswersServed : Topology → Past → Type 0
 AnswersServed net past =
     (c hop seq p : ℕ) (granted : Bool) (conn : Conn) (back : Back) → conn_at net c ≡ Some conn → hop_of conn.path p ≡ hop →
@@ -106,7 +106,7 @@ AnswersServed net past =
     (table.answer_to (port_table net past p) (answer_to (request_of conn.vc (facts_of c past) seq) granted) ≡ back) ×
     (table_after_answer (port_table net past p) (answer_to (request_of conn.vc (facts_of c past) seq) granted) ≡ port_table net (after_event net past (Answer c hop seq granted)) p)
 
--- The same of a cell, which no port refuses to judge.
+-- A cell that is enabled is served so too, and no port refuses to judge it.
 abbrev pub ArrivalsServed : Topology → Past → Type 0
 ArrivalsServed net past =
     (c cell at p : ℕ) (conn : Conn) (verdict : Verdict) → conn_at net c ≡ Some conn → hop_of conn.path p ≡ 1 →
@@ -114,7 +114,7 @@ ArrivalsServed net past =
     (arrival_at (port_table net past p) conn.vc at ≡ Ok verdict) ×
     (table_after_arrival (port_table net past p) conn.vc at ≡ port_table net (after_event net past (Arrive c cell at)) p)
 
--- The same of a capacity that a port is to have, whether it is set or refused.
+-- A capacity that a port is to have is served so too, whether it is set or refused.
 abbrev pub CapacitiesServed : Topology → Past → Type 0
 CapacitiesServed net past =
     (p capacity : ℕ) (answer : Result (Unit {0}) CapacityFault) → outcome_of net past (Capacity p capacity) ≡ capped answer →

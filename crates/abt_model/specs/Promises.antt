@@ -1,4 +1,4 @@
--- What is promised of every past that events lead to, beside that it is safe.
+-- Promises of every past that events lead to, beside that it is safe.
 use Rattle.std.specs.Prelude.{◌≡◌, ◌≢◌, ◌⊎◌, ℕ, ◌+◌, ◌*◌, ◌≤◌, Bool, true, false, List, length, All, Some}
 use Rattle.abt_rate.specs.Limits.{arrive_max}
 use Rattle.abt_rate.specs.Rate.{spacing_of}
@@ -46,7 +46,7 @@ disputes (Requested (Drop cause)) = is_dispute cause
 disputes (Answered (DropBack cause)) = is_dispute cause
 disputes outcome = false
 
--- No event is answered by a drop because source and port disagree.
+-- No message is dropped because source and port disagree.
 abbrev pub NeverDisputes : Topology → Past → Type 0
 NeverDisputes net past = (event : Event) → disputes (outcome_of net past event) ≡ false
 

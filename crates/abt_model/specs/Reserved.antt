@@ -1,4 +1,4 @@
--- What is reserved on a port, and its capacity.
+-- The rate reserved on a port, and its capacity.
 use Rattle.std.specs.Prelude.{ℕ, ◌==◌, List, [], ◌∷◌, if◌then◌else◌, sum_by, slice_index}
 use Rattle.std.specs.List.{enumerate_from}
 use Rattle.abt_net.specs.Paths.{hop_of}
@@ -8,11 +8,11 @@ use Rattle.abt_facts.specs.Hop.{held_of}
 use Rattle.abt_model.specs.declared.net_fact.NetFact.TheVariants.{OfConn, Capped}
 use Rattle.abt_model.specs.Past.{Past, facts_of}
 
--- what a connection holds on a port: nothing where its path doesn't go through it
+-- the rate that a connection holds on a port: nothing if its path doesn't go through it
 abbrev pub held_on : List Fact → List ℕ → ℕ → ℕ
 held_on facts path p = if hop_of path p == 0 then 0 else held_of facts (hop_of path p)
 
--- what all connections hold on a port together
+-- the rate that all connections hold on a port together
 abbrev pub reserved_on : Topology → Past → ℕ → ℕ
 reserved_on net past p = sum_by (λ numbered. held_on (facts_of numbered.0 past) numbered.1.path p) (enumerate_from 0 net.conns)
 

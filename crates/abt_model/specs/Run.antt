@@ -1,4 +1,4 @@
--- What a list of events does, the first of them first.
+-- Runs of lists of events, the first of them first.
 use Rattle.std.specs.Prelude.{List, [], ◌∷◌}
 use Rattle.abt_net.specs.Topology.{Topology}
 use Rattle.abt_model.specs.Past.{Past}
@@ -11,12 +11,12 @@ abbrev pub facts_from : Topology → Past → List Event → Past
 facts_from net past [] = past
 facts_from net past (event ∷ events) = facts_from net (after_event net past event) events
 
--- what the events answer, each after those before it
+-- the outcomes of events, each after those before it
 abbrev pub outcomes_from : Topology → Past → List Event → List Outcome
 outcomes_from net past [] = []
 outcomes_from net past (event ∷ events) = outcome_of net past event ∷ outcomes_from net (after_event net past event) events
 
--- the same from the beginning
+-- the past after a list of events from the beginning
 abbrev pub facts_after : Topology → List Event → Past
 facts_after net events = facts_from net [] events
 

@@ -56,7 +56,7 @@ hop_met_by (hop.Arrive cell at) = 1
 hop_met_by (hop.Request j seq) = j
 hop_met_by (hop.Answer j seq granted) = j
 
--- the hop of its connection's path, 0 where it is none
+-- the hop of its connection's path, 0 if it is no hop
 abbrev pub hop_in : Target → ℕ
 hop_in (Source c event) = 0
 hop_in (Hop c event) = hop_met_by event

@@ -1,5 +1,5 @@
--- The trace of a run: what each event answers, and the state that the events leave in the end (docs/FORMATS.md, "Events and
--- outcomes").
+-- The trace of a run: the outcome of each event, and the state that the events leave in the end (docs/FORMATS.md,
+-- "Events and outcomes").
 use Rattle.std.specs.Prelude.{◌≡◌, ◌↔◌, ℕ, true, List, map}
 use Rattle.std.specs.List.{enumerate_from}
 use Rattle.abt_net.specs.Topology.{Topology}
@@ -17,15 +17,15 @@ use Rattle.abt_model.specs.declared.trace.Trace.{Trace}
 abbrev pub rates_after : Topology → Past → List ℕ
 rates_after net past = map (λ numbered. rate_of (facts_of numbered.0 past)) (enumerate_from 0 net.conns)
 
--- what each hop of a path holds for its connection, the first hop's first
+-- the rate that each hop of a path holds for its connection, the first hop's first
 abbrev pub held_along : List Fact → List ℕ → List ℕ
 held_along facts path = map (λ numbered. held_of facts numbered.0) (enumerate_from 1 path)
 
--- the same for each connection
+-- the rates that the hops of each connection's path hold for it
 abbrev pub held_after : Topology → Past → List (List ℕ)
 held_after net past = map (λ numbered. held_along (facts_of numbered.0 past) numbered.1.path) (enumerate_from 0 net.conns)
 
--- what is reserved on each port
+-- the rate reserved on each port
 abbrev pub totals_after : Topology → Past → List ℕ
 totals_after net past = map (λ numbered. reserved_on net past numbered.0) (enumerate_from 0 net.capacities)
 

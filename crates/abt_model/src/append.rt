@@ -5,7 +5,7 @@ ghost use Rattle.abt_model.specs.Outcomes.{outcome_of, after_event};
 ghost use Rattle.abt_model.specs.Run.{facts_after, outcomes_of};
 ghost use Rattle.abt_model.specs.declared.event.Event.{Event};
 
-/// What one more event answers and leaves behind, by the past of those before it.
+/// The outcome of one more event, and what it leaves behind, by the past of those before it.
 ///
 /// This is a law and does nothing.
 pub fn append_event()

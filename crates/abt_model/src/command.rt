@@ -1,4 +1,4 @@
-//! What one source can be told to do.
+//! Commands to one source.
 ghost use Rattle.std.specs.Prelude.{◌≡◌};
 ghost use Rattle.abt_model.specs.Commands.{event_told};
 

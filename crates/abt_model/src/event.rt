@@ -1,4 +1,4 @@
-//! What can happen in a net.
+//! Events in a net.
 use abt_keep::StorePlan;
 use abt_rate::Rate;
 

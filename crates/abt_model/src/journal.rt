@@ -2,7 +2,7 @@
 use crate::Sequence;
 use crate::entry::SourceEntry;
 
-/// What one source did, and what of it was served, in order (docs/RULES.md, "Workers").
+/// What one source did, and which of its requests and cells were served, in order (docs/RULES.md, "Workers").
 #[derive(Debug, Drop)]
 pub struct SourceJournal {
     /// The entries, the oldest first.

@@ -1,5 +1,5 @@
-//! What the events of a net answer and leave behind, as definitions, and what is proved of every list of events. With the types
-//! that runs and journals are made of: lists, traces, scripts, and what a source did.
+//! The outcomes of a net's events and what they leave behind, as definitions, and what is proved of every list of
+//! events. With the types that runs and journals are made of: lists, traces, scripts, and what a source did.
 #![tactic(auto)]
 
 mod append;

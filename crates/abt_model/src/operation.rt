@@ -1,4 +1,4 @@
-//! What the operator of a net does.
+//! Operations of the operator of a net.
 
 /// A capacity that the operator gives the link of a port: the number of the port, and the capacity in units of 1/512 cell/s
 /// (docs/FORMATS.md, "Operator").

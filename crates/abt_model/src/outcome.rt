@@ -1,4 +1,4 @@
-//! What an event answers.
+//! The outcomes of events.
 use abt_cell::Request;
 use abt_gcra::Verdict;
 use abt_node::{Back, CapacityFault, Onward};
@@ -27,7 +27,7 @@ pub enum Cause {
     NotAsking,
 }
 
-/// What a source made of an answer.
+/// The outcome of an answer at a source.
 #[derive(Clone, Copy, Debug, PartialEq, Eq)]
 pub enum Heard {
     /// A yes to the request that it waited for: it shapes at the asked rate.
@@ -38,7 +38,7 @@ pub enum Heard {
     Ignored,
 }
 
-/// What an event answers. An event that isn't enabled changes nothing.
+/// The outcome of an event. An event that isn't enabled changes nothing.
 #[derive(Clone, Copy, Debug, PartialEq, Eq)]
 pub enum Outcome {
     /// The source started.
@@ -59,13 +59,13 @@ pub enum Outcome {
     EmitRefused(ShapeFault),
     /// The cell was policed.
     Arrived(Verdict),
-    /// What the hop did with the request.
+    /// The hop's reply to the request.
     Requested(Onward),
     /// A yes to the request goes back.
     Turned,
-    /// What the hop did with the answer.
+    /// The hop's reply to the answer.
     Answered(Back),
-    /// What the source made of the answer.
+    /// The outcome of the answer at the source.
     Told(Heard),
     /// The link has the capacity.
     CapacitySet,

@@ -1,8 +1,8 @@
-//! What a source does next.
+//! Commands of scripts.
 use abt_keep::StorePlan;
 use abt_rate::Rate;
 
-/// What the source of one connection does next (docs/FORMATS.md, "Scripts"). Moments are picoseconds.
+/// A command to the source of one connection (docs/FORMATS.md, "Scripts"). Moments are picoseconds.
 #[derive(Clone, Copy, Debug, PartialEq, Eq)]
 pub enum Command {
     /// It starts.

@@ -68,7 +68,7 @@ impl<T> Sequence<T> {
 }
 
 impl<T: Drop> Sequence<T> {
-    /// Adds an item at the end. Where its memory is refused the item is dropped.
+    /// Adds an item at the end. If its memory is refused the item is dropped.
     pub fn push(&mut self, item: T) -> Result<(), AllocError>
         ensures ok { OnOk result (self.new ≡ self.old ++ item ∷ []) }
         ensures err { OnErr result (self.new ≡ self.old) }

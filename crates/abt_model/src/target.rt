@@ -84,14 +84,14 @@ impl Event {
     }
 }
 
-// What happens at the source of a connection.
+// An event at the source of a connection.
 fn at_source(conn: u16, event: SourceEvent) -> Target
     ensures value { result ≡ target.Source conn event }
 {
     Target::Source { conn, event }
 }
 
-// What happens at a hop of a connection's path.
+// An event at a hop of a connection's path.
 fn at_hop(conn: u16, event: HopEvent) -> Target
     ensures value { result ≡ target.Hop conn event }
 {

@@ -2,12 +2,12 @@
 use crate::{Outcome, Sequence};
 use abt_rate::Rate;
 
-/// What a run of events answered, and the state of the net in the end.
+/// The outcomes of a run of events, and the state of the net in the end.
 ///
 /// Contracts see its lists as lists, of rates as their units of 1/512 cell/s.
 #[derive(Debug, Drop)]
 pub struct Trace {
-    /// What each event answered, in the order of the events.
+    /// The outcome of each event, in the order of the events.
     pub outcomes: Sequence<Outcome>,
     /// The rate at which each connection's source shapes in the end.
     pub rates: Sequence<Rate>,

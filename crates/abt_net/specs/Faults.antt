@@ -1,4 +1,4 @@
--- Why two lists are no net, and which fault is named where several apply.
+-- Why two lists are no net, and which fault is named if several apply.
 use Rattle.std.specs.Prelude.{◌≡◌, ℕ, ◌<◌, ◌≤◌, ◌⊎◌, List, length, slice_index, IsSomeAnd, Any}
 use Rattle.abt_rate.specs.Limits.{capacity_max, ports_max, net_connections_max, hops_max, tau_max, delay_max}
 use Rattle.abt_net.specs.declared.conn.Conn.{Conn}

@@ -2,7 +2,7 @@
 use Rattle.std.specs.Prelude.{ℕ, ◌+◌, ◌==◌, List, [], ◌∷◌, Option, None, Some, if◌then◌else◌}
 use Rattle.abt_net.specs.declared.conn.Conn.{Conn}
 
--- the hop of a path, from 1, that is a port, and 0 where none is
+-- the hop of a path, from 1, at which it visits a port, and 0 if it doesn't
 abbrev pub hop_of : List ℕ → ℕ → ℕ
 hop_of [] p = 0
 hop_of (port ∷ path) p = if port == p then 1 else (if hop_of path p == 0 then 0 else hop_of path p + 1)

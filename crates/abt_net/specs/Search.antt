@@ -1,4 +1,4 @@
--- What the searches of `build` answer.
+-- The results of the searches of `build`.
 use Rattle.std.specs.Prelude.{◌≡◌, ℕ, ◌<◌, ◌⊎◌, Option, MatchOption}
 use Rattle.abt_net.specs.declared.fault.NetFault.{NetFault}
 use Rattle.abt_net.specs.declared.fault.NetFault.TheVariants.{Memory}
@@ -9,7 +9,7 @@ use Rattle.abt_net.specs.Topology.{Topology, IsWithinRules}
 abbrev pub IsLeastPlace : (ℕ → Type 0) → ℕ → Type 0
 IsLeastPlace P n = P n × ((m : ℕ) → m < n → ¬ P m)
 
--- The answer is the least number of which P holds, or there is none.
+-- The result is the least number with P, or there is none.
 abbrev pub NamesLeast : (ℕ → Type 0) → Option ℕ → Type 0
 NamesLeast P answer = MatchOption answer ((n : ℕ) → ¬ P n) (IsLeastPlace P)
 

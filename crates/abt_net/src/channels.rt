@@ -1,4 +1,4 @@
-//! Channels, each of which belongs to one connection.
+//! The channels of a net, each of one connection.
 
 ghost use Rattle.std.specs.Prelude.{◌≡◌, ◌↔◌, IsTrue, IfOk, Any};
 ghost use Rattle.abt_net.specs.Faults.{RepeatsChannel};
@@ -20,7 +20,7 @@ pub(crate) fn first_repeat(alloc: Global, conns: &[Conn]) -> (Option<usize>, boo
     }
 }
 
-// The same through a set of the channels so far.
+// The lowest connection that has the channel of an earlier one, by a set of the channels so far.
 fn first_repeat_by_set(alloc: Global, conns: &[Conn]) -> Result<Option<usize>, AllocError>
     ensures { IfOk result (NamesLeast (RepeatsChannel conns.now)) }
 {
@@ -33,7 +33,7 @@ fn first_repeat_by_set(alloc: Global, conns: &[Conn]) -> Result<Option<usize>, A
     Ok(None)
 }
 
-// The same pair by pair, without memory.
+// The lowest connection that has the channel of an earlier one, pair by pair and without memory.
 fn first_repeat_by_pairs(conns: &[Conn]) -> Option<usize>
     ensures { NamesLeast (RepeatsChannel conns.now) result }
 {

@@ -12,8 +12,8 @@ use crate::limits::{DELAY_MAX, PORTS_MAX};
 use abt_rate::{CAPACITY_MAX, CONNECTIONS_MAX, TAU_MAX};
 use std::alloc::Global;
 
-// The first fault of these ports and connections, if there is one. Without memory the repeats of
-// channels are found all the same, so that want of memory is answered last.
+// The first fault of these ports and connections, if there is one. Without memory the repeats of channels are found
+// nevertheless, so that want of memory comes last.
 pub(crate) fn first_fault(alloc: Global, capacities: &[u64], conns: &[Conn]) -> Option<NetFault>
     ensures { let net : Topology = record { capacities = capacities.now; conns = conns.now } in
         MatchOption result (IsWithinRules net) (IsAnswered net) }

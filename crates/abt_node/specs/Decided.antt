@@ -9,7 +9,7 @@ use Rattle.abt_node.specs.GrantView.{grant_of}
 abbrev pub decided_by : Bool → Terms → Decided
 decided_by fits q = if fits then Opened (grant_of q) else Refused (grant_of q)
 
--- what a decided grant holds
+-- the rate that a decided grant holds
 abbrev pub held_in : Decided → ℕ
 held_in (Opened g) = g.ask
 held_in (Refused g) = g.floor

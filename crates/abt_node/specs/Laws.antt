@@ -1,4 +1,4 @@
--- Laws about the table of a port (docs/RULES.md, "Node"): the rule says what messages are answered, and a message
+-- Laws about the table of a port (docs/RULES.md, "Node"): the rule decides what becomes of messages, and a message
 -- changes no more of the table than it says.
 use Rattle.std.specs.Prelude.{◌≡◌, ◌≢◌, ℕ, ◌-◌, ◌≤◌, Bool, true, false, Option, Some, None}
 use Rattle.abt_cell.specs.Channel.{Channel}
@@ -47,7 +47,7 @@ RepeatsRepeat =
     (t : Table) (q : Terms) → IsDecided (reply_to t q)
     → (reply_to (table_after t q) q ≡ reply_to t q) × (table_after (table_after t q) q ≡ table_after t q)
 
--- a decrease passes, where no more is held than the link has
+-- a decrease passes, if no more is held than the link has
 abbrev pub DecreasesPass : Type 0
 DecreasesPass =
     (t : Table) (q : Terms) (c : Connection) → connection_at t q.vc ≡ Some c → sum_of t ≤ t.capacity

@@ -30,11 +30,11 @@ reservation_code =
 abbrev pub first_reservation : Reservation
 first_reservation = record { newest = 0; floor = 0; ask = 0; is_open = false }
 
--- what is held: the asked rate while it is open, and the floor while it is shut
+-- the rate that is held: the asked rate while it is open, and the floor while it is shut
 abbrev pub held_by : Reservation → ℕ
 held_by r = if r.is_open then r.ask else r.floor
 
--- what a request leaves, once it was decided
+-- the reservation for a request, once it was decided
 abbrev pub decided_as : Bool → Terms → Reservation
 decided_as is_open q = record { newest = q.seq; floor = q.floor; ask = q.ask; is_open = is_open }
 

@@ -12,7 +12,7 @@ use Rattle.abt_node.specs.declared.any_grant.AnyGrant.{AnyGrant}
 use Rattle.abt_node.specs.declared.any_grant.AnyGrant.TheVariants.{Open, Shut}
 use Rattle.abt_node.specs.declared.row.Row.{Row}
 
--- what a grant reserves
+-- the reservation of a grant
 abbrev pub reservation_of : AnyGrant → Reservation
 reservation_of (Open g) = record { newest = g.seq; floor = g.floor; ask = g.ask; is_open = true }
 reservation_of (Shut g) = record { newest = g.seq; floor = g.floor; ask = g.ask; is_open = false }
@@ -28,7 +28,7 @@ entry_of row = (row.vc, connection_of row)
 abbrev pub vcs_of : List Row → List Channel
 vcs_of rows = map (λ row. row.vc) rows
 
--- what a row holds
+-- the rate that a row holds
 abbrev pub row_held : Row → ℕ
 row_held row = held_at (connection_of row)
 
@@ -50,7 +50,7 @@ IsPlaceOf rows vc (Some i) = (i < length rows) × ((d : Row) → (slice_index_or
 abbrev pub Index : Type 0
 Index = index.IndexMap Channel ℕ (BuildHasherDefault FoldHasher)
 
--- at each connection the index has the place of its row, and nothing where there is no row
+-- at each connection the index has the place of its row, and nothing if there is no row
 abbrev pub IsIndexOf : Index → List Row → Type 0
 IsIndexOf places rows = (vc : Channel) → IsPlaceOf rows vc (index.get same_channel places vc)
 

@@ -19,7 +19,7 @@ pub record IsCovered (r : Reservation) (q : Terms) : Type 0 where
   pub newer : r.newest < q.seq
   pub floor : q.floor ≤ held_by r
 
--- What a request comes to at a port that knows its connection, where the others hold `others` of the capacity.
+-- The decision on a request at a port that knows its connection, where the others hold `others` of the capacity.
 abbrev pub IsDecision : (capacity others : ℕ) → Reservation → Terms → Onward → Type 0
 IsDecision capacity others r q onward.Pass =
     (IsRepeat r q × (r.is_open ≡ true)) ⊎ (IsCovered r q × (others + q.ask ≤ capacity))
@@ -30,7 +30,7 @@ IsDecision capacity others r q (onward.Drop Stale) = q.seq < r.newest
 IsDecision capacity others r q (onward.Drop Conflict) = (q.seq ≡ r.newest) × ¬ (IsRepeat r q)
 IsDecision capacity others r q (onward.Drop FloorAbove) = (r.newest < q.seq) × (held_by r < q.floor)
 
--- What an answer comes to at a port that knows its connection.
+-- The decision on an answer at a port that knows its connection.
 abbrev pub IsAnswered : Reservation → Reply → Back → Type 0
 IsAnswered r a back.Pass = IsRepeat r a.terms × (a.granted ≡ true → r.is_open ≡ true)
 IsAnswered r a (back.Drop UnknownVc) = ⊥

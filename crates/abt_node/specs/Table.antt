@@ -1,5 +1,5 @@
--- What contracts see of a port: a table of its connections (docs/RULES.md, "Node"), what a request, an answer, a cell and
--- a new capacity are answered by it, and the table after each.
+-- What contracts see of a port: a table of its connections (docs/RULES.md, "Node"), its replies to a request, an
+-- answer, a cell and a new capacity, and the table after each.
 use Rattle.std.specs.Prelude.{ℕ, ◌-◌, Option, None, Some, Result, Ok, Err, nat_lt, if◌then◌else◌, refl, sum_by, option_and_then}
 use Rattle.std.specs.Option.{option_map}
 use Rattle.std.specs.Coded.{Coded, code_by, coded×, coded_ℕ, coded_option}
@@ -65,7 +65,7 @@ connection_at t vc = map.get t.connections vc
 abbrev pub with_connection : Table → Channel → Connection → Table
 with_connection t vc c = record t { connections = map.insert t.connections vc c }
 
--- what a connection holds
+-- the rate that a connection holds
 abbrev pub held_at : Connection → ℕ
 held_at c = held_by c.reservation
 
@@ -133,7 +133,7 @@ arrival_of at (Some c) = arrival_by at (held_at c) c.policing
 abbrev pub arrival_at : Table → Channel → ℕ → Result Verdict ArriveFault
 arrival_at t vc at = arrival_of at (connection_at t vc)
 
--- the policer after a cell: it stays where the cell gets no verdict
+-- the policer after a cell: it stays if the cell gets no verdict
 abbrev pub policing_after : (at held : ℕ) → Policing → Policing
 policing_after at held p =
     if nat_lt at p.clock then p
@@ -151,7 +151,7 @@ table_after_arrival t vc at = table_by_arrival t vc at (connection_at t vc)
 
 -- A new capacity
 
--- what a port answers that is to have it, and the table then
+-- the port's reply to a new capacity, and the table then
 abbrev pub capacity_set : Table → ℕ → Result (Unit {0}) CapacityFault
 capacity_set t capacity = capacity_answer (capacity_fault (sum_of t) capacity)
 

@@ -57,7 +57,7 @@ impl AnyGrant {
         }
     }
 
-    /// What is reserved.
+    /// The rate that is held.
     pub fn held(&self) -> Rate
         ensures { result ≡ held_by (reservation_of self.now) }
     {
@@ -143,7 +143,7 @@ impl AnyGrant {
         Back::Pass
     }
 
-    // A newer request: open where it fits, and else shut.
+    // A newer request: open if it fits, and else shut.
     fn decide(self, ledger: &mut Ledger, request: &Request) -> AnyGrant
         requires newer { (reservation_of self).newest < request.now.seq }
         requires covered { request.now.floor ≤ held_by (reservation_of self) }

@@ -17,7 +17,7 @@ pub trait State: sealed::Sealed {
     ghost use Rattle.std.specs.Prelude.{ℕ};
     ghost use Rattle.abt_node.specs.GrantView.{GrantView};
 
-    /// What a grant holds in this state.
+    /// The rate that a grant holds in this state.
     ghost held: { GrantView → ℕ };
 }
 
@@ -116,7 +116,7 @@ impl<S: State> Grant<S> {
         self.hold.rate()
     }
 
-    /// Decides a newer request: open where the asked rate fits, and else shut at its floor.
+    /// Decides a newer request: open if the asked rate fits, and else shut at its floor.
     pub fn decide(self, ledger: &mut Ledger, request: &Request) -> Decided
         requires newer { self.seq < request.now.seq }
         requires covered { request.now.floor ≤ S.held self }

@@ -7,7 +7,7 @@ ghost use Rattle.abt_node.specs.Laws.{DroppedRequestsChangeNothing, RepeatsRepea
 ghost use Rattle.abt_node.specs.Laws.{AnswersFollowTheRule, AnswersHaveOneReply, UnknownAnswersAreDropped};
 ghost use Rattle.abt_node.specs.Laws.{DroppedAnswersChangeNothing, AnswersSettle, AnswersLeaveOthers};
 
-/// What a request is answered.
+/// The replies to a request are those of the rule.
 pub fn requests_follow_the_rule()
     ensures value { RequestsFollowTheRule }
     ensures only { RequestsHaveOneReply }
@@ -15,21 +15,21 @@ pub fn requests_follow_the_rule()
     ensures decrease { DecreasesPass }
 {}
 
-/// What a request changes.
+/// Laws of requests.
 pub fn requests_change_their_connection()
     ensures drop { DroppedRequestsChangeNothing }
     ensures again { RepeatsRepeat }
     ensures same { RequestsLeaveOthers }
 {}
 
-/// What an answer is answered.
+/// The replies to an answer are those of the rule.
 pub fn answers_follow_the_rule()
     ensures value { AnswersFollowTheRule }
     ensures only { AnswersHaveOneReply }
     ensures unknown_vc { UnknownAnswersAreDropped }
 {}
 
-/// What an answer changes.
+/// Laws of answers.
 pub fn answers_change_their_connection()
     ensures drop { DroppedAnswersChangeNothing }
     ensures value { AnswersSettle }

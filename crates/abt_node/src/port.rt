@@ -93,8 +93,8 @@ impl Port {
         self.ledger.capacity()
     }
 
-    /// Gives the link another capacity, in units, of which no less can be than is held. What the port keeps of its
-    /// connections stays.
+    /// Sets the link's capacity, in units, to no less than what is held. What the port keeps of its connections
+    /// stays.
     pub fn set_capacity(&mut self, capacity: u64) -> Result<(), CapacityFault>
         ensures value { result ≡ capacity_set self.old capacity }
         ensures table { self.new ≡ table_after_capacity self.old capacity }
@@ -122,7 +122,7 @@ impl Port {
         self.rows.len()
     }
 
-    /// What is held for a connection, or `None` if it was never added.
+    /// The rate that is held for a connection, or `None` if it was never added.
     pub fn held(&self, vc: Vc) -> Option<Rate>
         ensures { result ≡ option_map held_at (connection_at self.now vc) }
     {
@@ -143,7 +143,7 @@ impl Port {
         self.row_of(vc).map(|row| row.grant.is_open())
     }
 
-    /// The tolerance of a connection's policer, or `Some(None)` where the port isn't its ingress.
+    /// The tolerance of a connection's policer, or `Some(None)` if the port isn't its ingress.
     pub fn tau(&self, vc: Vc) -> Option<Option<u64>>
         ensures { result
             ≡ option_map (λ c. option_map (λ p. p.tau) c.policing) (connection_at self.now vc) }

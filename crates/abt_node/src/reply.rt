@@ -1,4 +1,4 @@
-//! What a port does with a message.
+//! Replies of ports to messages.
 use abt_cell::Answer;
 
 /// Why a port drops a message: the first of these that applies, in this order (docs/RULES.md, "Node").
@@ -31,7 +31,7 @@ impl DropCause {
     }
 }
 
-/// What becomes of a request at a port.
+/// The reply of a port to a request.
 #[derive(Clone, Copy, Debug, PartialEq, Eq)]
 pub enum Onward {
     /// It goes on to the next port.
@@ -42,7 +42,7 @@ pub enum Onward {
     Drop(DropCause),
 }
 
-/// What becomes of an answer at a port.
+/// The reply of a port to an answer.
 #[derive(Clone, Copy, Debug, PartialEq, Eq)]
 pub enum Back {
     /// It goes on towards its source.

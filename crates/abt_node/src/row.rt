@@ -8,7 +8,7 @@ use abt_cell::Vc;
 use abt_gcra::{Policer, Verdict};
 use abt_ledger::Ledger;
 
-/// What a port keeps of one connection: its grant and, where the port is its ingress, its policer.
+/// What a port keeps of one connection: its grant and, if the port is its ingress, its policer.
 #[must_use]
 #[derive(Debug)]
 pub struct Row {

@@ -6,8 +6,12 @@ mod ledger;
 mod list;
 mod net;
 mod node;
+mod progress;
+mod rate;
 mod safety;
+mod shaper;
 mod source;
+mod text;
 
 use abt_cell::Vc;
 use std::alloc::Global;
@@ -25,12 +29,12 @@ fn same<T: PartialEq + Debug>(rt: &impl Abort, found: &T, expected: &T) {
     assert_eq!(rt; *found, *expected);
 }
 
-/// The same of two lists.
+/// Demands that two lists are equal.
 fn same_items<T: PartialEq + Debug>(rt: &impl Abort, found: &[T], expected: &[T]) {
     assert_eq!(rt; found, expected);
 }
 
-/// Demands the words in which a value is told; where memory was refused, they are asked for again.
+/// Demands the words in which a value is told; if memory was refused, they are asked for again.
 fn says<T: Display>(rt: &impl Abort, alloc: Global, value: &T, words: &str) -> Result<(), Fail> {
     let said = match format!(in alloc; "{value}") {
         Ok(said) => said,

@@ -1,4 +1,4 @@
--- What goes out where lines are answered by hand.
+-- What goes out when lines are answered by hand.
 use Rattle.std.specs.Prelude.{◌≤◌, ⊤, None, Option}
 use Rattle.abt_rate.specs.Limits.{capacity_max, tau_max}
 use Rattle.abt_gcra.specs.Policing.{fresh_policing}
@@ -36,7 +36,7 @@ answers_to (Port capacity) source = served_lines (new_table 0 capacity) 1 (seen_
 abbrev pub IsAnswered : PartsPlan → (left old new : Option Text) → Type 0
 IsAnswered plan left old new = IsServed (answers_to plan) left old new
 
--- what a fault of the lines is to the program
+-- the program's fault for one of the lines
 abbrev pub fault_of_lines : LinesFault → Fault
 fault_of_lines Read = fault.Read
 fault_of_lines TooLong = fault.TooLong

@@ -38,7 +38,8 @@ past_moment next kept (Err fault) = kept
 abbrev pub numbered : ℕ → Text → Text
 numbered number answer = decimal number ⋅ codes " " ⋅ answer ⋅ newline
 
--- The answers to some lines, the first of this number, by what is answered to a line, what is kept then, and what is said behind the last line.
+-- The answers to some lines, the first of this number, by the answer to a line, what is kept then, and what is said
+-- behind the last line.
 abbrev pub answers_of : {Kept : Type 0} → (answer : Kept → Option Text → Text) → (next : Kept → Option Text → Kept) → (last : Kept → Text)
     → Kept → ℕ → List (Option Text) → Text
 answers_of answer next last kept number [] = last kept

@@ -1,4 +1,4 @@
--- What the words of `abt police` and `abt shape` ask for.
+-- The plans that the words of `abt police` and `abt shape` ask for.
 use Rattle.std.specs.Prelude.{◌≡◌, ◌⊎◌, ◌≤◌, ℕ, Some, codes}
 use Rattle.clap.specs.declared.parser.matches.ArgMatches.{ArgMatches}
 use Rattle.abt_rate.specs.Limits.{tau_max}

@@ -61,7 +61,8 @@ pub(crate) fn message_on(alloc: Global, line: Option<&[u8]>) -> Result<Rm, Fault
     }
 }
 
-// The same of octets, which aren't hexadecimal where they are no text.
+// The message that octets spell, or the first thing that is wrong with them; octets that are no text aren't
+// hexadecimal.
 fn message_in(alloc: Global, octets: &[u8]) -> Result<Rm, Fault>
     ensures ok { IfOk result (λ rm. message_of octets.now ≡ Ok rm) }
     ensures err { IfErr result (λ fault. (fault ≡ Memory) ⊎ (message_of octets.now ≡ Err fault)) }

@@ -20,10 +20,10 @@ const TAU: &str = "tau";
 // The rate that is held, or at which cells leave.
 const RATE: &str = "rate";
 
-// What a tolerance has to be.
+// The rule of a tolerance.
 const TAU_RULE: &str = "a tolerance is a decimal number of at most 10^12, digits alone";
 
-// What a rate has to be.
+// The rule of a rate.
 const RATE_RULE: &str =
     "a rate is a code, four hexadecimal digits, or a rate in words that a code says exactly";
 
@@ -64,7 +64,7 @@ fn rate_argument<'a>(alloc: Global) -> Arg<'a> {
         )
 }
 
-/// The plan that the words behind a command's name ask for, or `None` if the command is none of these.
+/// The plan that the words behind a command's name ask for, or `None` if it is another command.
 pub fn plan_of(
     alloc: Global,
     name: &str,

@@ -1,4 +1,4 @@
-//! What lines have in common with words.
+//! Laws of lines and words.
 ghost use Rattle.std.specs.Prelude.{◌≡◌, ℕ, List, map, Some, Ok, Err};
 ghost use Rattle.abt_node.specs.Table.{new_table};
 ghost use Rattle.abt_text.specs.Text.{Text, ◌⋅◌, newline};

@@ -19,7 +19,7 @@ pub(crate) fn moment_of(line: Option<&[u8]>) -> Result<u64, LineFault>
     }
 }
 
-// The number that octets are, which are no text where they are none.
+// The number that octets are, which are no text if they are none.
 fn number_of(octets: &[u8]) -> Option<u64>
     ensures { result ≡ number_of octets.now }
 {

@@ -17,8 +17,8 @@ use abt_shaper::Shaper;
 use std::alloc::Global;
 use std::io::{Read, Write};
 
-/// Answers all lines of a reader, and gives the exit status: 0 where all answers went out to `writer`, also those that are faults of lines,
-/// and 1 where a line on `errors` tells why not. A line that can't be written there changes no status.
+/// Answers all lines of a reader, and gives the exit status: 0 if all answers went out to `writer`, also those that are faults of lines,
+/// and 1 if a line on `errors` tells why not. A line that can't be written there changes no status.
 ///
 /// What a read of the input ends is answered, and the answers written, before the next read.
 pub fn perform_parts<R: Read, W: Write, E: Write>(
@@ -85,7 +85,7 @@ fn answer_lines<R: Read, W: Write>(
     }
 }
 
-// What a fault of the lines is to the program.
+// The program's fault for one of the lines.
 fn fault_of_lines(fault: LinesFault) -> Fault
     ensures { result ≡ fault_of_lines fault }
 {

@@ -1,7 +1,7 @@
-//! What is asked for.
+//! The plans of the commands that answer lines.
 use abt_rate::Rate;
 
-/// What answers the lines of the standard input.
+/// The server of the lines of the standard input.
 #[derive(Clone, Copy, Debug, PartialEq, Eq)]
 pub enum PartsPlan {
     /// A policer that has taken no cell yet, of a tolerance in picoseconds, where this rate is held all the time.

@@ -57,7 +57,7 @@ fn serve_line(alloc: Global, port: &mut Port, line: Option<&[u8]>) -> Result<Str
     }
 }
 
-// What the port does with a message, whose connection it adds if it is new.
+// The port's decision on a message, whose connection it adds if it is new.
 fn serve_message(alloc: Global, port: &mut Port, rm: &Rm) -> Result<String, AllocError>
     ensures answer { IfOk result (λ answer. string_bytes answer
         ≡ port_text.served_text (table_knowing port.old (request_of rm.now).vc) rm.now) }

@@ -43,7 +43,7 @@ scenario_fault_name (scenario.ScriptText connection number) = codes "ScriptText 
 scenario_fault_name (scenario.OperatorText number) = codes "OperatorText " ⋅ decimal number
 scenario_fault_name scenario.Memory = codes "memory"
 
--- what a fault of the engine is to the program
+-- the program's fault for one of the engine
 abbrev pub fault_of_engine : EngineFault → Fault
 fault_of_engine engine.Read = Read
 fault_of_engine engine.TooLong = TooLong

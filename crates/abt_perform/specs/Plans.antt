@@ -37,12 +37,12 @@ NeedsNoThreads _ = ⊤
 abbrev pub texts_of : List (String Global) → List Text
 texts_of texts = map string_bytes texts
 
--- a text without where it lies in memory
+-- a text, not seen by where it lies in memory
 abbrev pub text_seen : Result (String Global) Fault → Result Text Fault
 text_seen (Ok text) = Ok (string_bytes text)
 text_seen (Err fault) = Err fault
 
--- what a plan that needs no threads prints went out, all of it, where this is what the reader had left
+-- what a plan that needs no threads prints went out, all of it, if this is what the reader had left
 abbrev pub Prints : Plan → (left old new : Option Text) → Type 0
 Prints (Rate code) left old new = IsOkAnd (rate_text (string_bytes code)) (Appends old new)
 Prints (Cell hex) left old new = IsOkAnd (cell_text (string_bytes hex)) (Appends old new)
@@ -50,20 +50,20 @@ Prints (Port capacity cells) left old new = Appends old new (port_text capacity 
 Prints (Run file) left old new = Reports left old new
 Prints (Threads file workers) left old new = ⊥
 
--- What went out where the text, or fault, that was to be printed isn't printed for this fault: a part of the text where the
+-- What went out if the text, or fault, that was to be printed isn't printed for this fault: a part of the text if the
 -- output failed, and else nothing, since memory was refused, or there is no text.
 abbrev pub EndsTextBy : Fault → Result Text Fault → Option Text → Option Text → Type 0
 EndsTextBy fault exact old new =
     ((fault ≡ Write) × IsOkAnd exact (AppendsPrefix old new))
     ⊎ (((fault ≡ Memory) ⊎ (exact ≡ Err fault)) × Keeps old new)
 
--- the same of a scenario's report
+-- What went out of a scenario's report that isn't printed for this fault.
 pub record EndsRunBy (fault : Fault) (left old new : Option Text) : Type 0 where
   pub engine_fault : EngineFault
   pub named : fault ≡ fault_of_engine engine_fault
   pub leaves : Leaves engine_fault left old new
 
--- the same of each plan
+-- what went out of a plan's text if this fault ended it
 abbrev pub EndsBy : Fault → Plan → (left old new : Option Text) → Type 0
 EndsBy fault (Rate code) left old new = EndsTextBy fault (rate_text (string_bytes code)) old new
 EndsBy fault (Cell hex) left old new = EndsTextBy fault (cell_text (string_bytes hex)) old new
@@ -87,7 +87,7 @@ pub record IsRefused (plan : Plan) (left old new errors_old errors_new : Option 
   pub printed : EndsBy fault plan left old new
   pub told : Tells (fault_line fault) errors_old errors_new
 
--- What is answered where words are no plan: help, all of it, on standard output with status 0; what is told of words that
+-- What goes out if words are no plan: help, all of it, on standard output with status 0; what is told of words that
 -- are refused on standard error with status 2; else a fault with status 1.
 abbrev pub AnswersWords : WordsFault → ℕ → (old new errors_old errors_new : Option Text) → Type 0
 AnswersWords (Words text) status old new errors_old errors_new =

@@ -1,4 +1,4 @@
--- What `abt port` prints (docs/FORMATS.md, "The program"): a line for each cell, counted from 1, and the total.
+-- The text that `abt port` prints (docs/FORMATS.md, "The program"): a line for each cell, counted from 1, and the total.
 use Rattle.std.specs.Prelude.{ℕ, ◌+◌, List, [], ◌∷◌, Option, Some, None, Result, Ok, Err, codes, nat_le, if◌then◌else◌}
 use Rattle.std.specs.FinMap as map
 use Rattle.abt_rate.specs.Limits.{port_connections_max}
@@ -38,7 +38,7 @@ abbrev pub back_text : Rm → Back → Text
 back_text rm back.Pass = codes "pass " ⋅ message_hex rm
 back_text rm (back.Drop cause) = drop_text cause
 
--- what a port does with a message of a connection that it knows
+-- the decision of a port on a message of a connection that it knows
 abbrev pub decision_text : Table → Rm → Text
 decision_text table (Request terms) = onward_text (Request terms) (reply_to table terms)
 decision_text table (Answer reply) = back_text (Answer reply) (answer_to table reply)
@@ -58,7 +58,7 @@ abbrev pub table_served : Table → Option Table → Rm → Table
 table_served old (Some table) rm = table_decided table rm
 table_served old None rm = old
 
--- what a port does with a cell, and its table then; what is no RM cell changes nothing
+-- the answer of a port to a cell, and its table then; octets that are no RM cell change nothing
 abbrev pub answer_text : Table → Result Rm Fault → Text
 answer_text table (Ok rm) = served_text (table_knowing table (request_of rm).vc) rm
 answer_text table (Err fault) = fault_text fault

@@ -1,4 +1,4 @@
--- What `abt rate` prints (docs/FORMATS.md, "The program").
+-- The text that `abt rate` prints (docs/FORMATS.md, "The program").
 use Rattle.std.specs.Prelude.{ℕ, Option, Some, None, Result, Ok, Err, codes, ◌==◌, if◌then◌else◌}
 use Rattle.abt_rate.specs.Rate.{spacing_of}
 use Rattle.abt_rate.specs.Code.{code_of}

@@ -32,7 +32,7 @@ pub fn message_of(alloc: Global, hex: &str) -> Result<Rm, Fault>
     }
 }
 
-// The same for a text of whatever length. Of one that isn't a cell's, bad digits are told before the length.
+// The message that a text of any length spells. Of one that isn't a cell's, bad digits are told before the length.
 fn message_of_any_length(alloc: Global, hex: &str) -> Result<Rm, Fault>
     ensures ok { IfOk result (λ rm. message_of hex.now ≡ Ok rm) }
     ensures err { IfErr result (λ fault. (fault ≡ Memory) ⊎ (message_of hex.now ≡ Err fault)) }
@@ -44,7 +44,7 @@ fn message_of_any_length(alloc: Global, hex: &str) -> Result<Rm, Fault>
     }
 }
 
-// What the octets of a cell say.
+// The message of the octets of a cell.
 fn message_in(octets: &[u8]) -> Result<Rm, Fault>
     ensures { result ≡ message_in (Ok octets.now) }
 {

@@ -100,7 +100,7 @@ fn scenario_name_of(fault: ScenarioFault) -> FaultName
     }
 }
 
-// The name of what is wrong with a scenario's net.
+// The name of the fault of a scenario's net.
 fn net_name_of(fault: NetFault) -> FaultName
     ensures { text_of_name result ≡ codes "Net " ⋅ net_fault_name fault }
 {

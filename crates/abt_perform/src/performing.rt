@@ -20,8 +20,8 @@ use abt_text::put;
 use std::alloc::Global;
 use std::io::{Read, Write};
 
-/// Carries a plan out that needs no threads, and gives the exit status: 0 where its whole text went out to `writer`, and 1
-/// where a line on `errors` tells why not. A line that can't be written changes no status. Only a scenario is read.
+/// Carries a plan out that needs no threads, and gives the exit status: 0 if its whole text went out to `writer`, and 1
+/// if a line on `errors` tells why not. A line that can't be written changes no status. Only a scenario is read.
 pub fn perform<R: Read, W: Write, E: Write>(
     alloc: Global,
     plan: &Plan,

@@ -1,8 +1,8 @@
-//! What the words of a command line ask for.
+//! The plans that the words of a command line ask for.
 use std::alloc::AllocError;
 use thiserror::Error;
 
-/// What to do.
+/// A plan.
 #[derive(Drop)]
 pub enum Plan {
     /// Say what a rate code, as text, means.

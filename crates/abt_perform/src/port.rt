@@ -31,7 +31,7 @@ pub fn port_text(alloc: Global, capacity: u64, cells: &[String]) -> Result<Strin
     Ok(text)
 }
 
-// Adds the line of one cell. There may be many lines, so none is a text of its own.
+// Adds the line of one cell to the text at once, as there may be many lines.
 fn push_line(
     alloc: Global,
     text: &mut String,

@@ -12,13 +12,13 @@ use abt_text::{Unwritten, put};
 use itoa::Buffer;
 use std::io::Write;
 
-/// What is told where no memory is found.
+/// The line of want of memory.
 pub const MEMORY_LINE: &str = "fault: memory\n";
 
-/// What is told where the output can't be written.
+/// The line of an output that can't be written.
 pub const WRITE_LINE: &str = "fault: write\n";
 
-/// What is told where the file of a scenario can't be opened.
+/// The line of a scenario's file that can't be opened.
 pub const OPEN_LINE: &str = "fault: open\n";
 
 /// Writes a text as far as the writer takes it.

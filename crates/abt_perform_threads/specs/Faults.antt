@@ -1,4 +1,4 @@
--- What the faults of a run, and of showing it, are to the program.
+-- The program's faults for those of a run, and of showing it.
 use Rattle.abt_perform.specs.declared.fault.Fault.{Fault}
 use Rattle.abt_perform.specs.declared.fault.Fault.TheVariants.{Workers, Scripts, Operator, Thread, Wound, Gather, NoOrder, Mismatch, Write, Memory}
 use Rattle.abt_links.specs.declared.fault.RunFault.{RunFault}

@@ -1,4 +1,4 @@
--- What a run left, as events (docs/THREADS.md).
+-- A run as events (docs/THREADS.md).
 use Rattle.std.specs.Prelude.{◌≡◌, true, List}
 use Rattle.abt_net.specs.Topology.{Topology}
 use Rattle.abt_model.specs.declared.event.Event.{Event}

@@ -1,4 +1,4 @@
--- What becomes of a run in threads whose journals are to be written.
+-- Runs in threads whose journals are to be written.
 use Rattle.std.specs.Prelude.{◌⊎◌, ℕ, List, Option, codes}
 use Rattle.std.specs.Io.KnownBytes.{Keeps}
 use Rattle.abt_text.specs.Text.{Text, ◌⋅◌, newline}
@@ -29,7 +29,7 @@ pub record IsKept (workers : ℕ) (scenario : declared.Scenario) (old new kept_o
   pub shows : ShowsAll ran judged old new
   pub kept : Sends (lines_left ran) kept_old kept_new
 
--- The same, but that the text isn't written whole.
+-- The run's lines went out, and its journals weren't written whole, for this reason.
 pub record IsPartlyKept (workers : ℕ) (scenario : declared.Scenario) (why : WriteFault) (old new kept_old kept_new : Option Text) : Type 0 where
   pub may_run : MayRun workers scenario
   pub ran : Ran
@@ -38,13 +38,13 @@ pub record IsPartlyKept (workers : ℕ) (scenario : declared.Scenario) (why : Wr
   pub shows : ShowsAll ran judged old new
   pub stops : Stops (lines_left ran) why kept_old kept_new
 
--- what went out where the journals aren't kept: nothing of them if there is no run, or not all its lines went out
+-- what went out if the journals aren't kept: nothing of them if there is no run, or not all its lines went out
 abbrev pub EndsKeepingBy : (workers : ℕ) → declared.Scenario → KeepFault → (old new kept_old kept_new : Option Text) → Type 0
 EndsKeepingBy workers scenario (Unshown fault) old new kept_old kept_new =
     ((EndsRunBy workers scenario fault × Keeps old new) ⊎ IsShownUntil workers scenario fault old new) × Keeps kept_old kept_new
 EndsKeepingBy workers scenario (Unwritten why) old new kept_old kept_new = IsPartlyKept workers scenario why old new kept_old kept_new
 
--- what is told of it
+-- the line of it
 abbrev pub unwritten_line : WriteFault → Text
 unwritten_line unwritten.TooLong = fault_line program.TooLong
 unwritten_line unwritten.Write = codes "fault: journals" ⋅ newline

@@ -1,4 +1,4 @@
--- What becomes of a plan for threads.
+-- The output of a plan for threads.
 use Rattle.std.specs.Prelude.{◌≡◌, ℕ, ◌⊎◌, Option, IfSome, Ok}
 use Rattle.std.specs.Io.KnownBytes.{Keeps}
 use Rattle.abt_text.specs.Text.{Text}

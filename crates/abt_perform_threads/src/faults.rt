@@ -1,4 +1,4 @@
-//! What the faults of a run, and of showing it, are to the program.
+//! The program's faults for those of a run, and of showing it.
 ghost use Rattle.std.specs.Prelude.{◌≡◌};
 ghost use Rattle.abt_perform_threads.specs.Faults as named;
 
@@ -7,7 +7,8 @@ use abt_links::RunFault;
 use abt_perform::Fault;
 use abt_weave::WeaveFault;
 
-pub(crate) fn fault_of_run(fault: RunFault) -> Fault
+/// The program's fault for one of a run in threads.
+pub fn fault_of_run(fault: RunFault) -> Fault
     ensures { result ≡ named.fault_of_run fault }
 {
     match fault {
@@ -21,7 +22,8 @@ pub(crate) fn fault_of_run(fault: RunFault) -> Fault
     }
 }
 
-pub(crate) fn fault_of_show(fault: &ShowFault) -> Fault
+/// The program's fault if a run can't be shown.
+pub fn fault_of_show(fault: &ShowFault) -> Fault
     ensures { result ≡ named.fault_of_show fault.now }
 {
     match fault {

@@ -15,14 +15,14 @@ use std::alloc::{AllocError, Global};
 pub struct Judged {
     /// The events, in an order in which they can have happened.
     pub events: Sequence<Event>,
-    /// What they answer, and what they leave.
+    /// Their outcomes, and what they leave.
     pub trace: Trace,
 }
 
 /// Weaves the journals that a run left into events, and runs these.
 ///
 /// # Errors
-/// As [`weave`] has them; also [`WeaveFault::Memory`] where memory is refused for the trace.
+/// As [`weave`] has them; also [`WeaveFault::Memory`] if memory is refused for the trace.
 pub fn judge(alloc: Global, net: &Net, gathered: &Gathered) -> Result<Judged, WeaveFault>
     requires ports { length gathered.now.journals ≡ length net.now.capacities }
     requires sources { length gathered.now.sources.items ≡ length net.now.conns }

@@ -36,11 +36,11 @@ pub enum KeepFault {
     Unwritten(WriteFault),
 }
 
-/// What is told where the text of the journals can't be written.
+/// The line of a text of journals that can't be written.
 const JOURNALS_LINE: &str = "fault: journals\n";
 
 /// Runs a scenario's scripts in threads and shows the run line by line to `writer`. Once it is shown to be woven and safe, writes the text
-/// of its net and of its journals to `journals`. Gives the exit status: 0 where all lines and the whole text went out, and 1 where a line
+/// of its net and of its journals to `journals`. Gives the exit status: 0 if all lines and the whole text went out, and 1 if a line
 /// on `errors` tells why not. A line that can't be written there changes no status.
 pub fn keep_run<T: Threads + Wait + Sync, W: Write, J: Write, E: Write>(
     rt: &T,
@@ -96,7 +96,7 @@ fn keep_all<T: Threads + Wait + Sync, W: Write, J: Write>(
     }
 }
 
-// Writes the text of what a run left.
+// Writes the journals that a run left.
 fn keep<J: Write>(alloc: Global, ran: &Ran, journals: &mut J) -> Result<(), WriteFault>
     requires ports { length ran.now.gathered.journals ≡ length ran.now.net.capacities }
     requires sources { length ran.now.gathered.sources.items ≡ length ran.now.net.conns }

@@ -9,12 +9,10 @@ mod ran;
 mod showing;
 mod telling;
 
+pub use faults::{fault_of_run, fault_of_show};
 pub use judging::{Judged, judge};
 pub use keeping::{KeepFault, KeepPlan, keep_run};
 pub use performing::{JudgedRun, perform_threads, show_scenario};
 pub use ran::{Ran, Unrun};
 pub use showing::{ShowFault, Shown, show_run};
 pub use telling::TellPlan;
-
-#[cfg(test)]
-mod tests;

@@ -17,7 +17,7 @@ use std::io::{Read, Write};
 use std::sync::Wait;
 use std::thread::Threads;
 
-/// Carries out a plan for threads, and gives the exit status: 0 where all three lines went out to `writer`, and 1 where a line on
+/// Carries out a plan for threads, and gives the exit status: 0 if all three lines went out to `writer`, and 1 if a line on
 /// `errors` tells why not. A line that can't be written there changes no status. Each line goes out once its step is done, so those
 /// before a fault stay.
 pub fn perform_threads<T: Threads + Wait + Sync, R: Read, W: Write, E: Write>(
@@ -72,7 +72,7 @@ fn carry_out<T: Threads + Wait + Sync, R: Read, W: Write>(
 /// A run in threads, and what it was judged to be.
 #[derive(Debug, Drop)]
 pub struct JudgedRun {
-    /// What the run left.
+    /// The run.
     pub ran: Ran,
     /// The events that its journals are, and their trace.
     pub judged: Judged,

@@ -33,7 +33,7 @@ impl Model for Unrun {
     ghost view = { λ unrun. unrun.scenario };
 }
 
-/// What a scenario's scripts left in its net.
+/// A run of a scenario's scripts in its net.
 #[derive(Debug, Drop)]
 pub struct Ran {
     /// The net of the scenario.
@@ -54,7 +54,7 @@ impl Unrun {
         Ok(Unrun { scenario })
     }
 
-    /// Runs the scripts and the operator's list in threads, with so many link workers, none of which loses or repeats anything.
+    /// Runs the scripts and the operator's list in threads, with so many link workers, which lose and repeat nothing.
     pub fn run<T: Threads + Wait + Sync, G: Gate + Sync>(
         self,
         rt: &T,
@@ -106,7 +106,7 @@ fn run_scripts<T: Threads + Wait + Sync, G: Gate + Sync>(
     )
 }
 
-// The plan of so many workers, of which none loses or repeats anything.
+// The plan of so many workers that lose and repeat nothing.
 fn faithful(workers: u16) -> ThreadPlan
     ensures { result ≡ record { workers = workers; drop_every = 0; repeat_every = 0 } }
 {

@@ -22,7 +22,7 @@ use thiserror::Error;
 /// What a run left, and what became of showing it.
 #[derive(Debug, Drop)]
 pub struct Shown {
-    /// What the run left.
+    /// The run.
     pub ran: Ran,
     /// What that was judged to be, or why the lines end.
     pub judged: Result<Judged, ShowFault>,
@@ -76,7 +76,7 @@ impl From<Unwritten> for ShowFault {
 /// the one run that is handed out, whether its events were found or not.
 ///
 /// # Errors
-/// Those of the run, before which nothing went out. What keeps a run from being shown is a part of what is answered.
+/// Those of the run; then nothing went out. Why a run isn't shown is a part of the result.
 pub fn show_run<T: Threads + Wait + Sync, G: Gate + Sync, W: Write>(
     rt: &T,
     alloc: Global,

@@ -6,8 +6,6 @@ mod lines;
 mod lines_of_events;
 mod place;
 mod placed;
-#[cfg(test)]
-mod tests;
 mod walk;
 
 pub use layout::{Entry, Layout, Section};

@@ -5,11 +5,11 @@ ghost use Rattle.abt_places.specs.Places.{line_at, lines_at, line_feeds};
 use crate::place::before;
 use std::alloc::{AllocError, Global};
 
-/// The lines in which some places of a text stand, counted from 1: each place is that behind so many octets, or the text's end where it has
+/// The lines in which some places of a text stand, counted from 1: each place is that behind so many octets, or the text's end if it has
 /// fewer. Places in rising order cost one walk along the text.
 ///
 /// # Errors
-/// Where memory is refused.
+/// If memory is refused.
 pub fn lines_at(alloc: Global, text: &str, places: &[usize]) -> Result<Vec<u64>, AllocError>
     ensures { IfOk result (λ lines. lines.items ≡ lines_at text.now places.now) }
 {

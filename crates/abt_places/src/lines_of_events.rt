@@ -10,10 +10,10 @@ use abt_model::Event;
 use std::alloc::{AllocError, Global};
 use toml_parser::{ParseError, quoted, starts_string};
 
-/// The lines in which the events of a scenario's text stand, counted from 1; none of them where an event isn't found in the text.
+/// The lines in which the events of a scenario's text stand, counted from 1; none of them if an event isn't found in the text.
 ///
 /// # Errors
-/// Where memory is refused.
+/// If memory is refused.
 pub fn event_lines(alloc: Global, text: &str, events: &[Event]) -> Result<Vec<u64>, AllocError>
     ensures { IfOk result (λ lines. AreLinesOf text.now events.now lines.items) }
 {

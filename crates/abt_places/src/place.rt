@@ -9,7 +9,7 @@ pub struct Place {
     pub column: u64,
 }
 
-/// The place behind so many octets of a text, or at its end where it has fewer.
+/// The place behind so many octets of a text, or at its end if it has fewer.
 pub fn place_at(text: &str, at: usize) -> Place
     ensures { result ≡ place_at at text.now }
 {

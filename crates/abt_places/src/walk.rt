@@ -15,7 +15,7 @@ enum Current {
 /// Where the keys of a TOML document stand, and those of the tables in its array `sections`. Of a text that is no TOML it says what it likes.
 ///
 /// # Errors
-/// Where memory is refused.
+/// If memory is refused.
 pub fn layout_of(alloc: Global, text: &str, sections: &str) -> Result<Layout, AllocError> {
     let mut walk = Walk {
         alloc,
@@ -289,7 +289,7 @@ fn after_line(start: &str) -> &str {
     ""
 }
 
-// What stands behind so many octets, nothing where a character would be cut.
+// What stands behind so many octets, nothing if a character would be cut.
 fn behind(text: &str, count: usize) -> &str {
     text.get(count..).unwrap_or("")
 }
@@ -317,7 +317,7 @@ fn first_parts(key: Key) -> (String, Option<String>) {
     }
 }
 
-// What was parsed, nothing where it doesn't parse.
+// What was parsed, nothing if it doesn't parse.
 fn parsed<T: Drop>(parse: Result<T, ParseError>) -> Result<Option<T>, AllocError> {
     match parse {
         Ok(found) => Ok(Some(found)),

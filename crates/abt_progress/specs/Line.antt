@@ -27,11 +27,11 @@ abbrev pub said : (ended : Bool) → Text
 said true = codes " octets read, at work"
 said false = codes " octets read"
 
--- what is drawn where so many octets were read
+-- what is drawn once so many octets were read
 abbrev pub line_text : (octets : ℕ) → (ended : Bool) → Text
 line_text octets ended = start ⋅ no_wrap ⋅ codes "abt: " ⋅ decimal octets ⋅ said ended ⋅ erase ⋅ wrap
 
--- what takes it away
+-- the octets that take it away
 abbrev pub clear_text : Text
 clear_text = start ⋅ erase
 

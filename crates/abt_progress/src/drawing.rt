@@ -26,7 +26,7 @@ impl<E: Write> Drawing<E> {
         }
     }
 
-    // Draws the line, over the one that stands; nothing, where no memory is found.
+    // Draws the line, over the one that stands; nothing if no memory is found.
     pub(crate) fn draw(&mut self, alloc: Global, octets: u64, ended: bool)
         ensures draws { Keeps (E.contents self.old.terminal) (E.contents self.new.terminal)
             ⊎ Draws (line_text octets ended) (E.contents self.old.terminal) (E.contents self.new.terminal) }

@@ -11,6 +11,3 @@ mod watched;
 pub use cleared::Cleared;
 pub use progress::Progress;
 pub use watched::Watched;
-
-#[cfg(test)]
-mod tests;

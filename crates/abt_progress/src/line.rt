@@ -6,10 +6,10 @@ ghost use Rattle.abt_progress.specs.Line as spec;
 use itoa::Buffer;
 use std::alloc::{AllocError, Global};
 
-// What takes the line away: back to its first column, and all behind it.
+// The octets that take the line away: back to its first column, and all behind it.
 pub(crate) const CLEAR: &str = "\r\x1b[K";
 
-// The line, drawn over the one that is there. In between the terminal wraps no line, so that it stays one where a window is narrow.
+// The line, drawn over the one that is there. In between the terminal wraps no line, so that it stays one if a window is narrow.
 pub(crate) fn line_text(alloc: Global, octets: u64, ended: bool) -> Result<String, AllocError>
     ensures { IfOk result (λ text. string_bytes text ≡ line_text octets ended) }
 {

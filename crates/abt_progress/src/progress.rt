@@ -44,7 +44,7 @@ impl<E: Write + Drop> Progress<E> {
         }
     }
 
-    /// Counts the octets of a read, none at the end of an input, and draws the line anew where it is time for that.
+    /// Counts the octets of a read, none at the end of an input, and draws the line anew if it is time for that.
     pub fn count(&self, octets: usize) {
         if let Ok(mut guard) = self.state.try_borrow_mut() {
             if let Some(state) = &mut *guard {
@@ -74,7 +74,7 @@ impl<E: Write + Drop> Progress<E> {
 }
 
 impl<E: Write> State<E> {
-    // Counts the octets of a read, none at the end of an input, and draws the line anew where it is time for that.
+    // Counts the octets of a read, none at the end of an input, and draws the line anew if it is time for that.
     fn count(&mut self, alloc: Global, octets: usize)
         ensures octets { self.new.meter.octets ≡ counted self.old.meter.octets octets }
         ensures ended { self.new.ended ≡ (octets == 0) }
@@ -95,7 +95,7 @@ impl<E: Write> State<E> {
         }
     }
 
-    // Draws the line of what was counted.
+    // Draws the line of the octets that were counted.
     fn draw(&mut self, alloc: Global)
         ensures draws { Keeps (E.contents self.old.drawing.terminal) (E.contents self.new.drawing.terminal)
             ⊎ Draws (line_text self.old.meter.octets self.old.ended)

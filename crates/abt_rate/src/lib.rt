@@ -6,6 +6,3 @@ mod rate;
 
 pub use limits::{CAPACITY_MAX, CONNECTIONS_MAX, TAU_MAX, WORKERS_MAX, limits_are_kept};
 pub use rate::Rate;
-
-#[cfg(test)]
-mod tests;

@@ -86,7 +86,7 @@ impl Rate {
         Rate::rounded_down(units)
     }
 
-    /// The least rate that isn't below a number of units of 1/512 cell per second, or `None` where the
+    /// The least rate that isn't below a number of units of 1/512 cell per second, or `None` if the
     /// number is above the greatest rate.
     pub fn at_least(units: u64) -> Option<Rate>
         ensures none { IsNone result ↔ (greatest_units < units) }

@@ -8,7 +8,7 @@ use Rattle.abt_text.specs.Text.{Text, ◌⋅◌, newline, decimal}
 use Rattle.abt_model.specs.declared.trace.Trace.{Trace}
 use Rattle.abt_format.specs.Measures.{cells_text}
 
--- what each port of a path holds, the first first
+-- the rate that each port of a path holds, the first first
 abbrev pub held_text : (path held : List ℕ) → Text
 held_text (port ∷ path) (rate ∷ held) = codes ", port " ⋅ decimal port ⋅ codes " holds " ⋅ cells_text rate ⋅ held_text path held
 held_text path held = []

@@ -15,12 +15,12 @@ use Rattle.abt_reason.specs.Ending.{ending_text}
 use Rattle.abt_reason.specs.Grounds.{grounds_of}
 use Rattle.abt_reason.specs.Reasons.{reason_text}
 
--- the line of the file in which an event's text stands, where it is known
+-- the line of the file in which an event's text stands, if it is known
 abbrev pub place_text : Option ℕ → Text
 place_text None = []
 place_text (Some line) = codes " line " ⋅ decimal line
 
--- an event of a number: its place, its own text, what it answers, and why
+-- an event of a number: its place, its own text, its outcome, and why
 abbrev pub told_text : ℕ → Option ℕ → Event → Grounds → Outcome → Text
 told_text number place event grounds outcome =
     decimal number ⋅ place_text place ⋅ codes " " ⋅ event_text event ⋅ codes ": " ⋅ outcome_text outcome ⋅ reason_text grounds outcome ⋅ newline

@@ -12,7 +12,7 @@ use Rattle.abt_world.specs.Steps.{port_at}
 use Rattle.abt_reason.specs.declared.grounds.Grounds.{Grounds}
 use Rattle.abt_reason.specs.declared.grounds.Grounds.TheVariants.{Nothing, NoConnection, NoPort, NoHop, Moment, Cell, AtHop, Newest, Waits, Reserved}
 
--- a number that is read, 0 where there is none
+-- a number that is read, 0 if there is none
 abbrev pub number : Option ℕ → ℕ
 number read = unwrap_or read 0
 
@@ -27,7 +27,8 @@ cell_grounds conn cell at moment None = Nothing
 cell_grounds conn cell at moment (Some progress) =
     Cell cell at progress.emitted progress.fence moment conn.delay conn.tau progress.last_arrival
 
--- a request at a hop: its number, the newest there, what it asks for, what the hop holds, what is reserved on the port, of which capacity
+-- a request at a hop: its number, the newest there, the asked rate, what the hop holds, and the sum and the capacity
+-- of the port
 abbrev pub hop_grounds : Topology → Past → (c hops hop seq : ℕ) → Option ℕ → Grounds
 hop_grounds net past c hops hop seq None = NoHop hops
 hop_grounds net past c hops hop seq (Some port) =

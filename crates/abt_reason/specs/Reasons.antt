@@ -1,4 +1,4 @@
--- The texts of reasons, by the numbers that decide and by what an event answers (docs/EXPLAIN.md).
+-- The texts of reasons, by the numbers that decide and by the outcome of an event (docs/EXPLAIN.md).
 use Rattle.std.specs.Prelude.{ℕ, ◌-◌, ◌==◌, [], codes, if◌then◌else◌, Option, None, Some}
 use Rattle.abt_cell.specs.Message.{Terms}
 use Rattle.abt_text.specs.Text.{Text, ◌⋅◌, decimal}
@@ -25,7 +25,7 @@ use Rattle.abt_source.specs.declared.fault.StartFault.TheVariants as start_fault
 use Rattle.abt_reason.specs.declared.grounds.Grounds.{Grounds}
 use Rattle.abt_reason.specs.declared.grounds.Grounds.TheVariants.{Nothing, NoConnection, NoPort, NoHop, Moment, Cell, AtHop, Newest, Waits, Reserved}
 
--- a refusal is of a number that was refused there before, or else of what doesn't fit beside the others
+-- a refusal: the number was refused there before, or the asked rate doesn't fit beside the others
 abbrev pub refusal_text : (seq newest asks holds total capacity : ℕ) → Text
 refusal_text seq newest asks holds total capacity =
     if seq == newest then (codes ": " ⋅ decimal seq ⋅ codes " was refused here")
@@ -92,7 +92,7 @@ cause_reason grounds cause = plain_reason cause
 abbrev pub next_text : Text → ℕ → Text
 next_text words next = words ⋅ seconds_text next ⋅ codes " s"
 
--- why no cell left, where no moment tells it
+-- why no cell left, if no moment tells it
 abbrev pub shape_words : ShapeFault → Text
 shape_words shape.Zero = codes ": the rate is 0"
 shape_words shape.TimeRange = codes ": no cell leaves after 2305843.009213693952 s"

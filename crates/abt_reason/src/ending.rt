@@ -74,7 +74,7 @@ fn push_conn(
     )
 }
 
-// What each port of a path holds, as a text of its own.
+// The rate that each port of a path holds, as a text of its own.
 fn held_text(alloc: Global, path: &[u16], held: &[Rate]) -> Result<String, AllocError>
     ensures { IfOk result (λ text. string_bytes text ≡ spec.held_text path.now held.now) }
 {
@@ -83,7 +83,7 @@ fn held_text(alloc: Global, path: &[u16], held: &[Rate]) -> Result<String, Alloc
     Ok(text)
 }
 
-// What each port of a path holds.
+// The rate that each port of a path holds.
 fn push_held(
     alloc: Global,
     text: &mut String,

@@ -13,10 +13,11 @@ use abt_world::{Event, Outcome, World};
 use std::alloc::{AllocError, Global};
 
 /// The explanation of a run of events over a net to which nothing happened before (docs/EXPLAIN.md): a line for each event, with its
-/// text, what it answers and why, and then who holds what. Where `places` has one for it, the event's line in its file stands beside its number.
+/// text, what comes of it and why, and then who holds what. If `places` has one for it, the event's line in its file stands beside its
+/// number.
 ///
 /// # Errors
-/// Where memory is refused.
+/// If memory is refused.
 pub fn explanation_of(
     alloc: Global,
     net: &Net,
@@ -71,7 +72,7 @@ fn push_told(
     write!(text, "{number}{place} {said}: {answer}\n")
 }
 
-// The line of a file in which an event stands, where it is known.
+// The line of a file in which an event stands, if it is known.
 fn place_text(alloc: Global, place: Option<u64>) -> Result<String, AllocError>
     ensures { IfOk result (λ text. string_bytes text ≡ spec.place_text place) }
 {
@@ -81,7 +82,7 @@ fn place_text(alloc: Global, place: Option<u64>) -> Result<String, AllocError>
     }
 }
 
-// The line of an event in its file, where it is known.
+// The line of an event in its file, if it is known.
 fn place_at(places: &[u64], index: usize) -> Option<u64>
     ensures { result ≡ slice_get places.now index }
 {

@@ -64,7 +64,7 @@ pub enum Grounds {
     Waits {
         awaited: Option<u32>,
     },
-    /// What is reserved on a port.
+    /// The rate reserved on a port.
     Reserved {
         total: u64,
     },
@@ -185,7 +185,7 @@ fn hop_grounds(world: &World<'_>, place: u16, conn: &Conn, hop: u16, seq: u32) -
     }
 }
 
-// What a request asks for, 0 where it was never asked.
+// The rate that a request asks for, 0 if it was never asked.
 fn asked_units(world: &World<'_>, place: u16, seq: u32) -> u64
     ensures { (net : Topology) (events : List EventSpec) → StandsFor net events world.now →
         result ≡ spec.number (option_map
@@ -197,7 +197,7 @@ fn asked_units(world: &World<'_>, place: u16, seq: u32) -> u64
     }
 }
 
-// What a hop holds, 0 where there is none.
+// The rate that a hop holds, 0 if there is none.
 fn held_units(world: &World<'_>, place: u16, hop: u16) -> u64
     ensures { (net : Topology) (events : List EventSpec) → StandsFor net events world.now →
         result ≡ spec.number (held_in net (facts_after net events) place hop) }

@@ -1,4 +1,4 @@
-//! Why the events of a net are answered as they are, in words and numbers.
+//! Why the events of a net have their outcomes, in words and numbers.
 #![tactic(auto)]
 
 mod ending;

@@ -1,4 +1,4 @@
-//! What stands behind an outcome.
+//! Reasons of outcomes.
 ghost use Rattle.std.specs.Prelude.{◌≡◌, ◌++◌, OnOk, string_bytes};
 ghost use Rattle.abt_reason.specs.Reasons as spec;
 
@@ -12,10 +12,10 @@ use abt_format::{cells_text, seconds_text};
 use abt_model::{Cause, Outcome};
 use std::alloc::{AllocError, Global};
 
-/// Puts the reason of an outcome, or what its codes and moments are, behind a text (docs/EXPLAIN.md); nothing where the outcome says it all.
+/// Puts the reason of an outcome, or what its codes and moments are, behind a text (docs/EXPLAIN.md); nothing if the outcome says it all.
 ///
 /// # Errors
-/// Where memory is refused.
+/// If memory is refused.
 pub fn push_reason(
     alloc: Global,
     text: &mut String,
@@ -44,7 +44,7 @@ pub fn push_reason(
     }
 }
 
-// What a request asks for, and the floor that it keeps.
+// The rate that a request asks for, and the floor that it keeps.
 fn push_request(alloc: Global, text: &mut String, request: &Request) -> Result<(), AllocError>
     ensures { OnOk result (string_bytes text.new ≡ string_bytes text.old ++ spec.request_reason request.now) }
 {

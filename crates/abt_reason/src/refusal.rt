@@ -103,7 +103,7 @@ pub(crate) fn push_shape(
     }
 }
 
-// Why no cell left, where no moment tells it.
+// Why no cell left, if no moment tells it.
 fn shape_words(fault: ShapeFault) -> &'static str
     ensures { result.now ≡ spec.shape_words fault }
 {

@@ -3,6 +3,7 @@
 mod actors;
 mod capacities;
 mod cells;
+mod granted;
 mod logs;
 mod memory;
 mod messages;
@@ -27,12 +28,12 @@ fn same<T: PartialEq + Debug>(rt: &impl Abort, found: &T, expected: &T) {
     assert_eq!(rt; *found, *expected);
 }
 
-/// The same of two lists.
+/// Demands that two lists are equal.
 fn same_items<T: PartialEq + Debug>(rt: &impl Abort, found: &[T], expected: &[T]) {
     assert_eq!(rt; found, expected);
 }
 
-/// The same at a place that is told where they differ.
+/// Demands that two values are equal, and tells the place if they differ.
 fn same_at<T: PartialEq + Debug, P: Debug>(rt: &impl Abort, found: &T, expected: &T, place: &P) {
     assert_eq!(rt; *found, *expected, "{place:?}");
 }
@@ -84,7 +85,7 @@ fn build(alloc: Global, capacities: &[u64], lines: &[AccessLine<'_>]) -> Result<
     }
 }
 
-/// A net; where memory was refused, it is built once more.
+/// A net; if memory was refused, it is built once more.
 fn net(alloc: Global, capacities: &[u64], lines: &[AccessLine<'_>]) -> Result<Net, Fail> {
     match build(alloc, capacities, lines) {
         Ok(net) => Ok(net),
@@ -103,7 +104,7 @@ fn shared(alloc: Global) -> Result<Net, Fail> {
     net(alloc, &[512000, 512000], &lines)
 }
 
-/// A world before its first event; where memory was refused, it is made once more.
+/// A world before its first event; if memory was refused, it is made once more.
 fn world<'net>(alloc: Global, net: &'net Net) -> Result<World<'net>, AllocError> {
     match World::new(alloc, net) {
         Ok(world) => Ok(world),
@@ -129,7 +130,7 @@ fn holdings(world: &World<'_>) -> ([Option<Rate>; 4], [Option<u64>; 4]) {
     )
 }
 
-/// What an event answers. Where memory was refused nothing has happened, and it comes once more.
+/// What an event answers. If memory was refused nothing has happened, and it comes once more.
 fn step(rt: &impl Abort, world: &mut World<'_>, event: &Event) -> Result<Outcome, AllocError> {
     let before = holdings(world);
     match world.step(event) {
@@ -158,7 +159,7 @@ fn told_of(rt: &impl Abort, alloc: Global, net: &Net, story: &[Row]) -> Result<(
     tell(rt, &mut world, story)
 }
 
-/// The same of the net with one port.
+/// Carries a world of the net with one port through a story, from its beginning.
 fn told_alone(rt: &impl Abort, alloc: Global, story: &[Row]) -> Result<(), Fail> {
     let net = lone(alloc)?;
     told_of(rt, alloc, &net, story)

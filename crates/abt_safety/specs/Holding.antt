@@ -1,4 +1,4 @@
--- What ports hold for a channel, as the code reads it.
+-- The rates that ports hold for a channel, as the code reads them.
 use Rattle.std.specs.Prelude.{◌≡◌, ◌≢◌, ℕ, ◌+◌, ◌&&◌, Bool, true, if◌then◌else◌, nat_le, List, [], ◌∷◌, Option, None, Some, is_some, slice_get, option_map, option_and_then, unwrap_or}
 use Rattle.std.specs.List.{list_all}
 use Rattle.abt_cell.specs.Channel.{Channel}
@@ -6,7 +6,7 @@ use Rattle.abt_node.specs.Table.{Table, held_at, connection_at}
 use Rattle.abt_safety.specs.declared.holding.Shaped.{Shaped}
 use Rattle.abt_safety.specs.Tallies.{one_if}
 
--- what the table of a port holds for a channel, nothing where it has no such port or channel
+-- the rate that the table of a port holds for a channel, nothing if it has no such port or channel
 abbrev pub held_by_port : Channel → List Table → ℕ → ℕ
 held_by_port vc ports p = unwrap_or (option_and_then (λ table. option_map held_at (connection_at table vc)) (slice_get ports p)) 0
 
@@ -24,7 +24,7 @@ abbrev pub is_held_at : ℕ → Channel → List Table → Option ℕ → Bool
 is_held_at rate vc ports None = true
 is_held_at rate vc ports (Some p) = nat_le rate (held_by_port vc ports p)
 
--- What ports hold for a channel is the same as before, but for one port at most, which is one of the path.
+-- The rates that ports hold for a channel are the same as before, but for one port at most, which is one of the path.
 pub record ChangesOne (port : Option ℕ) (vc : Channel) (path : List ℕ) (before after : List Table) : Type 0 where
   pub on_path : (p : ℕ) → port ≡ Some p → (i : ℕ) × (slice_get path i ≡ Some p)
   pub others : (p : ℕ) → port ≢ Some p → held_by_port vc after p ≡ held_by_port vc before p

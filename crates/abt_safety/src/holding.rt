@@ -1,4 +1,4 @@
-//! What ports hold for a channel.
+//! The rates that ports hold for a channel.
 ghost use Rattle.std.specs.Prelude.{◌≡◌, ◌+◌, ◌≤◌, if◌then◌else◌, is_some, min, IfOk, List, length, map};
 ghost use Rattle.abt_node.specs.Table.{Table};
 ghost use Rattle.abt_safety.specs.Holding.{held_by_port, is_held_along, is_held_at as is_held_there, looked_at, looked_after, ChangesOne};
@@ -10,7 +10,7 @@ use abt_node::Port;
 use abt_rate::Rate;
 use std::alloc::{AllocError, Global};
 
-// What a port holds for a channel, nothing where it doesn't know it.
+// The rate that a port holds for a channel, nothing if it doesn't know it.
 fn held_by_port(vc: Vc, ports: &[Port], port: u16) -> Rate
     ensures { result ≡ held_by_port vc ports.now port }
 {
@@ -20,8 +20,8 @@ fn held_by_port(vc: Vc, ports: &[Port], port: u16) -> Rate
     }
 }
 
-/// What each port of a path holds for a channel, the first hop's first, and nothing where a port isn't there or doesn't know
-/// the channel. A path has the numbers of its ports.
+/// The rate that each port of a path holds for a channel, the first hop's first, and nothing if a port isn't there or
+/// doesn't know the channel. A path has the numbers of its ports.
 pub fn held_along(
     alloc: Global,
     vc: Vc,
@@ -50,7 +50,7 @@ pub fn is_held(rate: Rate, vc: Vc, path: &[u16], ports: &[Port], looks: &mut Loo
     rate <= held_by_port(vc, ports, looks.counting(*first)) && is_held(rate, vc, rest, ports, looks)
 }
 
-/// Whether a rate is at most what the port of a number holds for a channel. No port is none that holds less.
+/// Whether a rate is at most what the port of a number holds for a channel; yes, if there is no port.
 pub fn is_held_at(
     rate: Rate,
     vc: Vc,
@@ -78,7 +78,7 @@ pub struct Shaped {
 }
 
 /// Whether a rate is at most what each port of a path holds for a channel, after only what one of them holds may have changed: that
-/// of a number, or none. Where an earlier rate was held, and this one isn't above it, that port alone is asked.
+/// of a number, or none. If an earlier rate was held, and this one isn't above it, that port alone is asked.
 pub fn is_held_after(
     before: Shaped,
     rate: Rate,

@@ -1,4 +1,4 @@
-//! What ports hold in all.
+//! The rates that ports hold in all.
 ghost use Rattle.std.specs.Prelude.{◌≡◌, ◌+◌, ◌≤◌, if◌then◌else◌, is_some, min, nat_le};
 ghost use Rattle.abt_safety.specs.Tallies.{is_above, over_at};
 
@@ -19,7 +19,7 @@ pub fn is_above(port: &Port) -> bool
     !fits(port.total(), port.capacity())
 }
 
-/// The same of the port of a number. No port is none that is.
+/// Whether the sum of the port of a number is above the capacity that it has then; no, if there is no port.
 pub fn is_over(port: Option<u16>, ports: &[Port], looks: &mut Lookups) -> bool
     ensures value { result ≡ over_at port ports.now }
     ensures looks { looks.new ≤ looks.old + 1 }

@@ -1,11 +1,11 @@
-//! Counts of what isn't safe.
+//! Counts of violations.
 ghost use Rattle.std.specs.Prelude.{◌≡◌, ◌+◌, ◌<◌, ◌≤◌, ◌==◌, ◌&&◌, false};
 ghost use Rattle.abt_safety.specs.Tallies.{one_if, is_above as is_table_above, IsRecounted};
 
 use crate::sums::is_above;
 use abt_node::Port;
 
-/// What isn't safe of one connection and of one port.
+/// Whether one connection and one port have violations.
 #[derive(Clone, Copy, Debug, PartialEq, Eq)]
 pub struct ViolationFlags {
     /// The source of the connection shapes above what a hop holds for it.
@@ -17,7 +17,7 @@ pub struct ViolationFlags {
 }
 
 impl ViolationFlags {
-    /// Of a connection and a port of which nothing isn't safe.
+    /// No violation, of a connection or of a port.
     pub fn none() -> ViolationFlags
         ensures above { result.above ≡ false }
         ensures over { result.over ≡ false }
@@ -30,7 +30,7 @@ impl ViolationFlags {
         }
     }
 
-    /// Of a port, and of a connection of which nothing isn't safe.
+    /// Whether a port has a violation, beside a connection that has none.
     pub fn of_port(port: &Port) -> ViolationFlags
         ensures above { result.above ≡ false }
         ensures over { result.over ≡ is_table_above port.now }
@@ -44,18 +44,18 @@ impl ViolationFlags {
     }
 }
 
-/// How many there are in a net of what isn't safe.
+/// How many violations of each kind a net has.
 #[derive(Clone, Copy, Debug, PartialEq, Eq)]
 pub struct Violations {
     /// Connections whose source shapes above what a hop holds for them.
     pub above: u64,
     /// Ports that hold more than their capacity.
     pub over: u64,
-    /// Connections of which a cell came that wasn't found conforming.
+    /// Connections that had a cell which wasn't found conforming.
     pub broken: u64,
 }
 
-/// A count of which one may have changed: whether that one counted before, and whether it does after.
+/// A count after one item may have changed: whether that one counted before, and whether it does now.
 pub fn recount(count: u64, before: bool, after: bool) -> u64
     ensures { IsRecounted count before after result }
 {

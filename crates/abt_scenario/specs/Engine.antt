@@ -1,4 +1,4 @@
--- What is made of the text that a reader had left, where it is known.
+-- What is made of the text that a reader had left, if it is known.
 use Rattle.std.specs.Prelude.{◌≡◌, ◌<◌, ◌≤◌, ⊤, true, length, Option, IfSome, Ok, Err}
 use Rattle.std.specs.Str.{IsUtf8}
 use Rattle.std.specs.Io.KnownBytes.{Appends, Keeps}
@@ -57,7 +57,7 @@ pub record ReportsPart (left old new : Option Text) : Type 0 where
   pub report : IsReportOf left text
   pub written : AppendsPrefix old new text
 
--- what a fault says, and what it leaves with the writer: a part of the report where that failed, and else what was there
+-- what a fault says, and what it leaves with the writer: a part of the report if that failed, and else what was there
 abbrev pub Leaves : EngineFault → (left old new : Option Text) → Type 0
 Leaves Write left old new = ReportsPart left old new
 Leaves fault left old new = IfSome left (Explains fault) × Keeps old new

@@ -1,4 +1,4 @@
--- Readings of scenarios, and what a function answers of them.
+-- Readings of scenarios, and the result of a function over them.
 use Rattle.std.specs.Prelude.{List, map, Result, Vec}
 use Rattle.std.specs.Borrow.{Bor}
 use Rattle.std.specs.declared.alloc.Global.{Global}
@@ -10,7 +10,7 @@ use Rattle.abt_scenario.specs.declared.fault.ScenarioFault.TheVariants.{Memory}
 abbrev pub Read : Type 0 → Type 0
 Read A = Result A ScenarioFault
 
--- The answer is the exact one, seen so, or memory was refused.
+-- The result is the exact one, seen so, or memory was refused.
 abbrev pub Gives : {A B : Type 0} → (B → A) → Read A → Read B → Type 0
 Gives seen exact answer = GivesOr Memory seen exact answer
 

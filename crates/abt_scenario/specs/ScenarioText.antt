@@ -14,7 +14,7 @@ gap_before (suc index) = codes ", "
 abbrev pub item_text : (index number : ℕ) → Text
 item_text index number = gap_before index ⋅ decimal number
 
--- the numbers of an array, the first of which has this index
+-- the numbers of an array, from this index on
 abbrev pub numbers_from : ℕ → List ℕ → Text
 numbers_from index [] = []
 numbers_from index (number ∷ numbers) = item_text index number ⋅ numbers_from (index + 1) numbers

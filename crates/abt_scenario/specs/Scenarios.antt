@@ -21,7 +21,7 @@ abbrev pub event_or_fault : ℕ → Option Event → Read Event
 event_or_fault number (Some event) = Ok event
 event_or_fault number None = Err (EventText number)
 
--- the events of some texts, of which the first has this number
+-- the events of some texts, the first of this number
 abbrev pub events_from : ℕ → List Text → Read (List Event)
 events_from number [] = Ok []
 events_from number (text ∷ texts) = do
@@ -33,7 +33,7 @@ abbrev pub command_or_fault : ℕ → ℕ → Option Command → Read Command
 command_or_fault connection number (Some command) = Ok command
 command_or_fault connection number None = Err (ScriptText connection number)
 
--- the commands of some texts of a connection's script, of which the first has this number
+-- the commands of some texts of a connection's script, the first of this number
 abbrev pub commands_from : ℕ → ℕ → List Text → Read (List Command)
 commands_from connection number [] = Ok []
 commands_from connection number (text ∷ texts) = do
@@ -41,7 +41,7 @@ commands_from connection number (text ∷ texts) = do
   commands ← commands_from connection (number + 1) texts
   Ok (command ∷ commands)
 
--- the scripts of some connections, of which the first has this number
+-- the scripts of some connections, the first of this number
 abbrev pub scripts_from : ℕ → List (List Text) → Read (List (List Command))
 scripts_from connection [] = Ok []
 scripts_from connection (texts ∷ scripts) = do
@@ -53,7 +53,7 @@ abbrev pub operation_or_fault : ℕ → Option (ℕ × ℕ) → Read (ℕ × ℕ
 operation_or_fault number (Some operation) = Ok operation
 operation_or_fault number None = Err (OperatorText number)
 
--- the operations of some texts, of which the first has this number
+-- the operations of some texts, the first of this number
 abbrev pub operations_from : ℕ → List Text → Read (List (ℕ × ℕ))
 operations_from number [] = Ok []
 operations_from number (text ∷ texts) = do

@@ -1,4 +1,4 @@
--- What becomes of writing a net and events as a scenario.
+-- The outcome of writing a net and events as a scenario.
 use Rattle.std.specs.Prelude.{List, Option}
 use Rattle.std.specs.Io.KnownBytes.{Appends, Keeps}
 use Rattle.std.specs.declared.io.ErrorKind.{ErrorKind}

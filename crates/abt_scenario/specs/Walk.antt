@@ -100,7 +100,7 @@ draft_of text = do
   members ← read_document (parse_document text)
   draft_in members
 
--- ---- the same without where it lies in memory
+-- ---- the same, not seen by where it lies in memory
 
 abbrev pub scripts_seen : List (Vec (Bor Text) Global) → List (List Text)
 scripts_seen scripts = map texts_seen scripts

@@ -49,7 +49,7 @@ pub(crate) fn draft_in<'a>(alloc: Global, table: &'a Table) -> Result<Draft<'a>,
     })
 }
 
-// The tables of the connections, none where the key is missing.
+// The tables of the connections, none if the key is missing.
 fn tables_at<'a>(alloc: Global, table: &'a Table) -> Result<Vec<&'a Table>, ScenarioFault>
     ensures { Gives tables_seen (tables_at (table_view table.entry.now)) result }
 {

@@ -80,7 +80,7 @@ fn told(fault: ScenarioFault) -> EngineFault
     }
 }
 
-/// Reads a scenario, runs it and writes its report. Nothing is written before the whole report is made; where the writer
+/// Reads a scenario, runs it and writes its report. Nothing is written before the whole report is made; if the writer
 /// fails, or takes no octet, a part of the report went out.
 pub fn run_text<R: Read, W: Write>(
     alloc: Global,
@@ -116,7 +116,7 @@ fn report_of_run(alloc: Global, scenario: Scenario) -> Result<String, AllocError
 /// beside the report.
 ///
 /// # Errors
-/// Where memory is refused there is no trace.
+/// If memory is refused there is no trace.
 pub fn trace_of(alloc: Global, scenario: Scenario) -> Result<Trace, AllocError>
     ensures trace { IfOk result (IsTrace scenario.net scenario.events) }
     ensures safe { IfOk result (λ trace. trace.safe ≡ true) }

@@ -7,8 +7,8 @@ use abt_net::NetFault;
 use std::alloc::{AllocError, AllocFailed};
 use thiserror::Error;
 
-/// Why a text is no scenario: the first of these, in this order, of which the first three are looked for along the keys
-/// (docs/FORMATS.md, "Scenario"). Want of memory comes where it is met.
+/// Why a text is no scenario: the first of these. The first three are looked for along the keys (docs/FORMATS.md,
+/// "Scenario"). Want of memory comes where it is met.
 #[derive(Clone, Copy, Debug, PartialEq, Eq, Error)]
 pub enum ScenarioFault {
     /// The text isn't TOML.

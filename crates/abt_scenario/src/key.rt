@@ -22,11 +22,11 @@ pub enum Key {
     Delay,
     /// By how much a cell may come too early.
     Tau,
-    /// What its source does.
+    /// The script of its source.
     Script,
-    /// What happens in the net.
+    /// The events in the net.
     Events,
-    /// What its operator does.
+    /// The operations of its operator.
     Operator,
 }
 

@@ -7,10 +7,10 @@ use abt_net::Net;
 pub struct Scenario {
     /// The ports and the connections.
     pub net: Net,
-    /// What happens, in order.
+    /// The events, in order.
     pub events: Sequence<Event>,
-    /// What the source of each connection does, in the order of the connections.
+    /// The script of each connection's source, in the order of the connections.
     pub scripts: Sequence<Script>,
-    /// What the operator does, in order.
+    /// The operations, in order.
     pub operator: Sequence<Operation>,
 }

@@ -48,7 +48,7 @@ pub(crate) fn whole_of(value: &Value, key: Key, limit: u64) -> Result<u64, Scena
     }
 }
 
-// The same of 16 bits.
+// A whole number of 16 bits below a limit.
 pub(crate) fn short_of(value: &Value, key: Key, limit: u64) -> Result<u16, ScenarioFault>
     requires { limit ≤ 2 ^ 16 }
     ensures value { result ≡ whole_of limit key (view value.now) }
@@ -78,7 +78,7 @@ fn numbers_in(alloc: Global, values: &[Value], key: Key) -> Result<Vec<u64>, Sce
     Ok(numbers)
 }
 
-// The same of numbers of 16 bits.
+// Whole numbers of 16 bits, in an array.
 pub(crate) fn shorts_of(alloc: Global, value: &Value, key: Key) -> Result<Vec<u16>, ScenarioFault>
     ensures { Gives listed (numbers_of (2 ^ 16) key (view value.now)) result }
 {
@@ -98,7 +98,7 @@ fn shorts_in(alloc: Global, values: &[Value], key: Key) -> Result<Vec<u16>, Scen
     Ok(numbers)
 }
 
-// The texts at a key, none where it is missing.
+// The texts at a key, none if it is missing.
 pub(crate) fn texts_at<'a>(
     alloc: Global,
     table: &'a Table,
@@ -128,7 +128,7 @@ fn texts_in<'a>(alloc: Global, values: &'a [Value], key: Key) -> Result<Vec<&'a 
     Ok(texts)
 }
 
-// The values at a key, all of which are texts, none where it is missing.
+// The values at a key, which are all texts; none if the key is missing.
 pub(crate) fn text_values_at<'a>(table: &'a Table, key: Key) -> Result<&'a [Value], ScenarioFault>
     ensures { Gives
         (λ values. texts_among (items_view values.now)) (texts_at key (table_view table.entry.now)) result }
@@ -142,7 +142,7 @@ pub(crate) fn text_values_at<'a>(table: &'a Table, key: Key) -> Result<&'a [Valu
     }
 }
 
-// The same values, if all are texts.
+// These values, if all of them are texts.
 #[tactic(auto, using(crate::proofs::TextValues::texts_are))]
 fn text_values<'a>(values: &'a [Value], key: Key) -> Result<&'a [Value], ScenarioFault>
     ensures { Gives

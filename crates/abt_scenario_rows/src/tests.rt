@@ -1,6 +1,9 @@
 //! Rows of scenarios' texts, and what each is read as. The expected scenarios and faults are written out by hand from
 //! docs/FORMATS.md, "Scenario".
 mod faults;
+mod format;
+mod lines;
+mod report;
 mod rows;
 mod runs;
 mod streams;
@@ -14,7 +17,7 @@ use std::test::Fail;
 const ONE: &str =
     "ports = [512000]\n[[connection]]\nvpi = 1\nvci = 100\npath = [0]\ndelay = 1000\ntau = 200\n";
 
-/// What a text is read as. Where memory is refused, the text is read again.
+/// What a text is read as. If memory is refused, the text is read again.
 fn reading(alloc: Global, text: &str) -> Result<Result<Scenario, ScenarioFault>, Fail> {
     match read(alloc, text) {
         Err(ScenarioFault::Memory) => {}
@@ -39,7 +42,7 @@ fn scenario(alloc: Global, text: &str) -> Result<Scenario, Fail> {
     }
 }
 
-/// A text out of its pieces, which is made again where memory was refused for it.
+/// A text out of its pieces, which is made again if memory was refused for it.
 fn joined(alloc: Global, pieces: &[&str]) -> Result<String, AllocError> {
     match joined_once(alloc, pieces) {
         Ok(text) => Ok(text),

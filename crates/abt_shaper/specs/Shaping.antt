@@ -1,4 +1,4 @@
--- What a shaper keeps (docs/RULES.md, "Shaper").
+-- The state of a shaper (docs/RULES.md, "Shaper").
 use Rattle.std.specs.Prelude.{ℕ, ◌<◌, ◌≤◌, Option, IfSome, IsSomeAnd, refl}
 use Rattle.std.specs.Coded.{Coded, code_by, coded×, coded_ℕ, coded_option}
 
@@ -18,7 +18,7 @@ shaping_code =
     (λ p. record { next = p.0; emitted = p.1 })
     (λ _. refl)
 
--- What a shaper can keep: the last cell left no later than the next one may.
+-- The states of a shaper: the last cell left no later than the next one may.
 abbrev pub IsKept : Shaping → Type 0
 IsKept s = IfSome s.emitted (λ last. last ≤ s.next)
 

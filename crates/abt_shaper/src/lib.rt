@@ -9,6 +9,3 @@ mod shaper;
 pub use fault::ShapeFault;
 pub use limits::EMIT_MAX;
 pub use shaper::Shaper;
-
-#[cfg(test)]
-mod tests;

@@ -47,7 +47,7 @@ impl Shaper {
         }
     }
 
-    /// The shaper that keeps these, as [`Shaper::next`] and [`Shaper::emitted`] gave them, or `None` where the last cell left
+    /// The shaper that keeps these, as [`Shaper::next`] and [`Shaper::emitted`] gave them, or `None` if the last cell left
     /// after the moment from which the next one may.
     pub fn of_parts(next: u64, emitted: Option<u64>) -> Option<Shaper>
         ensures some { IsSome result ↔ IsKept (record { next = next; emitted = emitted }) }

@@ -35,7 +35,7 @@ started_source s kept now = record {
   newest = None;
 }
 
--- what a start answers, by what the store gave
+-- the result of a start, by what the store gave
 abbrev pub result_of_start : SourceView → (now : ℕ) → Result KeptRecord StoreFault → Result SourceView StartRefused
 result_of_start s now (Err _) = Err (record { source = s; fault = StartKeep })
 result_of_start s now (Ok kept) =
@@ -49,7 +49,7 @@ crashed_source s = record s { rate = 0; newest = None }
 abbrev pub next_request : SourceView → (ask : ℕ) → Terms
 next_request s ask = record { vc = s.vc; seq = s.last + 1; floor = min s.rate ask; ask = ask }
 
--- the rate that an open request asks for, zero where there is none
+-- the rate that an open request asks for, zero if there is none
 abbrev pub asked_in : Option Terms → ℕ
 asked_in None = 0
 asked_in (Some request) = request.ask
@@ -73,12 +73,12 @@ abbrev pub asking_source : SourceView → Terms → SourceView
 asking_source s request =
     record s { rate = request.floor; last = request.seq; kept = kept_after s request.ask; newest = Some request }
 
--- what an ask answers that finds its number and its need kept
+-- the result of an ask that finds its number and its need kept
 abbrev pub request_goes :
     {S : Type 0} → SourceView → (ask : ℕ) → Result (SourceView × Terms) (AskRefused S)
 request_goes s ask = Ok (asking_source s (next_request s ask), next_request s ask)
 
--- what an ask answers that writes, by what the store answered
+-- the result of an ask that writes, by what the store returned
 abbrev pub result_of_ask :
     {S : Type 0} → SourceView → (ask : ℕ) → Result (Unit {0}) StoreFault → Result (SourceView × Terms) (AskRefused S)
 result_of_ask s ask (Err _) = Err (record { source = s; fault = Keep })
@@ -89,7 +89,7 @@ abbrev pub is_behind : Option ℕ → (now : ℕ) → Bool
 is_behind None now = false
 is_behind (Some last) now = nat_lt now last
 
--- what an emission answers at a rate, where the last one was so and the next may leave from then on
+-- the result of an emission at a rate, given the last one and the moment from which the next may leave
 abbrev pub emission_at : (emitted : Option ℕ) → (next rate now : ℕ) → Result ℕ ShapeFault
 emission_at emitted next rate now =
     if is_behind emitted now then Err ClockBack
@@ -98,7 +98,7 @@ emission_at emitted next rate now =
     else if nat_lt now next then Err (TooSoon next)
     else Ok (now + spacing_of rate)
 
--- what an emission of a source answers: the shaper's answer, at the present rate
+-- the result of a source's emission: the shaper's, at the present rate
 abbrev pub result_of_emission : SourceView → (now : ℕ) → Result ℕ ShapeFault
 result_of_emission s now = emission_at s.emitted s.next s.rate now
 

@@ -39,7 +39,7 @@ pub record StandsFor (facts : List Fact) (state : SourceState) (view : SourceVie
   pub state_is : state ≡ state_of facts
   pub view_is : view ≡ view_of view.vc facts
 
--- the fact that an ask adds before its own: the record that it wrote, where it wrote one
+-- the fact that an ask adds before its own: the record that it wrote, if it wrote one
 abbrev pub stored_by : SourceView → (ask : ℕ) → List Fact
 stored_by s ask = if has_to_write s ask then Stored (record_to_write s ask) ∷ [] else []
 

@@ -8,7 +8,7 @@ use crate::source::Source;
 use crate::state::{Asking, Idle};
 use abt_cell::{Answer, Request};
 
-/// What an answer made of a source.
+/// The outcome of an answer at a source.
 #[must_use]
 #[derive(Debug, Drop)]
 pub enum Answered {

@@ -27,7 +27,7 @@ impl<S: Up> Source<S> {
     ghost use Rattle.abt_source.specs.Calls.{next_request, need_for, has_to_write, record_to_write, request_goes, result_of_ask};
     ghost use Rattle.abt_source.specs.SourceFacts.{StandsFor, stored_by};
 
-    /// Asks for a rate, under the number after the last one. Where the number or the need of the ask is above what the source
+    /// Asks for a rate, under the number after the last one. If the number or the need of the ask is above what the source
     /// knows to be kept, the store keeps a record of both before the request goes out, with 63 numbers more (docs/RULES.md,
     /// "Source"). Until the answer the source shapes at the floor: the lesser of its present rate and the asked rate. A
     /// request that still waits is abandoned.

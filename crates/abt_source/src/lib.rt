@@ -2,6 +2,7 @@
 #![tactic(auto)]
 
 mod answer;
+mod any;
 mod ask;
 mod fault;
 mod need;
@@ -11,6 +12,7 @@ mod start;
 mod state;
 
 pub use answer::Answered;
+pub use any::{AnySource, Phase};
 pub use ask::AskRefused;
 pub use fault::{AskFault, StartFault};
 pub use parts::SourceParts;

@@ -1,4 +1,4 @@
-//! What an ask has to have kept.
+//! The spacing that an ask has to have kept.
 ghost use Rattle.std.specs.Prelude.{◌≡◌, ◌≤◌, None, Some, if◌then◌else◌};
 ghost use Rattle.abt_rate.specs.Limits.{spacing_max};
 ghost use Rattle.abt_facts.specs.Keeping.{counted};
@@ -14,7 +14,7 @@ use abt_rate::Rate;
 const STRIDE: u32 = 64;
 
 impl<S: Up> Source<S> {
-    /// The record that an ask for a rate has to write before its request goes out, or `None` where its number and its need
+    /// The record that an ask for a rate has to write before its request goes out, or `None` if its number and its need
     /// are kept (docs/RULES.md, "Source").
     pub fn record_to_write(&self, rate: Rate) -> Option<Record>
         ensures { result ≡

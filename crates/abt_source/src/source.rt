@@ -36,7 +36,7 @@ pub struct Source<S: State> {
     pub(crate) vc: Vc,
     pub(crate) rate: Rate,
     pub(crate) last: u32,
-    // What it knows to be kept.
+    // The record that it knows to be kept.
     pub(crate) kept: Record,
     // The gap that is running, in picoseconds: the hold-off, or the spacing of the last cell.
     pub(crate) gap: u64,

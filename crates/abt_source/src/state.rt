@@ -19,7 +19,7 @@ pub trait State: sealed::Sealed + Drop {
     /// The state by the facts of the connection, at a source with this last number.
     ghost state_at: { (last : ℕ) → SourceState };
 
-    /// The rate that the open request asks for, which is zero where none waits for its answer.
+    /// The rate that the open request asks for, which is zero if none waits for its answer.
     fn open_ask(&self) -> Rate
         ensures { result ≡ asked_in (newest self.now) };
 }

@@ -1,4 +1,4 @@
--- What an audit leaves whose events are drawn, over the files that are named or over the input that is there.
+-- What is left by an audit whose events are drawn, over the files that are named or over the input that is there.
 use Rattle.std.specs.Prelude.{◌⊎◌, Option, string_bytes}
 use Rattle.std.specs.Option.{option_map}
 use Rattle.std.specs.Io.KnownBytes.{Keeps}
@@ -24,7 +24,8 @@ pub record IsAuditedUndrawn (plan : DrawAuditPlan) (left old new : Option Text) 
   pub run : AuditedRun
   pub audited : IsAuditedAs plan.texts left old new run
 
--- They aren't, which is told, and behind it maybe why there is no picture of what they are up to the entries at which they are stuck.
+-- The journals aren't woven, which is told, and behind it maybe why there is no picture of the events before they got
+-- stuck.
 pub record IsUnauditedFirst (plan : DrawAuditPlan) (left old new errors_old errors_new : Option Text) : Type 0 where
   pub between : Option Text
   pub unaudited : IsUnauditedHere plan.texts left old new errors_old between
@@ -34,7 +35,7 @@ abbrev pub IsAuditUndrawnHere : DrawAuditPlan → (left old new errors_old error
 IsAuditUndrawnHere plan left old new errors_old errors_new =
     IsUnauditedFirst plan left old new errors_old errors_new ⊎ IsAuditedUndrawn plan left old new
 
--- What the journals of a run are up to the entries at which they are stuck is drawn.
+-- The events before a run's journals got stuck are drawn.
 pub record IsPartDrawn (picture : PicturePlan) (run : Run) : Type 0 where
   pub part : WovenPart
   pub is_part : IsWovenPart run.net (run_journals run) part

@@ -1,4 +1,4 @@
--- What an audit leaves, over the files that are named or over the input that is there.
+-- The output of an audit, over the files that are named or over the input that is there.
 use Rattle.std.specs.Prelude.{◌≡◌, ◌⊎◌, ⊤, Any, List, [], ◌∷◌, length, Option, String, string_bytes}
 use Rattle.std.specs.declared.alloc.Global.{Global}
 use Rattle.std.specs.Io.KnownBytes.{Keeps}
@@ -28,13 +28,13 @@ pub record IsShownAsOver (names : List (String Global)) (old new : Option Text) 
   pub each : length lefts ≡ length names
   pub shown : IsShownAs lefts old new run
 
--- One of the files isn't opened, which is told of it by its name.
+-- One of the files isn't opened, which is told with its name.
 pub record IsOneUnopened (names : List (String Global)) (old new errors_old errors_new : Option Text) : Type 0 where
   pub name : Text
   pub is_named : Any (λ file. string_bytes file ≡ name) names
   pub unopened : IsUnopenedFile name old new errors_old errors_new
 
--- what an audit takes of the input that is there: nothing where files are named
+-- what an audit takes of the input that is there: nothing if files are named
 abbrev pub TakesToAudit : AuditPlan → (old new : Option Text) → Type 0
 TakesToAudit Input old new = ⊤
 TakesToAudit (Files names) old new = Keeps old new

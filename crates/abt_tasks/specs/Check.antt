@@ -1,4 +1,4 @@
--- What checking leaves, over the file that is named or over the input that is there.
+-- The output of a check, over the file that is named or over the input that is there.
 use Rattle.std.specs.Prelude.{◌⊎◌, ◌+◌, Bool, false, Option, MatchOption, string_bytes}
 use Rattle.std.specs.Option.{option_map}
 use Rattle.std.specs.Io.KnownBytes.{Keeps}

@@ -1,4 +1,5 @@
--- What a run leaves whose scenario is checked besides, over the file that is named or over the input that is there.
+-- What is left by a run whose scenario is checked besides, over the file that is named or over the input that is
+-- there.
 use Rattle.std.specs.Prelude.{◌≡◌, ◌⊎◌, ◌+◌, Option, Some, MatchOption, IfSome, string_bytes}
 use Rattle.std.specs.Str.{IsUtf8}
 use Rattle.std.specs.Io.KnownBytes.{Keeps}
@@ -42,7 +43,7 @@ unread text.Read = Read
 unread text.TooLong = TooLong
 unread text.Memory = Memory
 
--- the same of the text that a reader had left
+-- the plan is done over the text that a reader had left
 pub record IsDoneOver (plan : Plan) (left old new : Option Text) : Type 0 where
   pub source : Text
   pub is_left : IfSome left (λ octets. source ≡ octets)

@@ -1,4 +1,4 @@
--- What saying as JSON leaves, over the file that is named or over the input that is there.
+-- The output of commands with `--json`, over the file that is named or over the input that is there.
 use Rattle.std.specs.Prelude.{◌⊎◌, Bool, true, false, Option, None, MatchOption, string_bytes}
 use Rattle.std.specs.Option.{option_map}
 use Rattle.std.specs.Io.KnownBytes.{Keeps}
@@ -37,7 +37,7 @@ abbrev pub explains : JsonPlan → Bool
 explains (Explain file) = true
 explains plan = false
 
--- The file isn't opened; where reasons are asked for, it is told why.
+-- The file isn't opened; if reasons are asked for, it is told why.
 abbrev pub IsUnopenedFor : (why : Bool) → (name : Text) → (old new errors_old errors_new : Option Text) → Type 0
 IsUnopenedFor true name old new errors_old errors_new = IsUnopenedFile name old new errors_old errors_new
 IsUnopenedFor false name old new errors_old errors_new = IsUnopened old new errors_old errors_new

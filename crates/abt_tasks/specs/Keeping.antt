@@ -1,4 +1,5 @@
--- What a run in threads leaves whose journals are written, over the file that is named or over the input that is there.
+-- What is left by a run in threads whose journals are written, over the file that is named or over the input that is
+-- there.
 use Rattle.std.specs.Prelude.{◌⊎◌, ◌+◌, Option, MatchOption, IfSome, Ok, string_bytes}
 use Rattle.std.specs.Option.{option_map}
 use Rattle.std.specs.Io.KnownBytes.{Keeps}

@@ -49,7 +49,7 @@ TellsEach [] old new = Keeps old new
 TellsEach (text ∷ []) old new = Tells text old new
 TellsEach (text ∷ next ∷ texts) old new = (between : Option Text) × Tells text old between × TellsEach (next ∷ texts) between new
 
--- The fault was told, with the name and why: which reason it is, is the system's to say. Want of memory was told alone.
+-- The fault was told, with the name and the reason, which is the system's to say. Want of memory was told alone.
 abbrev pub TellsUnopened : (name : Text) → (old new : Option Text) → Type 0
 TellsUnopened name old new = Tells (fault_line Memory) old new ⊎ ((why : Why) × TellsEach (unopened_pieces name why) old new)
 

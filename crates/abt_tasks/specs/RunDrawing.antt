@@ -1,4 +1,4 @@
--- What a run in threads leaves whose woven events are drawn.
+-- What is left by a run in threads whose woven events are drawn.
 use Rattle.std.specs.Prelude.{◌≡◌, ◌⊎◌, ◌+◌, ⊤, ℕ, List, Option, MatchOption, string_bytes}
 use Rattle.std.specs.Option.{option_map}
 use Rattle.std.specs.Io.KnownBytes.{Keeps}

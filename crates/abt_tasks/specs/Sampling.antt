@@ -1,4 +1,5 @@
--- What an audit leaves whose events are written as a scenario, over the files that are named or over the input that is there.
+-- What is left by an audit whose events are written as a scenario, over the files that are named or over the input
+-- that is there.
 use Rattle.std.specs.Prelude.{◌⊎◌, Option}
 use Rattle.abt_text.specs.Text.{Text}
 use Rattle.abt_perform.specs.Plans.{Tells}

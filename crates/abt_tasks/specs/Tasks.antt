@@ -68,7 +68,7 @@ IsUnexplainedHere plan left old new errors_old errors_new = MatchOption (file_of
     (IsRefused left old new errors_old errors_new)
     (λ name. IsUnopenedFile name old new errors_old errors_new ⊎ IsRefusedOver old new errors_old errors_new)
 
--- what a task takes of the input that is there; where it is read to its end, as lines or as journals, whatever it likes
+-- what a task takes of the input that is there; of one that is read to its end, as lines or as journals, anything
 abbrev pub TakesOf : Task → (old new : Option Text) → Type 0
 TakesOf (Plan plan) old new = ReadsHere plan old new
 TakesOf (Checked plan) old new = checked.TakesToRun plan old new
@@ -85,7 +85,7 @@ TakesOf (Draw plan) old new = TakesToDraw plan old new
 TakesOf (DrawRun plan) old new = TakesToDrawRun plan old new
 TakesOf (DrawAudit plan) old new = TakesToAudit plan.texts old new
 
--- what the task prints went out, all of it; where it tells events of a run, on standard error, so did these. A picture
+-- what the task prints went out, all of it; if it tells events of a run, on standard error, so did these. A picture
 -- is printed nowhere: it goes to its own file
 abbrev pub IsCarriedOut : Task → (left old new errors_old errors_new : Option Text) → Type 0
 IsCarriedOut (Plan plan) left old new errors_old errors_new = IsDoneHere plan left old new

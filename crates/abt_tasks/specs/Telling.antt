@@ -1,4 +1,5 @@
--- What a run in threads leaves whose woven events are told or written, over the file that is named or over the input that is there.
+-- What is left by a run in threads whose woven events are told or written, over the file that is named or over the
+-- input that is there.
 use Rattle.std.specs.Prelude.{◌≡◌, ◌⊎◌, ◌+◌, ⊤, Option, Some, MatchOption, MatchBool, IfSome, IsSome, string_bytes}
 use Rattle.std.specs.Option.{option_map}
 use Rattle.std.specs.Io.KnownBytes.{Keeps}
@@ -27,7 +28,7 @@ events_file_of plan = option_map string_bytes plan.events
 abbrev pub TellsRun : TellPlan → JudgedRun → (old new : Option Text) → Type 0
 TellsRun plan run old new = MatchBool plan.tells (TellsEvents run.ran.net run.judged.events old new) (Keeps old new)
 
--- the same of a check of the scenario
+-- the check of the scenario is told, if the plan tells; else nothing is
 abbrev pub TellsCheckBesides : TellPlan → (source : Text) → (old new : Option Text) → Type 0
 TellsCheckBesides plan source old new = MatchBool plan.tells (TellsCheck source old new) (Keeps old new)
 
@@ -84,7 +85,7 @@ pub record IsUntold (plan : TellPlan) (source : Text) (old new errors_old errors
   pub ends : IsUnfinished plan source old new errors_old between
   pub checked : TellsCheckBesides plan source between errors_new
 
--- the same of the text that a reader had left
+-- the events of the text that a reader had left are told
 pub record IsToldOver (plan : TellPlan) (left old new errors_old errors_new : Option Text) : Type 0 where
   pub source : Text
   pub is_left : IfSome left (λ octets. source ≡ octets)

@@ -1,4 +1,4 @@
--- What the words of the commands ask for whose tasks stand on several crates, by what `clap` found of them.
+-- The tasks that words ask for, by the matches of `clap`, of the commands whose tasks stand on several crates.
 use Rattle.std.specs.Prelude.{◌≡◌, ◌≢◌, ◌⊎◌, true, false, Option, None, Some, option_map, string_bytes, codes}
 use Rattle.clap.specs.declared.parser.matches.ArgMatches.{ArgMatches}
 use Rattle.abt_text.specs.Text.{Text}
@@ -32,7 +32,7 @@ IsJsonPlanOf name found (Explain file) = (name ≡ codes "explain") × (option_m
 abbrev pub json_in : ArgMatches → Option Text
 json_in found = flag_in found (codes "json")
 
--- The name is that of a command whose words for an answer as JSON are read here.
+-- The name is that of a command whose words for JSON are read here.
 abbrev pub IsJsonCommand : (name : Text) → Type 0
 IsJsonCommand name = (name ≡ codes "rate") ⊎ (name ≡ codes "cell") ⊎ (name ≡ codes "run") ⊎ (name ≡ codes "explain")
 
@@ -46,7 +46,7 @@ pub record IsKeepPlanOf (found : ArgMatches) (plan : KeepPlan) : Type 0 where
 abbrev pub explain_in : ArgMatches → Option Text
 explain_in found = flag_in found (codes "explain")
 
--- The same of the events; they are told if the words ask for that.
+-- The plan to tell or write events has what the words name; events are told if the words ask for that.
 pub record IsTellPlanOf (found : ArgMatches) (plan : TellPlan) : Type 0 where
   pub file : option_map string_bytes plan.file ≡ text_in found (codes "FILE")
   pub events : option_map string_bytes plan.events ≡ text_in found (codes "events")
@@ -68,7 +68,7 @@ pub record IsDrawRunPlanOf (found : ArgMatches) (plan : DrawRunPlan) : Type 0 wh
   pub events : option_map string_bytes plan.events ≡ text_in found (codes "events")
   pub picture : IsPicturePlan found (codes "output") plan.picture
 
--- The same of an audit, whose texts are those of the files that the words name.
+-- The plan to draw an audit has what the words name; its texts are those of the files that they name.
 pub record IsDrawAuditPlanOf (found : ArgMatches) (plan : DrawAuditPlan) : Type 0 where
   pub texts : audit.IsPlanOf found plan.texts
   pub events : option_map string_bytes plan.events ≡ text_in found (codes "events")

@@ -1,4 +1,4 @@
-//! What the words of a command line ask for.
+//! The tasks that the words of a command line ask for.
 ghost use Rattle.std.specs.Prelude.{◌≡◌};
 ghost use Rattle.abt_tasks.specs.Showing.{reads_long, shows_progress};
 
@@ -14,7 +14,8 @@ pub struct Asked {
 }
 
 impl Asked {
-    /// Whether it is to be shown on a terminal how far the task is: where it reads an input that can be long, unless it is to be quiet.
+    /// Whether it is to be shown on a terminal how far the task is: if it reads an input that can be long, unless it
+    /// is to be quiet.
     pub fn shows_progress(&self) -> bool
         ensures { result ≡ shows_progress self.now }
     {

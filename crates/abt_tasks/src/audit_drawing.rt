@@ -60,8 +60,8 @@ pub(crate) fn draw_audit_plan_of(
     }))
 }
 
-// Audits journals, as a plan without a picture has it, and gives the exit status. Once all is shown it writes the events and draws them; where
-// journals are stuck, it draws what they are up to there.
+// Audits journals as a plan without a picture does, and gives the exit status. Once all is shown it writes the events
+// and draws them; if journals got stuck, it draws the events before that.
 pub(crate) fn draw_audit<T: Files + AllocGlobal, R: Read, W: Write, E: Write, P: Write + Drop>(
     rt: &T,
     progress: &Progress<P>,
@@ -112,7 +112,7 @@ fn keep_audited<T: Files + AllocGlobal, E: Write>(
     )
 }
 
-// Draws what the journals of a run are up to the entries at which they are stuck, or tells why not.
+// Draws the events before a run's journals got stuck, or tells why not.
 fn draw_part<T: Files + AllocGlobal, E: Write>(
     rt: &T,
     plan: &DrawAuditPlan,
@@ -136,7 +136,7 @@ fn names_of(texts: &AuditPlan) -> &[String] {
     }
 }
 
-// The text of the picture of what the journals of a run are up to the entries at which they are stuck, with a mark for each of these.
+// The picture of the events before a run's journals got stuck, with a mark for each entry at which one did.
 fn part_drawing(
     alloc: Global,
     picture: &PicturePlan,

@@ -43,8 +43,8 @@ pub(crate) fn audit<T: Files + AllocGlobal, R: Read, W: Write, E: Write, P: Writ
     }
 }
 
-// The same, and hands out the net and the events; Err where a line on `errors` tells why there are none, with the run whose journals are stuck,
-// if they are.
+// Audits journals and hands out the net and the events. `Err`: a line on `errors` tells why there are none; it has
+// the run whose journals are stuck, if they are.
 pub(crate) fn show_texts<T: Files + AllocGlobal, R: Read, W: Write, E: Write, P: Write + Drop>(
     rt: &T,
     progress: &Progress<P>,
@@ -75,7 +75,7 @@ pub(crate) fn show_texts<T: Files + AllocGlobal, R: Read, W: Write, E: Write, P:
     }
 }
 
-// The same of an input that is there.
+// Audits the journals of an input that is there, and hands out the net and the events.
 fn show_input<R: Read, W: Write, E: Write>(
     alloc: Global,
     input: &mut R,

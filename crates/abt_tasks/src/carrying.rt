@@ -24,8 +24,8 @@ use std::rt::Files;
 use std::sync::Wait;
 use std::thread::Threads;
 
-/// Carries a task out over the files that it names, or else over an input that is there, and gives the exit status: 0 where it is
-/// done, and 1 where a line on `errors` tells why not, or a check tells a fault. What is read of files that may be long is counted.
+/// Carries a task out over the files that it names, or else over an input that is there, and gives the exit status: 0 if it is
+/// done, and 1 if a line on `errors` tells why not, or a check tells a fault. What is read of files that may be long is counted.
 pub fn carry_out_task<T, R: Read, W: Write, E: Write, P: Write + Drop>(
     rt: &T,
     progress: &Progress<P>,

@@ -58,7 +58,7 @@ where
     }
 }
 
-// The same over the text that a reader has left.
+// Carries a plan out over the text that a reader has left, and tells a check of it besides.
 fn over_reader<T: Threads + Wait + Sync, R: Read, W: Write, E: Write>(
     rt: &T,
     alloc: Global,
@@ -98,7 +98,7 @@ pub(crate) fn unread(fault: TextFault) -> Fault
     }
 }
 
-// The same over a text.
+// Carries a plan out over a text, and tells a check of it besides.
 fn over_text<T: Threads + Wait + Sync, W: Write, E: Write>(
     rt: &T,
     alloc: Global,

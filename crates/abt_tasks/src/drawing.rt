@@ -115,7 +115,8 @@ fn keep_text<T: Files + AllocGlobal, E: Write>(
     }
 }
 
-// Writes a text to a file beside its own, which then takes its own name: so none is left half written. What is told, where that fails.
+// Writes a text to a file beside its own, which then takes its name: so it is never half written. The result is what
+// is told if that fails.
 fn write_whole<T: Files + AllocGlobal>(rt: &T, name: &str, text: &str) -> Result<(), &'static str> {
     let Ok(beside) = format!(in rt.alloc(); "{name}.part") else {
         return Err(MEMORY_LINE);

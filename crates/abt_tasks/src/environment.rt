@@ -1,4 +1,4 @@
-//! What a process is given: its words.
+//! The words of a process.
 ghost use Rattle.std.specs.Prelude.{IfOk};
 ghost use Rattle.abt_tasks.specs.Tasks.{IsAllowed};
 

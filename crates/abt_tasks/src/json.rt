@@ -64,7 +64,7 @@ pub(crate) fn say_as_json<T: Files + AllocGlobal, R: Read, W: Write, E: Write, P
     }
 }
 
-// The same over the file of this name.
+// Says as JSON what a plan asks for, over the file of this name.
 fn say_named<T: Files + AllocGlobal, W: Write, E: Write, P: Write + Drop>(
     rt: &T,
     progress: &Progress<P>,
@@ -94,7 +94,7 @@ fn explains(plan: &JsonPlan) -> bool
     matches!(plan, JsonPlan::Explain(_))
 }
 
-// The same, where nothing is told of a file that can't be opened but its fault.
+// Says a run as JSON, over the file of this name. If the file can't be opened, its fault alone is told.
 fn run_named<T: Files + AllocGlobal, W: Write, E: Write, P: Write + Drop>(
     rt: &T,
     progress: &Progress<P>,
@@ -121,7 +121,7 @@ fn run_named<T: Files + AllocGlobal, W: Write, E: Write, P: Write + Drop>(
     }
 }
 
-// The same, where it is told why a file can't be opened.
+// Says an explanation as JSON, over the file of this name. If the file can't be opened, it is told why.
 fn explain_named<T: Files + AllocGlobal, W: Write, E: Write, P: Write + Drop>(
     rt: &T,
     progress: &Progress<P>,

@@ -81,7 +81,7 @@ where
     }
 }
 
-// The same over the scenario that a reader has left. The file for the journals is made once the scenario is read.
+// Runs the scenario that a reader has left, and writes its journals. Their file is made once the scenario is read.
 fn keep_over<T, R: Read, W: Write, E: Write>(
     rt: &T,
     plan: &KeepPlan,

@@ -93,7 +93,7 @@ where
     }
 }
 
-// The same over the text that a reader has left.
+// Runs the scenario that a reader has left, and draws and writes its events as the plan says.
 fn over_reader<T, R: Read, E: Write>(
     rt: &T,
     plan: &DrawRunPlan,

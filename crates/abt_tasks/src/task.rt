@@ -1,4 +1,4 @@
-//! What the words of a command line ask for.
+//! The tasks that the words of a command line ask for.
 use crate::audit_drawing::DrawAuditPlan;
 use crate::run_drawing::DrawRunPlan;
 use abt_audit::{AuditPlan, SamplePlan};
@@ -11,7 +11,7 @@ use abt_parts::PartsPlan;
 use abt_perform::Plan;
 use abt_perform_threads::{KeepPlan, TellPlan};
 
-/// What to do, by the crate whose command asks for it.
+/// A task, by the crate whose command asks for it.
 #[derive(Drop)]
 pub enum Task {
     /// Say what a rate or a cell means, serve cells at a port, or run a scenario, also in threads.
@@ -30,7 +30,7 @@ pub enum Task {
     Json(JsonPlan),
     /// Say whether journals are those of one safe run.
     Audit(AuditPlan),
-    /// The same, and write their events as a scenario.
+    /// Say whether journals are those of one safe run, and write their events as a scenario.
     Sample(SamplePlan),
     /// Answer each line of the standard input: by a policer, a shaper or a port, or by what a cell says.
     Parts(PartsPlan),

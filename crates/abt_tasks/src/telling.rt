@@ -91,7 +91,7 @@ where
     }
 }
 
-// The same over the text that a reader has left.
+// Runs the scenario that a reader has left, and tells and writes its events as the plan says.
 fn over_reader<T, R: Read, W: Write, E: Write>(
     rt: &T,
     plan: &TellPlan,
@@ -119,7 +119,7 @@ where
     }
 }
 
-// The same over a text. The check comes last.
+// Runs the scenario of a text, and tells and writes its events as the plan says. The check comes last.
 fn over_text<T, W: Write, E: Write>(
     rt: &T,
     plan: &TellPlan,

@@ -1,4 +1,4 @@
--- Readings that end at the first fault, and what a function answers of them that needs memory.
+-- Readings that end at the first fault, and the result of a function that needs memory for them.
 use Rattle.std.specs.Prelude.{◌≡◌, ◌⊎◌, List, Result, Ok, Err, Vec}
 use Rattle.std.specs.declared.alloc.Global.{Global}
 
@@ -8,11 +8,11 @@ abbrev pub ◌>>=◌ : {A B Fault : Type 0} → Result A Fault → (A → Result
 Ok x >>= f = f x
 Err fault >>= f = Err fault
 
--- The answer is the exact one, seen so, or memory was refused, which this fault tells.
+-- The result is the exact one, seen so, or memory was refused, which this fault tells.
 abbrev pub GivesOr : {A B Fault : Type 0} → (memory : Fault) → (B → A) → Result A Fault → Result B Fault → Type 0
 GivesOr memory seen exact (Ok x) = exact ≡ Ok (seen x)
 GivesOr memory seen exact (Err fault) = (fault ≡ memory) ⊎ (exact ≡ Err fault)
 
--- a list without where it lies in memory
+-- a list, not seen by where it lies in memory
 abbrev pub listed : {A : Type 0} → Vec A Global → List A
 listed items = items.items

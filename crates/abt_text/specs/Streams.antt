@@ -1,4 +1,4 @@
--- What was taken from a reader, and what went out to a writer, where the octets that they have are known.
+-- What was taken from a reader, and what went out to a writer, if the octets that they have are known.
 use Rattle.std.specs.Prelude.{ℕ, ◌<◌, ◌≤◌, Option, length, take}
 use Rattle.std.specs.Io.KnownBytes.{Appends, Consumes}
 use Rattle.abt_text.specs.Text.{Text}

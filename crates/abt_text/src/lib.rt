@@ -12,6 +12,3 @@ pub use numeral::{u16_of, u32_of, u64_of};
 pub use reading::{TEXT_MAX, TextFault, Unread, octets_of, read_some};
 pub use spaced::words_of;
 pub use writing::{Unwritten, put};
-
-#[cfg(test)]
-mod tests;

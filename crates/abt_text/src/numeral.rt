@@ -10,14 +10,14 @@ pub fn u64_of(text: &str) -> Option<u64>
     number_of(text.as_bytes())
 }
 
-/// The same where it is below 2^32.
+/// The number of 1 to 19 decimal digits that a text is, if it is below 2^32.
 pub fn u32_of(text: &str) -> Option<u32>
     ensures { result ≡ number_below (2 ^ 32) text.now }
 {
     u32::try_from(u64_of(text)?).ok()
 }
 
-/// The same where it is below 2^16.
+/// The number of 1 to 19 decimal digits that a text is, if it is below 2^16.
 pub fn u16_of(text: &str) -> Option<u16>
     ensures { result ≡ number_below (2 ^ 16) text.now }
 {

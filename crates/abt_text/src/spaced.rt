@@ -2,7 +2,7 @@
 ghost use Rattle.std.specs.Prelude.{◌≡◌, ◌<◌, ◌≤◌, ◌↔◌, ◌++◌, ◌∷◌, IsNone, IfSome, length, map, take};
 ghost use Rattle.abt_text.specs.Words.{space, spaced, words_of, Lacks};
 
-/// Puts the words of a text into a room of the caller's, from its first place on, and says how many there are, or `None` where the
+/// Puts the words of a text into a room of the caller's, from its first place on, and says how many there are, or `None` if the
 /// room has fewer places; what the room then has isn't said.
 ///
 /// The text is cut at each space. So where two spaces meet, or one stands at an end, there is an empty word, and a text without
@@ -33,7 +33,7 @@ pub fn words_of<'a>(text: &'a str, room: &mut [&'a str]) -> Option<usize>
     Some(count + 1)
 }
 
-// The first word of a text and what stands behind the space after it, or `None` where the text has no space.
+// The first word of a text and what stands behind the space after it, or `None` if the text has no space.
 fn first_word(text: &str) -> Option<(&str, &str)>
     ensures some { IfSome result
         (λ cut. (text.now ≡ cut.0.now ++ (space ∷ cut.1.now)) × Lacks space cut.0.now) }

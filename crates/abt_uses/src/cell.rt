@@ -5,7 +5,7 @@ ghost use Rattle.abt_cell.specs.Reading.{Reads};
 
 use abt_cell::{Answer, Cell, Rm, read_rm, write_rm};
 
-/// The cell that refuses the request which a cell carries; `None` where it carries none.
+/// The cell that refuses the request which a cell carries; `None` if it carries none.
 pub fn refusal_of(cell: &Cell) -> Option<Cell>
     ensures { (request : Terms) → Reads cell.now (Rm.Request request) →
         IsSomeAnd result (λ back. Reads back (Rm.Answer (answer_to request false))) }

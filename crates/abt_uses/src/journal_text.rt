@@ -20,7 +20,7 @@ pub fn book_of<R: Read>(alloc: Global, reader: &mut R) -> Result<Book, TextFault
     Ok(book)
 }
 
-/// Writes the net and the journals that a book tells, as one text; `None` where it tells no net, or memory was refused.
+/// Writes the net and the journals that a book tells, as one text; `None` if it tells no net, or memory was refused.
 pub fn written<W: Write>(
     alloc: Global,
     book: Book,

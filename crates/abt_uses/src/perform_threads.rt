@@ -10,7 +10,7 @@ use abt_perform_threads::{Judged, judge};
 use abt_weave::WeaveFault;
 use std::alloc::Global;
 
-/// The events that the journals of a run are, with a trace that is safe. Otherwise there are no such events, but where memory was refused.
+/// The events that the journals of a run are, with a trace that is safe. Otherwise there are no such events, but if memory was refused.
 pub fn judged(alloc: Global, net: &Net, run: &Gathered) -> Result<Judged, WeaveFault>
     requires ports { length run.now.journals ≡ length net.now.capacities }
     requires sources { length run.now.sources.items ≡ length net.now.conns }

@@ -6,7 +6,7 @@ use abt_text::octets_of;
 use std::alloc::Global;
 use std::io::{Read, Write};
 
-/// All that a reader has left, while a line on a terminal tells how far it is read; `None` where it couldn't be read. What the terminal
+/// All that a reader has left, while a line on a terminal tells how far it is read; `None` if it couldn't be read. What the terminal
 /// takes changes nothing of it.
 pub fn octets_shown<R: Read + Drop, E: Write + Drop>(
     alloc: Global,

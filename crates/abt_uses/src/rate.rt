@@ -5,7 +5,7 @@ ghost use Rattle.abt_rate.specs.Rate.{units_of, greatest_units, IsRate, KeepsRat
 use abt_rate::Rate;
 
 /// The least rate code that says at least so many cells per second, with the least number of picoseconds between two cells that keeps its
-/// rate; `None` where no code says so much, and for no cells at all.
+/// rate; `None` if no code says so much, and for no cells at all.
 pub fn code_and_gap(cells: u32) -> Option<(u16, u64)>
     ensures enough { IfSome result (λ r. 512 * cells ≤ units_of r.0) }
     ensures least { IfSome result (λ r. (rate : ℕ) → IsRate rate → 512 * cells ≤ rate → units_of r.0 ≤ rate) }

@@ -6,7 +6,7 @@ use abt_keep::SeqStore;
 use abt_rate::Rate;
 use abt_source::{Answered, Asking, Source};
 
-/// The first request of a source that starts now, with the source, which waits for the answer; `None` where the store failed, no number is
+/// The first request of a source that starts now, with the source, which waits for the answer; `None` if the store failed, no number is
 /// left, or the moment is out of range. Its number is in the store before it goes out.
 pub fn first_request<K: SeqStore>(
     vc: Vc,

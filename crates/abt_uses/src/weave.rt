@@ -11,7 +11,7 @@ use abt_weave::{WeaveFault, weave};
 use abt_world::run;
 use std::alloc::Global;
 
-/// The events that journals are, and their trace, which is safe. Otherwise there are no such events, but where memory was refused.
+/// The events that journals are, and their trace, which is safe. Otherwise there are no such events, but if memory was refused.
 pub fn events_of(
     alloc: Global,
     net: &Net,

@@ -11,7 +11,7 @@ impl Draws {
         Draws { state: seed }
     }
 
-    /// A number below a limit; 0 where nothing is below it.
+    /// A number below a limit; 0 if nothing is below it.
     pub fn below(&mut self, limit: u64) -> u64 {
         self.state = self
             .state

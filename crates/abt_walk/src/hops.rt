@@ -26,7 +26,7 @@ pub fn is_open(facts: &[Fact], hop: u16) -> bool {
     seq != 0 && !facts.contains(&Fact::Shut { seq, hop })
 }
 
-/// What a hop holds: the asked rate of its newest number where that is open, else its floor.
+/// What a hop holds: the asked rate of its newest number if that is open, else its floor.
 pub fn held(facts: &[Fact], hop: u16) -> Rate {
     match words::asked(facts, newest(facts, hop)) {
         Some(terms) if is_open(facts, hop) => terms.ask,

@@ -1,4 +1,4 @@
-//! What a source answers (docs/RULES.md, "Source").
+//! Outcomes at a source (docs/RULES.md, "Source").
 use crate::hops::is_answer_at;
 use crate::step::{Step, adds, not_enabled, nothing};
 use crate::words::{self, State, Terms, request_of};

@@ -1,8 +1,8 @@
-//! What an event does.
+//! The steps of the walk.
 use abt_facts::Fact;
 use abt_world::{Cause, Outcome};
 
-/// What an event answers, and the facts that it adds.
+/// The outcome of an event, and the facts that it adds.
 #[derive(Clone, Copy, Debug, PartialEq, Eq)]
 pub struct Step {
     pub outcome: Outcome,

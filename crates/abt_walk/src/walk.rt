@@ -28,7 +28,7 @@ pub struct Standing {
     pub safe: bool,
 }
 
-/// The number of a place in a list, or the greatest where it has none.
+/// The number of a place in a list, or the greatest if it has none.
 pub fn number(place: usize) -> u16 {
     u16::try_from(place).unwrap_or(u16::MAX)
 }

@@ -5,7 +5,7 @@ use abt_facts::Fact;
 use abt_keep::Record;
 use abt_rate::Rate;
 
-/// What a source is doing.
+/// The state of a source.
 #[derive(Clone, Copy, Debug, PartialEq, Eq)]
 pub enum State {
     Down,
@@ -15,7 +15,7 @@ pub enum State {
     Asking { seq: u32 },
 }
 
-/// What was asked for under a number.
+/// The request of a number.
 #[derive(Clone, Copy, Debug, PartialEq, Eq)]
 pub struct Terms {
     pub floor: Rate,
@@ -38,7 +38,7 @@ pub fn state_after(facts: &[Fact]) -> State {
     state
 }
 
-/// What was asked for under a number, or None where it never was.
+/// The rate asked for under a number, or None if it never was.
 pub fn asked(facts: &[Fact], number: u32) -> Option<Terms> {
     for fact in facts {
         if let Fact::Asked {

@@ -259,7 +259,7 @@ line_says conn facts cell at =
     ∙ ap (λ n. arrives_by conn cell at (emitted_of facts) (after_last_of facts) (delivered_mark_of facts) n (last_arrival_of l)) (moment_of-line facts cell)
     ∙ ap (λ n. arrives_by conn cell at (emitted_of facts) (after_last_of facts) (delivered_mark_of facts) (moment_of facts cell) n) (last_arrival_of-line facts)
 
-arrives_alike : (conn : Conn) (facts others : List Fact) (cell at : ℕ) → line facts ≡ line others → is_enabled (arrive_answer conn facts cell at) ≡ is_enabled (arrive_answer conn others cell at)
+pub arrives_alike : (conn : Conn) (facts others : List Fact) (cell at : ℕ) → line facts ≡ line others → is_enabled (arrive_answer conn facts cell at) ≡ is_enabled (arrive_answer conn others cell at)
 arrives_alike conn facts others cell at same =
     let by : (l : List Fact) → is_enabled (arrive_answer conn l cell at) ≡ arrives_by conn cell at (emitted_of l) (after_last_of l) (delivered_mark_of l) (moment_of l cell) (last_arrival_of l)
     = λ l. arrives_if (nat_lt cell (emitted_of l)) (nat_lt cell (fence_of l)) (is_in_time conn.delay conn.tau l cell at) (nat_lt at (last_arrival_of l)) (verdict_at conn.tau l at (held_of l 1)) in

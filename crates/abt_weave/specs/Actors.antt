@@ -14,7 +14,7 @@ actor_count net = length net.conns + length net.capacities
 abbrev pub actor_at : Topology → (number : ℕ) → Actor
 actor_at net number = if nat_lt number (length net.conns) then Source number else Port (number - length net.conns)
 
--- where there are so many sources and so many ports, this is one of them
+-- this is one of so many sources and so many ports
 abbrev pub IsAmong : (sources ports : ℕ) → Actor → Type 0
 IsAmong sources ports (Source c) = c < sources
 IsAmong sources ports (Port p) = p < ports

@@ -5,7 +5,7 @@ use Rattle.abt_model.specs.declared.outcome.Outcome.TheVariants.{Asked}
 use Rattle.abt_model.specs.declared.entry.SourceEntry.{SourceEntry}
 use Rattle.abt_model.specs.declared.entry.SourceEntry.TheVariants.{Did}
 
--- the floor and the asked rate of the last request of a number, 0 where there is none
+-- the floor and the asked rate of the last request of a number, 0 if there is none
 abbrev pub floor_in : List SourceEntry → ℕ → ℕ
 floor_in [] s = 0
 floor_in (Did (Ask c rate plan) (Asked request) ∷ entries) s = if request.seq == s then request.floor else floor_in entries s

@@ -24,7 +24,7 @@ abbrev pub cell_arrived_at : (place : ℕ) → Option SourceEntry → Option ℕ
 cell_arrived_at place (Some (ArrivedAt cell named)) = if named == place then Some cell else None
 cell_arrived_at place other = None
 
--- the event of a connection that brings this to the port at a hop, where its step takes this place
+-- the event of a connection that brings this to the port at a hop, given the place of its step
 abbrev pub event_by : (conn hop place : ℕ) → PortInput → List SourceEntry → Option SourceEntry → Option Event
 event_by conn hop place (RequestIn request) placed next =
     if request.floor == floor_in placed request.seq && request.ask == ask_in placed request.seq && (not (hop == 1) || is_sent_at place next)

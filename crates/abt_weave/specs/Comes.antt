@@ -20,7 +20,7 @@ use Rattle.abt_weave.specs.Projections.{input_in, entry_by, steps_on, entries_on
 use Rattle.abt_weave.specs.Stuck.{RunJournals, next_step, next_entry}
 use Rattle.abt_weave.specs.Candidates.{is_beside}
 
--- the request of a number, where the source has done this, the newest first
+-- the request of a number, by what the source has done, the newest first
 abbrev pub request_told : Channel → List SourceEntry → ℕ → Terms
 request_told vc placed seq = record { vc = vc; seq = seq; floor = floor_in placed seq; ask = ask_in placed seq }
 
@@ -36,7 +36,7 @@ entry_beside_in place other = None
 abbrev pub entry_beside : (place : ℕ) → Event → Option SourceEntry
 entry_beside place event = entry_beside_in place (target_of event)
 
--- An event of a connection comes to a port with this step, whatever it answers, and what it is to its source is the next entry there.
+-- An event of a connection comes to a port with this step, whatever its outcome, and is the next entry of its source.
 pub record Comes (net : Topology) (journals : RunJournals) (earlier : List Event) (p place : ℕ) (input : PortInput) (event : Event) : Type 0 where
   pub c : ℕ
   pub whose : conn_of event ≡ Some c

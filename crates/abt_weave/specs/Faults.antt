@@ -1,4 +1,4 @@
--- What it says that journals aren't woven.
+-- What each fault of weaving says.
 use Rattle.std.specs.Prelude.{◌≡◌, ◌≢◌, ℕ, zero, suc, ◌<◌, nat_lt, List, [], ◌∷◌, ◌++◌, length, reverse, if◌then◌else◌, All}
 use Rattle.abt_net.specs.Topology.{Topology}
 use Rattle.abt_model.specs.declared.event.Event.{Event}
@@ -45,8 +45,8 @@ pub record NoneMismatches (net : Topology) (journals : RunJournals) (earlier : L
   pub sources : (c : ℕ) → SourceMismatches net journals earlier c → ⊥
   pub ports : (p : ℕ) → PortMismatches net journals earlier p → ⊥
 
--- Some list of events, each of whose rates a code can name, stands still. A mismatch is the first of its stuck entries that does; where none does, all actors with
--- entries left are named.
+-- Some list of events, each of whose rates a code can name, stands still. A mismatch is the first of its stuck entries that does; if none
+-- does, all actors with entries left are named.
 abbrev pub IsWeaveFault : Topology → RunJournals → WeaveFault → Type 0
 IsWeaveFault net journals (Mismatch actor place) =
     (events : List Event) × All AsksRate events × StandsStill net journals (reverse events) × IsFirstMismatch net journals (reverse events) actor place

@@ -61,18 +61,19 @@ pub record IsSourceSettled (net : Topology) (journals : RunJournals) (earlier : 
       entry_made net (turns ++ earlier) event ≡ Some (Did done outcome) → Fits net journals (turns ++ earlier) event → ⊥
   pub marks : MatchBool mismatches (SourceMismatches net journals earlier c) (SourceMismatches net journals earlier c → ⊥)
 
--- the same of a port
+-- Nothing that fits behind the events is the next entry of a port, also after Turns, and whether that entry
+-- mismatches.
 pub record IsPortSettled (net : Topology) (journals : RunJournals) (earlier : List Event) (p : ℕ) (mismatches : Bool) : Type 0 where
   pub stuck : (turns : List Event) (event : Event) (v : Visit) → AreTurns net earlier turns → visit net (past_of net (turns ++ earlier)) event ≡ Some v → v.port ≡ p →
       Fits net journals (turns ++ earlier) event → ⊥
   pub marks : MatchBool mismatches (PortMismatches net journals earlier p) (PortMismatches net journals earlier p → ⊥)
 
--- the same of a source or a port
+-- nothing that fits behind the events is the next entry of an actor, and whether that entry mismatches
 abbrev pub IsActorSettled : Topology → RunJournals → List Event → Actor → Bool → Type 0
 IsActorSettled net journals earlier (Source c) mismatches = IsSourceSettled net journals earlier c mismatches
 IsActorSettled net journals earlier (Port p) mismatches = IsPortSettled net journals earlier p mismatches
 
--- what a look at an actor does, where settled says whether its entry is stuck, and mismatches
+-- what a look at an actor does, with settled saying whether its entry is stuck, and mismatches
 abbrev pub IsAfterLook : Topology → RunJournals → (List Event → Bool → Type 0) → (old new : Progress) → Look → Type 0
 IsAfterLook net journals settled old new (Placed event) = IsProgress net journals new × (count old < count new) × HasPlaced net event old.events.items new.events.items
 IsAfterLook net journals settled old new Waits = IsProgress net journals new × (new.events.items ≡ old.events.items) × (count new ≡ count old) × settled (reverse old.events.items) false

@@ -44,7 +44,7 @@ pub record Visit : Type 0 where
   pub input : PortInput
   pub reply : PortReply
 
--- whether the event that answers this has happened
+-- whether an event with this outcome has happened
 abbrev pub is_enabled : Outcome → Bool
 is_enabled (NotEnabled cause) = false
 is_enabled outcome = true
@@ -58,7 +58,7 @@ reply_of CapacitySet = Some (CappedOut (Ok tt))
 reply_of (CapacityRefused fault) = Some (CappedOut (Err fault))
 reply_of outcome = None
 
--- what comes to a port by an event at a hop, where the request of a number is this
+-- what comes to a port by an event at a hop, given the request of each number
 abbrev pub input_by : Channel → (ℕ → Terms) → HopEvent → PortInput
 input_by vc request (hop.Arrive cell at) = ArriveIn vc at
 input_by vc request (hop.Request j seq) = RequestIn (request seq)
@@ -72,7 +72,7 @@ input_in vc request other = None
 abbrev pub input_of : Channel → List Fact → Event → Option PortInput
 input_of vc facts event = input_in vc (request_of vc facts) (target_of event)
 
--- the visit that an event of a connection is, of one with such facts
+-- the visit that an event of a connection is, given its facts
 abbrev pub visit_by : Event → Option PortReply → List Fact → Option Conn → Option Visit
 visit_by event reply facts None = None
 visit_by event None facts (Some conn) = None
@@ -80,7 +80,7 @@ visit_by event (Some reply) facts (Some conn) =
     option_map (λ (input : PortInput). record { port = slice_index conn.path (hop_visited event - 1); input = input; reply = reply })
     (input_of conn.vc facts event)
 
--- the visit of what happens at a port alone: that port is given its capacity
+-- the visit of an event at a port alone, which gives that port a capacity
 abbrev pub visit_alone : Target → Option PortReply → Option Visit
 visit_alone target None = None
 visit_alone (Port p capacity) (Some reply) = Some (record { port = p; input = CapacityIn capacity; reply = reply })
@@ -100,8 +100,8 @@ abbrev pub is_told_by : SourceEvent → Bool
 is_told_by (source.Told seq granted) = true
 is_told_by command = false
 
--- what stands at the source for an event at a hop that happens or doesn't, where its step takes this place in the journal of the
--- first port
+-- what stands at the source for an event at a hop that happens or doesn't, given the place of its step in the journal
+-- of the first port
 abbrev pub entry_by : (place : ℕ) → HopEvent → (happens : Bool) → Option SourceEntry
 entry_by place (hop.Arrive cell at) happens = if happens then Some (ArrivedAt cell place) else None
 entry_by place (hop.Request j seq) happens = if happens && j == 1 then Some (Sent place) else None
@@ -113,8 +113,8 @@ entry_in place (Hop c event) outcome = entry_by place event (is_enabled outcome)
 entry_in place (End c seq) outcome = None
 entry_in place (Port p capacity) outcome = None
 
--- What an event is to its source, where its step, if it has one, takes this place in the journal of the first port: a command
--- stands there whatever it answers, and all else only if it happens.
+-- What an event is to its source, given the place of its step, if it has one, in the journal of the first port: a
+-- command stands there whatever its outcome, and all else only if it happens.
 abbrev pub entry_of : (place : ℕ) → Event → Outcome → Option SourceEntry
 entry_of place event outcome = entry_in place (target_of event) outcome
 
@@ -137,7 +137,7 @@ abbrev pub first_port : Option Conn → ℕ
 first_port None = 0
 first_port (Some conn) = slice_index conn.path 0
 
--- the place that a step takes at the first port of the path of its connection, 0 where it is of none
+-- the place that a step takes at the first port of the path of its connection, 0 if it is of none
 abbrev pub place_of : Topology → List Event → Option ℕ → ℕ
 place_of net earlier None = 0
 place_of net earlier (Some c) = length (steps_on net (first_port (conn_at net c)) earlier)

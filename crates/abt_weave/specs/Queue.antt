@@ -20,7 +20,7 @@ pub record AreAllReady (n : ℕ) (queue : Queue) : Type 0 where
   pub queue_is : IsQueue n queue
   pub all : (i : ℕ) → i < n → slice_get queue.woken.items i ≡ Some true
 
--- none is to be looked at
+-- no actor is to be looked at
 pub record IsEmpty (old new : Queue) : Type 0 where
   pub none : new.ready.items ≡ []
   pub was : old.ready.items ≡ []

@@ -1,4 +1,4 @@
--- What becomes of an event that is tried on a world.
+-- The outcome of trying an event on a world.
 use Rattle.std.specs.Prelude.{◌≡◌, ◌≢◌, ◌&&◌, not, Bool, true, false, List, [], ◌∷◌, ◌++◌, Some, MatchBool}
 use Rattle.abt_net.specs.Topology.{Topology}
 use Rattle.abt_model.specs.declared.event.Event.{Event}
@@ -12,13 +12,13 @@ use Rattle.abt_weave.specs.Candidates.{is_told}
 use Rattle.abt_weave.specs.declared.trying.Tried.{Tried}
 use Rattle.abt_weave.specs.declared.trying.Tried.TheVariants.{Agrees, Differs, Absent}
 
--- of something that a source does, by the outcome that it is told to have had
+-- of a source's deed, by the outcome that the journal says it had
 abbrev pub IsOwnVerdict : Event → (outcome told : Outcome) → Tried → Type 0
 IsOwnVerdict event outcome told Agrees = (outcome ≡ told) × (is_told event && not (is_enabled outcome) ≡ false)
 IsOwnVerdict event outcome told Differs = (outcome ≢ told) × (is_told event && not (is_enabled outcome) ≡ false)
 IsOwnVerdict event outcome told Absent = (is_told event ≡ true) × (is_enabled outcome ≡ false)
 
--- of what comes to a port, by the reply that it is told to have had
+-- of an event at a port, by the reply that the journal says it had
 abbrev pub IsVisitVerdict : Outcome → PortReply → Tried → Type 0
 IsVisitVerdict outcome told Agrees = reply_of outcome ≡ Some told
 IsVisitVerdict outcome told Differs = (is_enabled outcome ≡ true) × (reply_of outcome ≢ Some told)

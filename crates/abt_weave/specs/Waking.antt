@@ -16,7 +16,7 @@ use Rattle.abt_weave.specs.Actors.{actor_at, actor_count}
 use Rattle.abt_weave.specs.Candidates.{channel_of}
 use Rattle.abt_weave.specs.Comes.{IsTurnOf}
 
--- The event was placed behind the old ones, where it needed one with its Turn before it. These lists have the oldest first.
+-- The event was placed behind the old ones, if it needed one with its Turn before it. These lists have the oldest first.
 abbrev pub HasPlaced : Topology → Event → (old new : List Event) → Type 0
 HasPlaced net event old new = (new ≡ old ++ event ∷ []) ⊎ ((turn : Event) × IsTurnOf net event turn × (new ≡ (old ++ turn ∷ []) ++ event ∷ []))
 

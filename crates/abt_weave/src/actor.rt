@@ -9,7 +9,7 @@ pub enum Actor {
     Port(u16),
 }
 
-/// The entry at which an actor's journal can't be gone on with, by its index there.
+/// The entry at which an actor's journal got stuck, by its index there.
 #[derive(Clone, Copy, Debug, PartialEq, Eq)]
 pub struct Stuck {
     /// Whose journal it is.

@@ -1,4 +1,4 @@
-//! What a source asked for.
+//! The requests of a source.
 ghost use Rattle.std.specs.Prelude.{◌≡◌, ◌<◌, List, length, reverse};
 ghost use Rattle.abt_net.specs.Topology.{Topology};
 ghost use Rattle.abt_model.specs.declared.event.Event.{Event};
@@ -24,7 +24,7 @@ const NO_RATES: Rates = Rates {
     ask: Rate::ZERO,
 };
 
-// The rates of the last request of this number among a source's placed entries, and none where there is no such request. The
+// The rates of the last request of this number among a source's placed entries, and none if there is no such request. The
 // world has an index of them.
 fn rates_asked(world: &World<'_>, conn: u16, seq: u32) -> Rates
     requires { conn < length world.now.net.conns }

@@ -76,8 +76,8 @@ fn has_rates(rates: Rates, floor: Rate, ask: Rate) -> bool
     floor == rates.floor && ask == rates.ask
 }
 
-// The event of a connection that brings this to a port, where its step takes this place in the port's journal. The rates are
-// those that were asked for under the number of a message.
+// The event of a connection that brings this to a port, given the place of its step in the port's journal. The rates
+// are those that were asked for under the number of a message.
 pub(crate) fn event_of(
     stop: HopOnPath,
     place: u64,

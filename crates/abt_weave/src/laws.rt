@@ -7,8 +7,8 @@ ghost use Rattle.abt_weave.specs.Stuck.{RunJournals};
 ghost use Rattle.abt_weave.specs.OneFault.{AreJournalsOf, HaveOneEnd, HaveOneFault};
 ghost use Rattle.abt_weave.specs.OneLaw.{AreBegun, PortsReplyAgain, SourcesAnswerAgain};
 
-/// Whether an event happens, and what comes of it, depends on the earlier entries of its own port and source alone, and on what
-/// was sent, which only grows: where more events have happened elsewhere, it happens too, as it did, at a last hop maybe after a Turn.
+/// Whether an event happens, and what comes of it, depends on the earlier entries of its own port and source alone, and on what was
+/// sent, which only grows: if more events have happened elsewhere, it happens too, as it did, at a last hop maybe after a Turn.
 ///
 /// This is a law and does nothing.
 pub fn own_entries_decide_what_happens()

@@ -12,14 +12,14 @@ use crate::weave_input::WeaveInput;
 use abt_model::Event;
 use std::alloc::{AllocError, Global};
 
-/// What became of an actor's next entry.
+/// The outcome of a look at an actor's next entry.
 #[derive(Clone, Copy, Debug, PartialEq, Eq)]
 pub(crate) enum Look {
     /// It is placed, as this event.
     Placed(Event),
-    /// No event can be it, or there is none left.
+    /// No event can be the next entry, or no entry is left.
     Waits,
-    /// The event that could be it answers something else.
+    /// The event that could be it has another outcome.
     Mismatches,
 }
 

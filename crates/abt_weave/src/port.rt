@@ -148,8 +148,8 @@ fn expect_event(
     })
 }
 
-/// Places the next entry of a port, and that of a source that is the same event, if the event can have happened now. Where
-/// it is a yes at the last hop that wasn't sent yet, its Turn is placed before it.
+/// Places the next entry of a port, and that of a source that is the same event, if the event can have happened now.
+/// If it is a yes at the last hop that wasn't sent yet, its Turn is placed before it.
 pub(crate) fn look_at_port<'run>(
     alloc: Global,
     given: &WeaveInput<'run>,
@@ -193,7 +193,7 @@ pub(crate) fn look_at_port<'run>(
     }
 }
 
-// The same of an event that can't happen at once: it may be a yes at the last hop that needs its Turn.
+// Places an event that can't happen at once: it may be a yes at the last hop that needs its Turn.
 fn look_after_turn<'run>(
     alloc: Global,
     given: &WeaveInput<'run>,
@@ -238,7 +238,7 @@ fn look_after_turn<'run>(
     }
 }
 
-// The same of a capacity that the port's link is to have: that is an event of the port alone.
+// Places a capacity that the port's link is to have: that is an event of the port alone.
 fn look_at_capacity<'run>(
     alloc: Global,
     given: &WeaveInput<'run>,

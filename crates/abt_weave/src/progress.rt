@@ -66,7 +66,7 @@ pub(crate) fn world_after<'run>(
     Ok(world)
 }
 
-// Lets an event happen, whatever it answers.
+// Lets an event happen, whatever its outcome.
 fn carry_on(world: &mut World<'_>, event: &Event) -> Result<(), AllocError>
     ensures { (net : Topology) (events : List EventSpec) → StandsFor net events world.old →
         OnOk result (StandsFor net (events ++ event.now ∷ []) world.new) }

@@ -1,4 +1,4 @@
-//! Whether two answers are the same, and what an outcome tells of a reply.
+//! Whether two replies or outcomes are the same, and the reply that an outcome tells.
 ghost use Rattle.std.specs.Prelude.{◌≡◌, ◌↔◌, IsTrue};
 ghost use Rattle.abt_weave.specs.Projections as woven;
 
@@ -19,7 +19,7 @@ pub(crate) fn is_same_reply(one: &PortReply, other: &PortReply) -> bool
     *one == *other
 }
 
-// Whether the event that answers this has happened.
+// Whether an event with this outcome has happened.
 pub(crate) fn is_enabled(outcome: &Outcome) -> bool
     ensures { result ≡ woven.is_enabled outcome.now }
 {

@@ -13,8 +13,8 @@ use crate::waking::wake_for;
 use crate::weave_input::WeaveInput;
 use std::alloc::{AllocError, Global};
 
-// Looks at an actor that was taken out of the queue, wakes whom an entry was waited for by if one was placed, and says whether
-// one was.
+// Looks at an actor that was taken out of the queue. If an entry was placed, wakes the actors that can have waited
+// for it, and says so.
 fn look_next<'run>(
     alloc: Global,
     given: &WeaveInput<'run>,
@@ -66,8 +66,9 @@ fn place_next<'run>(
     Ok(false)
 }
 
-/// Places what fits until nothing does, and says whose next entry then mismatches. An actor is looked at again only if an event
-/// was placed that it can have waited for, and never if its next entry mismatched: it goes on to.
+/// Places what fits until nothing does, and says whose next entry then mismatches. An actor is looked at again only
+/// if an event was placed that it can have waited for, and never if its next entry mismatched: it goes on to
+/// mismatch.
 pub(crate) fn settle<'run>(
     alloc: Global,
     given: &WeaveInput<'run>,

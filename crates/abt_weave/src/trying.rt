@@ -12,12 +12,12 @@ use abt_model::{Event, Outcome};
 use abt_world::World;
 use std::alloc::AllocError;
 
-/// What became of an event that was tried.
+/// The outcome of trying an event.
 #[derive(Clone, Copy, Debug, PartialEq, Eq)]
 pub(crate) enum Tried {
-    /// It answers what is told.
+    /// Its outcome is the one that the journal has.
     Agrees,
-    /// It answers something else.
+    /// Its outcome is another one.
     Differs,
     /// It can't happen, and nothing has.
     Absent,
@@ -30,7 +30,7 @@ fn is_told(event: &Event) -> bool
     matches!(event, Event::Told { .. })
 }
 
-/// Lets a source do something, which is told to have had this outcome. A command may also be one that isn't enabled.
+/// Lets a source do something whose outcome the journal has. A command may also be one that isn't enabled.
 pub(crate) fn try_own(
     world: &mut World<'_>,
     event: &Event,
@@ -57,7 +57,7 @@ fn own_tried(event: &Event, outcome: &Outcome, told: &Outcome) -> Tried
     Tried::Differs
 }
 
-/// Lets an event come to a port, which is told to have replied so.
+/// Lets an event come to a port whose reply the journal has.
 pub(crate) fn try_visit(
     world: &mut World<'_>,
     event: &Event,

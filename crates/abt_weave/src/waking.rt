@@ -1,4 +1,4 @@
-//! Whom an event was waited for by.
+//! The actors that waited for an event.
 ghost use Rattle.std.specs.Prelude.{◌≡◌, ◌<◌, true, length, reverse, Some, OnOk};
 ghost use Rattle.abt_net.specs.Topology.{IsWithinRules};
 ghost use Rattle.abt_model.specs.PortTable.{hop_visited};
@@ -41,7 +41,7 @@ fn is_about(given: &WeaveInput, progress: &Progress, port: u16, vc: Vc) -> bool
     }
 }
 
-// The hop that an event comes to, 0 where it comes to none.
+// The hop that an event comes to, 0 if it comes to none.
 fn hop_visited(event: &Event) -> u16
     ensures { result ≡ hop_visited event.now }
 {
@@ -118,7 +118,7 @@ fn wake_source(conn: u16, hop: u16, queue: &mut Queue) -> Result<(), AllocError>
     queue.wake(conn)
 }
 
-// Wakes a source and ports on its path, as far as an event at this hop can have been waited for there.
+// Wakes a source and ports on its path, if they can have waited for an event at this hop.
 fn wake_connection(
     given: &WeaveInput,
     progress: &Progress,
@@ -142,8 +142,9 @@ fn wake_connection(
     wake_path(given, progress, conn, hop, queue)
 }
 
-/// Wakes whom an event, the last that was placed, can have been waited for by: the port that it came to, those beside it on the
-/// path of its connection whose next entries are about this, and its source, if it happened there or at the first hop.
+/// Wakes the actors that can have waited for the last event that was placed: the port that it came to, those beside
+/// it on the path of its connection whose next entries are about this connection, and its source, if it happened
+/// there or at the first hop.
 pub(crate) fn wake_for(
     given: &WeaveInput,
     progress: &Progress,

@@ -1,4 +1,4 @@
-//! What is to be woven.
+//! The input of a weaving.
 ghost use Rattle.std.specs.Prelude.{◌≡◌, length};
 ghost use Rattle.abt_weave.specs.Actors.{IsAmong, entry_count};
 ghost use Rattle.abt_weave.specs.Progress.{run_journals};

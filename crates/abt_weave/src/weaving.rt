@@ -21,12 +21,12 @@ use abt_model::{Event, Sequence, SourceJournal};
 use abt_net::Net;
 use std::alloc::Global;
 
-/// Weaves the journals of the ports and of the sources of a net into one list of events, which are just these journals to each
-/// port and each source (docs/THREADS.md). The Turn of a yes stands in no journal, and is added where the yes needs it; no other
-/// event is added.
+/// Weaves the journals of the ports and of the sources of a net into one list of events, which are just these
+/// journals to each port and each source (docs/THREADS.md). The Turn of a yes stands in no journal, and is added if
+/// the yes needs it; no other event is added.
 ///
 /// # Errors
-/// Where entries are left that no event can be: see [`WeaveFault`]. [`WeaveFault::Memory`] wherever a growth is refused.
+/// If entries are left that no event can be: see [`WeaveFault`]. [`WeaveFault::Memory`] wherever a growth is refused.
 pub fn weave(
     alloc: Global,
     net: &Net,

@@ -47,7 +47,7 @@ fn built(alloc: Global, ports: usize, paths: &[&[u16]]) -> Result<Net, NetFault>
     }
 }
 
-/// A net; where memory was refused, it is built once more.
+/// A net; if memory was refused, it is built once more.
 fn net(alloc: Global, ports: usize, paths: &[&[u16]]) -> Result<Net, Fail> {
     match built(alloc, ports, paths) {
         Ok(net) => Ok(net),
@@ -150,7 +150,7 @@ fn run_of(
     })
 }
 
-/// What weaving gives; where memory was refused, the journals are woven once more.
+/// What weaving gives; if memory was refused, the journals are woven once more.
 fn woven(
     alloc: Global,
     net: &Net,

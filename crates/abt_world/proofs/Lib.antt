@@ -1,4 +1,4 @@
-mod Sendings
+pub mod Sendings
 pub mod Serving
 mod Arriving
 mod Happening

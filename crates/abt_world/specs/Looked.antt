@@ -48,12 +48,12 @@ looks_to_take hops event outcome = 0
 abbrev pub looks_to_note : List Fact → ℕ
 looks_to_note added = count_of is_of_message added
 
--- what an event of a connection with such facts looks up that answers so, to be taken and noted
+-- what an event of a connection with such facts and this outcome looks up, to be taken and noted
 abbrev pub looks_to_happen : Conn → List Fact → Event → Outcome → ℕ
 looks_to_happen conn facts event outcome = looks_to_take (length conn.path) event outcome + looks_to_note (facts_added facts event outcome)
 
--- the hops of a path that are asked whether they hold what a source sends, which came to another rate: the one that an event came to, and
--- each where the rate was raised
+-- the hops of a path that are asked whether they hold what a source sends, which came to another rate: all of them if it was raised, and
+-- else the one that the event came to
 abbrev pub hops_asked : (hops before after : ℕ) → Option ℕ → ℕ
 hops_asked hops before after port = if nat_le after before then one_if (is_some port) else hops
 

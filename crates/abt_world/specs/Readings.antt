@@ -1,4 +1,4 @@
--- What can be read off a net after a past.
+-- Readings of a net after a past.
 use Rattle.std.specs.Prelude.{ℕ, List, length, Option, None, Some, option_map, option_and_then, slice_get, if◌then◌else◌}
 use Rattle.abt_net.specs.declared.conn.Conn.{Conn}
 use Rattle.abt_net.specs.Topology.{Topology, conn_at}
@@ -21,11 +21,11 @@ rate_in net past c = option_map (λ (_ : Conn). rate_of (facts_of c past)) (conn
 abbrev pub asked_for : Topology → Past → (c seq : ℕ) → Option (ℕ × ℕ)
 asked_for net past c seq = option_and_then (λ (_ : Conn). asked_in (facts_of c past) seq) (conn_at net c)
 
--- what a hop of its path holds for it, if the path has so many
+-- the rate that a hop of its path holds for it, if the path has so many
 abbrev pub held_in : Topology → Past → (c hop : ℕ) → Option ℕ
 held_in net past c hop = option_and_then (λ (conn : Conn). if is_hop (length conn.path) hop then Some (held_of (facts_of c past) hop) else None) (conn_at net c)
 
--- what is reserved on a port, if the net has so many
+-- the rate reserved on a port, if the net has so many
 abbrev pub total_in : Topology → Past → ℕ → Option ℕ
 total_in net past port = option_map (λ (_ : ℕ). reserved_on net past port) (slice_get net.capacities port)
 
@@ -37,7 +37,7 @@ capacity_in net past port = option_map (λ (_ : ℕ). capacity_of net past port)
 abbrev pub newest_in : Topology → Past → (c hop : ℕ) → Option ℕ
 newest_in net past c hop = option_and_then (λ (conn : Conn). if is_hop (length conn.path) hop then Some (newest_of (facts_of c past) hop) else None) (conn_at net c)
 
--- the moment at which a cell of a connection left, if the net has so many connections; 0 where it didn't leave
+-- the moment at which a cell of a connection left, if the net has so many connections; 0 if it didn't leave
 abbrev pub moment_in : Topology → Past → (c cell : ℕ) → Option ℕ
 moment_in net past c cell = option_map (λ (_ : Conn). moment_of (facts_of c past) cell) (conn_at net c)
 

@@ -32,7 +32,7 @@ pub record IsConnAt (net : Topology) (past : Past) (c : ℕ) (conn : Conn) (fact
 abbrev pub ArePorts : Topology → Past → List Table → Type 0
 ArePorts net past ports = (p : ℕ) → slice_get ports p ≡ option_map (λ (_ : ℕ). port_table net past p) (slice_get net.capacities p)
 
--- what an event of connection c answers and adds
+-- the outcome of an event of connection c, and what it adds
 pub record Happens (net : Topology) (past : Past) (c : ℕ) (event : Event) (outcome : Outcome) (added : List Fact) : Type 0 where
   pub answer : outcome ≡ outcome_of net past event
   pub adds : added ≡ facts_added (facts_of c past) event outcome

@@ -1,4 +1,4 @@
--- What a world counts: what isn't safe in it.
+-- What a world counts: its violations.
 use Rattle.std.specs.Prelude.{◌≡◌, Bool, not, List}
 use Rattle.std.specs.List.{zip}
 use Rattle.abt_net.specs.declared.conn.Conn.{Conn}

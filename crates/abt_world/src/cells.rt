@@ -1,4 +1,4 @@
-//! What the arrival of a cell answers and adds, and what it makes of the port.
+//! The outcome of a cell's arrival, what it adds, and what it makes of the port.
 ghost use Rattle.std.specs.Prelude.{◌≡◌, ◌+◌, ◌≤◌, ◌&&◌, nat_lt, nat_le, List, length};
 ghost use Rattle.std.specs.Option.{option_map_or};
 ghost use Rattle.abt_actor.specs.Facts.{facts_in};

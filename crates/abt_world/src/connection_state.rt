@@ -47,7 +47,7 @@ fn note(log: &mut FactIndex, added: Added, looks: &mut Lookups)
 }
 
 impl ConnectionState {
-    // An event of the connection. Where memory is refused nothing happens.
+    // An event of the connection. If memory is refused nothing happens.
     pub(crate) fn take(
         &mut self,
         conn: &Conn,

@@ -1,4 +1,4 @@
-//! What is read off connections and ports in the end.
+//! Readings of connections and ports in the end.
 ghost use Rattle.std.specs.Prelude.{◌≡◌, IfOk, map};
 ghost use Rattle.abt_net.specs.declared.conn.Conn.{Conn};
 ghost use Rattle.abt_node.specs.Table.{sum_of};
@@ -29,7 +29,7 @@ pub(crate) fn rates_of(
     Ok(rates)
 }
 
-// What each hop of its path holds for each connection.
+// The rate that each hop of its path holds for each connection.
 pub(crate) fn held_of(
     alloc: Global,
     conns: &[Conn],

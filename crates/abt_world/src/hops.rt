@@ -1,4 +1,4 @@
-//! What one connection's events answer and add that come to a port, and what they make of the port.
+//! The outcomes of one connection's events at a port, what they add, and what they make of the port.
 ghost use Rattle.std.specs.Prelude.{◌≡◌, ◌+◌, ◌≤◌, ◌<◌, false, List, length};
 ghost use Rattle.abt_facts.specs.declared.fact.Fact.{Fact as FactSpec};
 ghost use Rattle.abt_facts.specs.Sent.{request_is_at, yes_is_at, no_is_at, answer_is_at};

@@ -1,4 +1,4 @@
-//! What one connection's events answer and add that come to no port.
+//! The outcomes of one connection's events that come to no port, and what they add.
 ghost use Rattle.std.specs.Prelude.{◌≡◌, ◌+◌, ◌≤◌, ◌++◌, List, length, IsSome, IfSome, true};
 ghost use Rattle.abt_rate.specs.Limits.{hops_max};
 ghost use Rattle.abt_facts.specs.declared.fact.Fact.{Fact as FactSpec};
@@ -47,14 +47,14 @@ pub(crate) fn not_enabled(cause: Cause) -> (Outcome, Added)
     (Outcome::NotEnabled(cause), Added::Nothing)
 }
 
-// How many hops a path has, of which a net's has 16 at most.
+// How many hops a path has; in a net there are at most 16.
 pub(crate) fn hops_of(conn: &Conn) -> u16
     ensures { length conn.now.path ≤ hops_max → result ≡ length conn.now.path }
 {
     u16::try_from(conn.path.len()).unwrap_or(u16::MAX)
 }
 
-// What the last hop passed is turned into a yes.
+// The request that the last hop passed is turned into a yes.
 pub(crate) fn turn(
     place: u16,
     conn: &Conn,

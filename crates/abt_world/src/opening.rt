@@ -54,11 +54,11 @@ fn capacity_of(net: &Net, id: u16) -> u64
     net.capacities()[usize::from(id)]
 }
 
-/// A port of a net before the first event, with the connections through it, of which it polices those whose path begins there
+/// A port of a net before the first event, with the connections through it. It polices those whose path begins there
 /// (docs/RULES.md, "Node").
 ///
 /// # Errors
-/// Where memory is refused there is no port.
+/// If memory is refused there is no port.
 pub fn opening_port(alloc: Global, net: &Net, id: u16) -> Result<Port, AllocError>
     requires { id < length net.now.capacities }
     ensures { IfOk result (λ port. port ≡ port_table net.now [] id) }

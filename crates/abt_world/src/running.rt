@@ -11,10 +11,11 @@ use abt_net::Net;
 use abt_node::Onward;
 use std::alloc::{AllocError, Global};
 
-/// Lets events happen to a net to which nothing happened before, and gives what each answers and what is left in the end.
+/// Lets events happen to a net to which nothing happened before, and gives the outcome of each and what is left in
+/// the end.
 ///
 /// # Errors
-/// Where memory is refused there is no trace, not even of the events before.
+/// If memory is refused there is no trace, not even of the events before.
 pub fn run(alloc: Global, net: &Net, events: &[Event]) -> Result<Trace, AllocError>
     ensures trace { IfOk result (IsTrace net.now events.now) }
     ensures headline { (before after : List Event) → before ++ after ≡ events.now →

@@ -12,7 +12,7 @@ use abt_net::Conn;
 use abt_node::Port;
 use abt_safety::{Shaped, ViolationFlags, Violations, is_held, is_held_after, is_over};
 
-// What isn't safe of a connection, of which it is known whether its source shapes above what a hop holds, and of a port.
+// The violations of a port, and of a connection, given whether its source shapes above what a hop holds.
 fn marks_of(
     above: bool,
     connection: &ConnectionState,
@@ -35,7 +35,7 @@ fn marks_of(
     }
 }
 
-// What isn't safe of a connection, and of the port that its event comes to.
+// The violations of a connection, and of the port that its event comes to.
 pub(crate) fn marks(
     conn: &Conn,
     connection: &ConnectionState,
@@ -56,7 +56,7 @@ pub(crate) fn marks(
     marks_of(above, connection, port, ports, looks)
 }
 
-// The same of a connection and a port that a tally counts. Where it counts nothing, nothing is looked up.
+// The violations of a connection and a port, if any is counted. If none is, nothing is looked up.
 pub(crate) fn counted_marks(
     violations: &Violations,
     conn: &Conn,
@@ -83,8 +83,8 @@ pub(crate) fn counted_marks(
     marks(conn, connection, port, ports, looks)
 }
 
-// The same after an event of the connection, which changed at most the port that it came to, where it is known at which rate the
-// source shaped before, and whether each hop held it.
+// The violations of a connection and of the port that its event came to, which alone can have changed, given the rate
+// at which the source shaped before, and whether each hop held it.
 pub(crate) fn marks_after(
     before: Shaped,
     conn: &Conn,

@@ -37,7 +37,7 @@ pub struct World<'net> {
     ports: Vec<Port>,
     // One for each connection.
     connections: Vec<ConnectionState>,
-    // What isn't safe, after each event.
+    // The violations, counted after each event.
     violations: Violations,
     // How many entries the last event looked up.
     looks: u64,
@@ -88,11 +88,11 @@ impl<'net> World<'net> {
         })
     }
 
-    /// Lets an event happen, and gives what it answers (docs/FORMATS.md, "Events and outcomes"). An event that isn't
+    /// Lets an event happen, and gives its outcome (docs/FORMATS.md, "Events and outcomes"). An event that isn't
     /// enabled changes nothing.
     ///
     /// # Errors
-    /// Where memory is refused nothing has happened.
+    /// If memory is refused nothing has happened.
     pub fn step(&mut self, event: &Event) -> Result<Outcome, AllocError>
         ensures outcome { (net : Topology) (events : List Event) → StandsFor net events self.old →
             MatchResult result
@@ -140,7 +140,7 @@ impl<'net> World<'net> {
         outcome
     }
 
-    // An event of a connection. Where memory is refused nothing happens.
+    // An event of a connection. If memory is refused nothing happens.
     fn at_connection(&mut self, event: &Event) -> Result<Outcome, AllocError>
         requires { IsSome (conn_of event.now) }
         ensures outcome { (net : Topology) (events : List Event) → StandsFor net events self.old →
@@ -221,7 +221,7 @@ impl<'net> World<'net> {
         self.connections[place].log.asked(seq, &mut looks)
     }
 
-    /// What a hop of its path, counted from 1, holds for a connection.
+    /// The rate that a hop of its path, counted from 1, holds for a connection.
     pub fn held(&self, conn: u16, hop: u16) -> Option<Rate>
         ensures { (net : Topology) (events : List Event) → StandsFor net events self.now →
             result ≡ held_in net (facts_after net events) conn hop }
@@ -318,7 +318,7 @@ impl<'net> World<'net> {
         self.violations.is_safe()
     }
 
-    /// What is left in the end, beside what the events answered.
+    /// What is left in the end, beside the outcomes of the events.
     pub fn end(&self, alloc: Global, outcomes: Sequence<Outcome>) -> Result<Trace, AllocError>
         ensures trace { (net : Topology) (events : List Event) → StandsFor net events self.now →
             outcomes ≡ outcomes_of net events → IfOk result (IsTrace net events) }

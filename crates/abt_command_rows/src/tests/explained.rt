@@ -100,7 +100,7 @@ const THREE_EXPLAINED: &str = "1 line 3 start 0 0: started\n\
     port 3: 204800 of 1024000 units, 400 of 2000 cells/s\n\
     safe\n";
 
-// Demands the explanation of a text. Where memory is refused nothing went out, and the text is explained again.
+// Demands the explanation of a text. If memory is refused nothing went out, and the text is explained again.
 fn explains(rt: &impl Abort, alloc: Global, text: &str, explanation: &str) -> Result<(), Fail> {
     for _ in 0..2 {
         let mut out = Vec::new(alloc);

@@ -43,7 +43,7 @@ fn are_texts(rt: &impl Abort, found: &Vec<String>, expected: &[&str]) {
     }
 }
 
-// Demands a run of this file, or of the standard input where there is none.
+// Demands a run of this file, or of the standard input if there is none.
 fn is_run(
     rt: &impl Abort,
     alloc: Global,
@@ -87,7 +87,7 @@ fn words_are_plans(rt: HostRuntime) -> Result<(), Fail> {
     is_run(&rt, alloc, &["run", "net.toml"], Some("net.toml"))
 }
 
-// Demands so many link workers, and a run of this file, or of the standard input where there is none.
+// Demands so many link workers, and a run of this file, or of the standard input if there is none.
 fn is_threads(
     rt: &impl Abort,
     alloc: Global,

@@ -73,7 +73,7 @@ fn is_run<R: Read>(
     assert_eq!(rt; status, if fault.is_empty() { 0 } else { 1 });
 }
 
-/// The same of a scenario's text.
+/// Runs a scenario's text, and demands the status, what goes out and what is told.
 fn expect_run(
     rt: &impl Abort,
     alloc: Global,

@@ -34,7 +34,7 @@ const AGAIN_SAID: &str = "{\"event\":1,\"outcome\":\"started\"}\n\
     {\"port\":0,\"total\":204800,\"capacity\":512000}\n\
     {\"safe\":true}\n";
 
-// Demands that a plan prints just this, and ends with status 0. Where memory is refused nothing went out, and it is tried again.
+// Demands that a plan prints just this, and ends with status 0. If memory is refused nothing went out, and it is tried again.
 fn says(
     rt: &impl Abort,
     alloc: Global,

@@ -58,7 +58,7 @@ pub(super) fn first_missing(
     None
 }
 
-// The same of one seat.
+// The first receipt of one seat that is missing, if one is: its port and place.
 fn first_missing_in(states: &[PortState], seat: &Seat, seen: &mut [u64]) -> Option<(u16, u64)>
     requires { length seen.old ≡ length states.now }
     ensures none { IfNone result (AreInOrder (journals_of states.now) seat.now) }

@@ -16,7 +16,7 @@ fn lacks(rt: &impl Abort, alloc: Global, text: &str, member: Member) {
     fails(rt, alloc, text, LineFault::Member(member));
 }
 
-/// The same of a step of a port with such an input and reply.
+/// Demands that this member is the fault of a step of a port with such an input and reply.
 fn step_lacks(
     rt: &impl Abort,
     alloc: Global,

@@ -40,7 +40,7 @@ fn is_step(
     Ok(())
 }
 
-/// The same of a request and what becomes of it.
+/// Demands that the step of a request is written so, by what becomes of the request, and read from it.
 fn is_served(rt: &impl Abort, alloc: Global, onward: Onward, replied: &str) -> Result<(), Fail> {
     let request: Request = request()?;
     let came = joined(alloc, &[r#"{"request":"#, REQUEST, "}"])?;

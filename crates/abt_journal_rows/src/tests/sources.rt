@@ -20,7 +20,7 @@ fn is_entry(rt: &impl Abort, alloc: Global, entry: SourceEntry, members: &str) -
     Ok(())
 }
 
-/// The same of what source 5 was to do, and what came of it.
+/// Demands that the entry of a deed of source 5 and of its outcome is written so, and read from it.
 fn is_deed(
     rt: &impl Abort,
     alloc: Global,

@@ -1,4 +1,4 @@
-//! Nets, ports and calls that the tests share. Where memory is refused, `None` is given, and the test asks again.
+//! Nets, ports and calls that the tests share. If memory is refused, `None` is given, and the test asks again.
 ghost use Rattle.std.specs.Prelude.{◌≡◌, ◌≤◌, IfSome};
 ghost use Rattle.std.specs.Option.{ForSome};
 ghost use Rattle.abt_journal.specs.Opening.{IsOpening};
@@ -85,7 +85,7 @@ pub(super) fn net(alloc: Global, ports: usize, conns: &[(u16, &[u16])]) -> Optio
     Net::build(alloc, capacities, listed).ok()
 }
 
-/// Demands the words in which a value is told; where memory was refused, they are asked for again.
+/// Demands the words in which a value is told; if memory was refused, they are asked for again.
 pub(super) fn says<T: Display>(
     rt: &impl Abort,
     alloc: Global,

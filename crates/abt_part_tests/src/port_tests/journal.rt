@@ -8,7 +8,7 @@ use std::alloc::Global;
 use std::process::Abort;
 use std::test::Fail;
 
-// A port that is the ingress of the channel; where memory was refused, it is asked for again.
+// A port that is the ingress of the channel; if memory was refused, it is asked for again.
 fn new_state(alloc: Global) -> Result<PortState, Fail> {
     let state = match port(alloc, 0, CAPACITY, &[100], TAU, &[]) {
         Some(state) => Some(state),
@@ -17,7 +17,7 @@ fn new_state(alloc: Global) -> Result<PortState, Fail> {
     Ok(state.ok_or("refused twice")?)
 }
 
-// One step; where memory was refused, nothing has changed, and the same call then succeeds.
+// One step; if memory was refused, nothing has changed, and the same call then succeeds.
 fn step(
     rt: &impl Abort,
     state: &mut PortState,
@@ -32,7 +32,7 @@ fn step(
     Ok(state.step(caller, *input)?)
 }
 
-// The same for a seat.
+// One step of a seat; if memory was refused, nothing has changed, and the same call then succeeds.
 fn seat_step(
     rt: &impl Abort,
     seat: &mut Seat,

@@ -1,4 +1,4 @@
-//! Ports under locks, and what is gathered of them. Where memory is refused, `None` is given, and the test asks again.
+//! Ports under locks, and what is gathered of them. If memory is refused, `None` is given, and the test asks again.
 mod foreign;
 mod served;
 
@@ -12,7 +12,7 @@ use std::alloc::Global;
 use std::process::Abort;
 use std::sync::Wait;
 
-/// One call. Where memory is refused the seat is unchanged, and the same call is made again.
+/// One call. If memory is refused the seat is unchanged, and the same call is made again.
 fn serve<R: Abort + Wait, G: Gate>(
     rt: &R,
     cell: &PortCell,
@@ -29,7 +29,7 @@ fn serve<R: Abort + Wait, G: Gate>(
     cell.serve(rt, seat, gate, *input)
 }
 
-/// What is gathered of these states and seats, and `None` where memory was refused.
+/// What is gathered of these states and seats, and `None` if memory was refused.
 fn gathered<const S: usize, const T: usize>(
     alloc: Global,
     net: &Net,

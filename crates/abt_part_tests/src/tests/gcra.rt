@@ -40,7 +40,7 @@ const FIVE_VERDICTS: [Verdict; 5] = [
     Verdict::Conforming,
 ];
 
-// The answer to a list; where memory was refused, it is asked for again.
+// The answer to a list; if memory was refused, it is asked for again.
 fn listed(alloc: Global, tau: u64, cells: &[(u64, u64)]) -> Result<Vec<Verdict>, PoliceFault>
     requires tolerance { tau ≤ TAU_MAX }
     requires spacings { All (λ cell. (1 ≤ cell.1) × (cell.1 ≤ SPACING_MAX)) cells.now }

@@ -4,7 +4,7 @@ use std::alloc::{AllocError, Global};
 use std::process::Abort;
 use std::test::Fail;
 
-// Pushes three numbers, each again where memory is refused for it: then the list is as it was.
+// Pushes three numbers, each again if memory is refused for it: then the list is as it was.
 fn push_three(rt: &impl Abort, numbers: &mut Sequence<u64>) -> Result<(), AllocError> {
     for number in [4, 7, 4] {
         let before = numbers.len();
@@ -18,7 +18,7 @@ fn push_three(rt: &impl Abort, numbers: &mut Sequence<u64>) -> Result<(), AllocE
     Ok(())
 }
 
-// An empty list with room for two; where memory is refused, it is asked for again.
+// An empty list with room for two; if memory is refused, it is asked for again.
 fn roomy(alloc: Global) -> Result<Sequence<u64>, AllocError> {
     match Sequence::with_room(alloc, 2) {
         Ok(numbers) => Ok(numbers),

@@ -32,7 +32,7 @@ fn fault_at_one_port(alloc: Global, conns: Vec<Conn>) -> Result<Option<NetFault>
     Ok(Net::build(alloc, capacities, conns).err())
 }
 
-// The same of connections of these VCIs and paths; where memory was refused, it is asked for again.
+// The fault of connections of these VCIs and paths over one port; if memory was refused, it is asked for again.
 fn fault_of_paths(alloc: Global, given: &[(u16, &[u16])]) -> Result<Option<NetFault>, AllocError> {
     match fault_once(alloc, given) {
         Err(_) | Ok(Some(NetFault::Memory)) => fault_once(alloc, given),
@@ -103,7 +103,7 @@ const SMALL: Sizes = Sizes {
     capacity: 512000,
 };
 
-// What is answered to a net of these sizes; where memory was refused, it is asked for again.
+// What is answered to a net of these sizes; if memory was refused, it is asked for again.
 fn fault_at(alloc: Global, sizes: &Sizes) -> Result<Option<NetFault>, AllocError> {
     match fault_at_once(alloc, sizes) {
         Err(_) | Ok(Some(NetFault::Memory)) => fault_at_once(alloc, sizes),
@@ -259,7 +259,7 @@ fn a_net_gives_back_its_lists_and_finds_each_channel(rt: HostRuntime) -> Result<
     Ok(())
 }
 
-// A net over two ports; where memory is refused, it is built again.
+// A net over two ports; if memory is refused, it is built again.
 fn two_ports(alloc: Global, paths: &[(u16, &[u16])]) -> Option<Net> {
     match two_ports_once(alloc, paths) {
         Some(net) => Some(net),

@@ -34,7 +34,7 @@ fn request(vc: Vc, seq: u32, floor: Rate, ask: Rate) -> Result<Request, Fail> {
     Ok(Request::new(vc, seq, floor, ask).ok_or("no such request")?)
 }
 
-// A port; where memory was refused, it is asked for again.
+// A port; if memory was refused, it is asked for again.
 fn new_port(alloc: Global) -> Result<Port, Fail> {
     if let Ok(port) = Port::new(alloc, 7, CAPACITY) {
         return Ok(port);
@@ -42,7 +42,7 @@ fn new_port(alloc: Global) -> Result<Port, Fail> {
     Ok(Port::new(alloc, 7, CAPACITY)?)
 }
 
-// Adds a connection; where memory was refused, nothing has changed, and the same call then succeeds.
+// Adds a connection; if memory was refused, nothing has changed, and the same call then succeeds.
 fn add(rt: &impl Abort, port: &mut Port, vc: Vc, tau: Option<u64>)
     requires { ForSome tau (λ t. t ≤ TAU_MAX) }
 {

@@ -25,7 +25,7 @@ fn ports_with(alloc: Global, vc: Vc) -> Result<Vec<Port>, AllocError> {
     Ok(ports)
 }
 
-/// The same; where memory was refused, they are made once more.
+/// These two ports, made once more if memory was refused.
 fn ports(alloc: Global, vc: Vc) -> Result<Vec<Port>, AllocError> {
     match ports_with(alloc, vc) {
         Ok(ports) => Ok(ports),
@@ -55,7 +55,7 @@ fn a_rate_one_step_above_what_a_hop_holds_is_found(rt: HostRuntime) -> Result<()
     Ok(())
 }
 
-// A list of what is held; where memory was refused, it is asked for once more.
+// A list of what is held; if memory was refused, it is asked for once more.
 #[test]
 fn what_each_hop_holds_is_listed_in_order(rt: HostRuntime) -> Result<(), Fail> {
     let vc = Vc::new(1, 100).unwrap();

@@ -1,6 +1,7 @@
 //! Sources, in stories. Each call goes through a helper that takes what is expected out of its answer and says nothing to the
 //! prover, so that a story's proof doesn't carry each call on to the next one.
 mod failing;
+mod lifetimes;
 mod stories;
 mod strides;
 

@@ -22,7 +22,7 @@ fn answers_each_event(rt: &impl Abort, world: &mut World<'_>) -> Result<(), Fail
     Ok(())
 }
 
-// A number is used once, also where memory was refused for the ask.
+// A number is used once, also if memory was refused for the ask.
 #[test]
 fn an_ask_that_was_refused_memory_uses_no_number(rt: HostRuntime) -> Result<(), Fail> {
     let net = lone(rt.alloc())?;

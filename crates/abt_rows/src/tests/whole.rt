@@ -1,7 +1,7 @@
 //! Stories that are run at once: what each event answers, and what is left in the end.
 use super::*;
 
-/// The trace of a story. Where memory was refused there is none, and the story is run once more.
+/// The trace of a story. If memory was refused there is none, and the story is run once more.
 fn trace(alloc: Global, net: &Net, story: &[Row]) -> Result<Trace, Fail> {
     let mut events = Vec::new(alloc);
     for (event, _) in story {

@@ -32,7 +32,7 @@ const EXAMPLE_REPORT: &str =
     "events 7\n1 started\n2 asked 1 0000 5120\n3 passed\n4 turned\n5 passed\n6 asked 2 0000 5258\n\
     7 told Ignored\nconnection 0 rate 0000 held 5120\nport 0 total 204800 capacity 512000\nsafe\n";
 
-// Demands the report of a text. Where memory is refused nothing went out, and the text is run again.
+// Demands the report of a text. If memory is refused nothing went out, and the text is run again.
 fn reports(rt: &impl Abort, alloc: Global, text: &str, report: &str) -> Result<(), Fail> {
     for _ in 0..2 {
         let mut out = Narrow::new(1024, 4096);
@@ -50,7 +50,7 @@ fn reports(rt: &impl Abort, alloc: Global, text: &str, report: &str) -> Result<(
     Err(Fail::from("memory was refused twice"))
 }
 
-// Demands what the events of a net answer, and how the net stands in the end. The texts are made again where memory was refused for them.
+// Demands what the events of a net answer, and how the net stands in the end. The texts are made again if memory was refused for them.
 fn expect(
     rt: &impl Abort,
     alloc: Global,

@@ -43,7 +43,7 @@ impl<'a> Read for Slow<'a> {
     }
 }
 
-// What a text is read as by a reader of one octet a call that fails after so many. Where memory is refused, it is read again.
+// What a text is read as by a reader of one octet a call that fails after so many. If memory is refused, it is read again.
 fn slow_reading(alloc: Global, text: &[u8], calls: usize) -> Result<Scenario, EngineFault> {
     match read_from(alloc, &mut Slow { left: text, calls }) {
         Err(EngineFault::Memory) => read_from(alloc, &mut Slow { left: text, calls }),

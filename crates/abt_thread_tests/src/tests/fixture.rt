@@ -1,4 +1,4 @@
-//! Nets, scripts and runs that the tests share. Where memory is refused, `None` is given.
+//! Nets, scripts and runs that the tests share. If memory is refused, `None` is given.
 ghost use Rattle.std.specs.Prelude.{◌≡◌, ◌<◌, ◌↔◌, IsTrue, IfSome, All, Some, length, vec_len};
 ghost use Rattle.abt_journal.specs.Opening.{IsOpening};
 ghost use Rattle.abt_net.specs.Topology.{conn_at};
@@ -55,7 +55,7 @@ fn conn(alloc: Global, vci: u16, path: &[u16], delay: u64, tau: u64) -> Option<C
     })
 }
 
-/// The same connections over ports of these capacities.
+/// Connections as [`net`] has them, over ports of these capacities.
 pub(super) fn net_over(
     alloc: Global,
     capacities: Vec<u64>,
@@ -106,7 +106,7 @@ pub(super) fn ran<R: Threads + Wait + Sync>(
     ran_at(rt, alloc, net, all, plan, &OpenGate)
 }
 
-/// The same past a gate.
+/// A run of these scripts with this plan, past a gate.
 pub(super) fn ran_at<R: Threads + Wait + Sync, G: Gate + Sync>(
     rt: &R,
     alloc: Global,
@@ -118,7 +118,7 @@ pub(super) fn ran_at<R: Threads + Wait + Sync, G: Gate + Sync>(
     ran_beside(rt, alloc, net, all, &[], plan, gate)
 }
 
-/// The same beside an operator with this list.
+/// A run of these scripts with this plan, beside an operator with this list.
 pub(super) fn ran_beside<R: Threads + Wait + Sync, G: Gate + Sync>(
     rt: &R,
     alloc: Global,

@@ -30,7 +30,7 @@ fn held_by_request(request: &Request, reply: PortReply) -> Option<Held> {
     })
 }
 
-// The same after an answer.
+// What is held after an answer that was served with this reply, if it is another rate than before.
 fn held_by_answer(answer: &Answer, reply: PortReply) -> Option<Held> {
     if answer.granted() || reply != PortReply::Answered(Back::Pass) {
         return None;
@@ -41,7 +41,7 @@ fn held_by_answer(answer: &Answer, reply: PortReply) -> Option<Held> {
     })
 }
 
-// The same after an entry.
+// What is held after an entry, if it is another rate than before.
 fn held_after(entry: &Entry) -> Option<Held> {
     match &entry.input {
         PortInput::Request(request) => held_by_request(request, entry.reply),

@@ -119,7 +119,7 @@ pub fn count(books: &Books) -> usize {
     count
 }
 
-/// The same journals as the program has them.
+/// The journals of ports as the program has them.
 pub fn journals(alloc: Global, books: &Books) -> Result<Journals, AllocError> {
     let mut ports = Vec::new(alloc);
     for entries in &books.ports {
@@ -128,7 +128,7 @@ pub fn journals(alloc: Global, books: &Books) -> Result<Journals, AllocError> {
     Ok(Journals { ports })
 }
 
-/// The same journals of sources as the program has them.
+/// The journals of sources as the program has them.
 pub fn source_journals(alloc: Global, books: &Books) -> Result<Vec<SourceJournal>, AllocError> {
     let mut sources = Vec::new(alloc);
     for entries in &books.sources {

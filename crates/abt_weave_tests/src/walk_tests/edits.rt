@@ -90,7 +90,7 @@ fn edited_source(
     }
 }
 
-/// The same journals with one thing changed at the entry of this number, those of ports counted first.
+/// The journals with one thing changed at the entry of this number, those of ports counted first.
 fn changed_at(
     alloc: Global,
     books: &Books,
@@ -127,7 +127,7 @@ fn changed_at(
     Ok(Books { ports, sources })
 }
 
-/// The same journals with one thing changed somewhere among so many entries.
+/// The journals with one thing changed somewhere among so many entries.
 pub fn changed(
     alloc: Global,
     books: &Books,

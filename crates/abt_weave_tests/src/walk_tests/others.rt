@@ -32,7 +32,7 @@ fn seq_near(draws: &mut Draws, seq: u32) -> u32 {
     u32::try_from(nudged(draws, u64::from(seq))).unwrap_or(seq)
 }
 
-// The same request with another channel, number, floor or asked rate, where there is such a request.
+// The request with another channel, number, floor or asked rate, if there is such a request.
 fn request(draws: &mut Draws, same: &Request) -> Request {
     let other = match draws.below(5) {
         0 => Vc::new(1, draws.small(5).saturating_add(99)).and_then(|vc| Request::new(

@@ -108,7 +108,7 @@ impl<'net> Placing<'net> {
         Ok(Parts { visit, own })
     }
 
-    // The same of an event of a port alone.
+    // What an event of a port alone would be after those that are placed.
     fn parts_alone(&mut self, alloc: Global, event: &Event) -> Result<Parts, AllocError> {
         // Names a type within an outcome, without which the checker can't follow one.
         let _ = Onward::Pass;

@@ -41,7 +41,7 @@ fn generated(alloc: Global, numbers: &mut Numbers) -> Result<Vec<(u64, u64)>, Al
     Ok(cells)
 }
 
-// Such cells; where memory is refused, others are generated.
+// Such cells; if memory is refused, others are generated.
 fn cells(alloc: Global, numbers: &mut Numbers) -> Result<Vec<(u64, u64)>, AllocError>
     ensures { IfOk result (λ cells. All (λ cell. (1 ≤ cell.1) × (cell.1 ≤ SPACING_MAX)) cells.items) }
 {
@@ -82,7 +82,7 @@ fn ten_thousand_cells_get_the_verdicts_of_their_windows(rt: HostRuntime) -> Resu
     Ok(())
 }
 
-// Demands the verdicts of a list by its windows and by both forms: how many cells came too early. Where memory is refused, it is walked again.
+// Demands the verdicts of a list by its windows and by both forms: how many cells came too early. If memory is refused, it is walked again.
 fn walk(
     rt: &impl Abort,
     alloc: Global,

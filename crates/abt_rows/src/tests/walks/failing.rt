@@ -119,7 +119,7 @@ fn fails_in_turn(
     Ok(())
 }
 
-// The same of a story that is carried further.
+// The story carried further, and those in which one of its asks fails.
 fn fails_behind(
     rt: &impl Abort,
     alloc: Global,

@@ -89,7 +89,7 @@ fn notes(rt: &impl Abort, alloc: Global, net: &Net, seed: u64) -> Result<(), Fai
     Ok(())
 }
 
-// The same of these facts, the oldest first.
+// Notes these facts, the oldest first, and demands after each tenth that the log tells what they do.
 fn notes_all(rt: &impl Abort, alloc: Global, facts: &[Fact]) -> Result<(), Fail> {
     let mut log = FactIndex::new(alloc);
     for (place, fact) in facts.iter().enumerate() {
@@ -103,7 +103,7 @@ fn notes_all(rt: &impl Abort, alloc: Global, facts: &[Fact]) -> Result<(), Fail>
     Ok(())
 }
 
-// The same of lists of a net.
+// Notes the facts of generated lists of a net.
 fn notes_of_all(rt: &impl Abort, alloc: Global, net: &Net) -> Result<(), Fail> {
     for seed in 7001..=7005 {
         notes(rt, alloc, net, seed)?;

@@ -1,0 +1,13 @@
+pub mod Places
+pub mod Rising
+pub mod PortDecrease
+pub mod EveryDecrease
+pub mod Passing
+pub mod AskingOut
+pub mod Returning
+pub mod EveryGrant
+pub mod Holdings
+pub mod Staying
+pub mod Played
+pub mod WholeStory
+pub mod Stories

@@ -1,0 +1,4 @@
+pub mod Lifetime
+pub mod Numbers
+pub mod Sound
+pub mod Sources
