@@ -1,5 +1,5 @@
 // A library to be preloaded: it lets allocations, reads, writes and starts of threads of one process fail, as variables of its
-// environment say. `tools/faults`, `tools/sweeps` and `.ci/refusals.py` use it; no crate knows of it. Calls of each kind are counted from 1.
+// environment say. `tools/faults`, `tools/sweeps` and `tests/refusals.py` use it; no crate knows of it. Calls of each kind are counted from 1.
 //
 //   FAULTS_ALLOCATION=N   the Nth allocation is refused
 //   FAULTS_READ=N         the Nth read fails (EIO)

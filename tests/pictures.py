@@ -220,13 +220,14 @@ class Picture:
         for frame, at in self.frames():
             below, wanted = 0, []
             for conn, held in enumerate(frame[0][port]):
-                if held:
+                # What is held may be too little for a tenth of a unit: such a block isn't seen.
+                if height(below + held) > height(below):
                     wanted.append((f"h{conn % 6}", base - height(below + held), base - height(below)))
                 below += held
             drawn = []
             for one in blocks:
                 x, y, width, tall = (tenths(one.get(name)) for name in ("x", "y", "width", "height"))
-                if x < at < x + width:
+                if x < at < x + width and tall:
                     drawn.append((one.get("class").split(" ")[1], y, y + tall))
             assert drawn == wanted, ("stack", port, at, drawn, wanted)
             assert [y for x, y, to in lines if x < at < to] == [base - height(frame[1][port])], ("capacity", port, at)

@@ -16,7 +16,7 @@ from pathlib import Path
 
 ROOT = Path(__file__).resolve().parent.parent
 sys.path.insert(0, str(ROOT / "scenarios" / "model"))
-sys.path.insert(0, str(ROOT / ".ci"))
+sys.path.insert(0, str(ROOT / "tests"))
 from audits import END, WHOLE, Auditor, by_actor, text_of  # noqa: E402
 from journals import Writer, journals  # noqa: E402
 from reading import Fault, rate, read  # noqa: E402

@@ -19,7 +19,7 @@ from journals import Writer  # noqa: E402
 from model import run as model_run  # noqa: E402
 from reading import rate, read  # noqa: E402
 
-sys.path.insert(0, str(ROOT / ".ci"))
+sys.path.insert(0, str(ROOT / "tests"))
 from audits import WHOLE, text_of  # noqa: E402
 from open_writes import opened, texts_of  # noqa: E402
 

@@ -1,6 +1,6 @@
 """Writes the manual pages and the shell completions from the program's help and from docs/FORMATS.md, or compares them.
 
-The help is that of man/help, which `.ci/help_texts.py` compares with the program. So a page or a completion that lacks a command or an option
+The help is that of man/help, which `tests/help_texts.py` compares with the program. So a page or a completion that lacks a command or an option
 is told here.
 
 usage: pages.py            compares
@@ -14,7 +14,7 @@ from pathlib import Path
 sys.path.insert(0, str(Path(__file__).resolve().parent))
 from roff import escaped, page_of  # noqa: E402
 
-ROOT = Path(__file__).resolve().parent.parent
+ROOT = Path(__file__).resolve().parents[2]
 HELP = ROOT / "man" / "help"
 # What the help calls a file that an option writes.
 OUT = "OUT"
@@ -97,7 +97,7 @@ def told_after(text):
 def manual(program, them):
     """The page abt(1)."""
     parts = [
-        f'.\\" Written by .ci/pages.py from the help of the program.\n.TH ABT 1 "" "abt {VERSION}" "User Commands"',
+        f'.\\" Written by .ci/documents/pages.py from the help of the program.\n.TH ABT 1 "" "abt {VERSION}" "User Commands"',
         f".SH NAME\nabt \\- {escaped(program.about[0].lower() + program.about[1:])}",
         ".SH SYNOPSIS\n" + "\n.br\n".join(f"\\fB{escaped(it.usage)}\\fR" for it in them),
         ".SH OPTIONS",
@@ -122,7 +122,7 @@ def bash(program, them):
         cases.append(f'        {it.name}) COMPREPLY=($(compgen {files}-W "{words}" -- "$word")) ;;')
     names = " ".join(it.name for it in them)
     flags = " ".join(flag for option in program.options for flag in option.flags)
-    return f"""# Completions of abt for bash. Written by .ci/pages.py from the help of the program.
+    return f"""# Completions of abt for bash. Written by .ci/documents/pages.py from the help of the program.
 _abt() {{
     local word=${{COMP_WORDS[COMP_CWORD]}}
     if [ "$COMP_CWORD" -eq 1 ]; then
@@ -161,7 +161,7 @@ def zsh(program, them):
             cases.append(f"        {it.name}) _arguments {' '.join(specs)} ;;")
     flags = " ".join(f"'{flag}[{quoted(option.help)}]'" for option in program.options for flag in option.flags)
     return f"""#compdef abt
-# Completions of abt for zsh. Written by .ci/pages.py from the help of the program.
+# Completions of abt for zsh. Written by .ci/documents/pages.py from the help of the program.
 _abt() {{
     local -a commands
     commands=(
@@ -185,7 +185,7 @@ _abt "$@"
 
 def fish(program, them):
     """Completions for fish."""
-    lines = ["# Completions of abt for fish. Written by .ci/pages.py from the help of the program.", "complete -c abt -f"]
+    lines = ["# Completions of abt for fish. Written by .ci/documents/pages.py from the help of the program.", "complete -c abt -f"]
     told = lambda text: text.replace("\\", "\\\\").replace("'", "\\'")
     flags = lambda option: " ".join(f"-l {flag[2:]}" if flag.startswith("--") else f"-s {flag[1:]}" for flag in option.flags)
     for option in program.options:
@@ -224,7 +224,7 @@ def main(*words):
             (ROOT / name).write_text(text)
     faults = [name for name, text in found.items() if not (ROOT / name).is_file() or (ROOT / name).read_text() != text]
     for name in faults:
-        print(f"pages: {name} isn't what the help and docs/FORMATS.md say; .ci/pages.py --write writes it anew")
+        print(f"pages: {name} isn't what the help and docs/FORMATS.md say; .ci/documents/pages.py --write writes it anew")
     print(f"pages: {len(found)} files, {len(faults)} differences")
     sys.exit(1 if faults else 0)
 

@@ -11,7 +11,7 @@ from concurrent.futures import ThreadPoolExecutor
 from pathlib import Path
 
 sys.path.insert(0, str(Path(__file__).resolve().parent))
-from edits import rt  # noqa: E402
+from edit import rt  # noqa: E402
 
 AT_ONCE = 2
 # A check of no function reads the whole crate.
@@ -54,7 +54,7 @@ class Edit:
 
 
 def main():
-    top = Path(__file__).resolve().parent.parent
+    top = Path(__file__).resolve().parents[2]
     wanted = set(sys.argv[1:])
     rt.rtlib.guarded()
     crates = [crate for crate in rt.rtlib.crates_below(str(top)) if not wanted or crate.name in wanted]

@@ -19,10 +19,10 @@ from dataclasses import dataclass
 from functools import cache
 from pathlib import Path
 
-sys.path.insert(0, str(Path(__file__).resolve().parent))
+sys.path.insert(0, str(Path(__file__).resolve().parents[1] / "gate"))
 from functions import blanked, closing  # noqa: E402
 
-ROOT = Path(__file__).resolve().parent.parent
+ROOT = Path(__file__).resolve().parents[2]
 NAME = re.compile(r"[A-Za-z_][\w'-]*")
 USE = re.compile(r"(?:pub )?use\s+Rattle\.([\w.]+?)(?:\.\{([^}]*)\}|\s+as\s+(\w+))\s*;?")
 ITEM = re.compile(r"(?:abbrev|unfoldable|data|record|opaque)?\s*(?:pub )?(?:abbrev |record |data |unfoldable |opaque )?(?:pub )?([\w'-]+)")
@@ -329,7 +329,7 @@ def main():
     elif text != wanted:
         for have, want in zip(text.split("\n"), wanted.split("\n")):
             if have != want:
-                print(f"reading: docs/READING.md has `{have[:100]}` for `{want[:100]}`; .ci/reading.py --write mends it")
+                print(f"reading: docs/READING.md has `{have[:100]}` for `{want[:100]}`; .ci/documents/reading.py --write mends it")
                 break
         sys.exit(1)
     print(f"reading: {len(counts)} tables, of {', '.join(map(str, counts))} lines")

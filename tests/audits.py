@@ -6,7 +6,7 @@ changed no list of events is woven from them; if the changed entry is named, wha
 that comes twice, is missing or stands before the one before it is a fault of the text, at a line that is known. What is told of each fault of a text is
 compared too.
 
-Journals that are damaged in other ways too (`.ci/damage.py`) are beside a slow search of scenarios/model: where entries are in no order, the lines
+Journals that are damaged in other ways too (`tests/damage.py`) are beside a slow search of scenarios/model: where entries are in no order, the lines
 that are told are just those at which it ends, and an entry that mismatches is one of them.
 
 usage: audits.py PROGRAM..

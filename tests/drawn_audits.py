@@ -1,7 +1,7 @@
 """Draws audits by `abt audit --draw`, reads the pictures by Python's own XML parser, and compares them with the slow model of scenarios/model.
 
 The journals that the model writes of each sample are drawn whole: the picture has to be that of the events that `--events` writes. Damaged ones
-(`.ci/damage.py`) are drawn up to the entries at which they are stuck: a slow search says which these are, and each has to have its mark on its
+(`tests/damage.py`) are drawn up to the entries at which they are stuck: a slow search says which these are, and each has to have its mark on its
 actor's lifeline, and one alone; the events of the picture have to be just the entries before them, by the model. What is printed is what
 `abt audit` prints without a picture.
 

@@ -24,33 +24,42 @@ class Function:
         return self.opens <= first and last <= self.last
 
 
-def blanked(text):
-    """The text with each comment, string and character made of blanks, so that braces count; line ends stay."""
-    out, at, end = list(text), 0, len(text)
+CHARACTER = re.compile(r"'(?:\\.[^']{0,8}|[^\\'\n])'")
 
-    def blank(start, stop):
-        for k in range(start, min(stop, end)):
-            if out[k] != "\n":
-                out[k] = " "
-        return stop
 
+def pieces(text):
+    """The text in pieces, in order: `comment`, `string` (a character too) and `code`, each with its words."""
+    at = began = 0
+    end = len(text)
     while at < end:
+        stop, kind = at, ""
         if text.startswith("//", at):
-            stop = text.find("\n", at)
-            at = blank(at, end if stop < 0 else stop)
+            found = text.find("\n", at)
+            stop, kind = end if found < 0 else found, "comment"
         elif text.startswith("/*", at):
-            stop = text.find("*/", at)
-            at = blank(at, end if stop < 0 else stop + 2)
+            found = text.find("*/", at)
+            stop, kind = end if found < 0 else found + 2, "comment"
         elif text[at] == '"':
             stop = at + 1
             while stop < end and text[stop] != '"':
                 stop += 2 if text[stop] == "\\" else 1
-            at = blank(at, stop + 1)
-        elif found := re.compile(r"'(?:\\.[^']{0,8}|[^\\'\n])'").match(text, at):
-            at = blank(at, found.end())
+            stop, kind = min(stop + 1, end), "string"
+        elif found := CHARACTER.match(text, at):
+            stop, kind = found.end(), "string"
+        if kind:
+            if began < at:
+                yield "code", text[began:at]
+            yield kind, text[at:stop]
+            began = at = stop
         else:
             at += 1
-    return "".join(out)
+    if began < end:
+        yield "code", text[began:]
+
+
+def blanked(text):
+    """The text with each comment, string and character made of blanks, so that braces count; line ends stay."""
+    return "".join(piece if kind == "code" else re.sub(r"[^\n]", " ", piece) for kind, piece in pieces(text))
 
 
 def closing(text, at):

@@ -9,7 +9,7 @@ import sys
 from collections import Counter
 from pathlib import Path
 
-sys.path.insert(0, str(Path(__file__).resolve().parent))
+sys.path.insert(0, str(Path(__file__).resolve().parent.parent / ".ci" / "gate"))
 from functions import blanked, closing  # noqa: E402
 
 ROOT = Path(__file__).resolve().parent.parent

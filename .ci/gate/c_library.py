@@ -4,8 +4,9 @@ The header is written by hand. Here each of its prototypes is compared with the 
 record and state field by field or by its size, and each outcome and limit with its number in the sources. The archive has to define just
 these functions and want none from elsewhere. Then `make -C c check` builds and runs the example and the tests.
 
-usage: c_library.py            at the top of a repository; ends with status 0 where there is no cc
-       c_library.py --build    the archive alone
+usage: c_library.py               at the top of a repository; ends with status 0 where there is no cc
+       c_library.py --as-built    the same, over the libraries that are there and nothing else
+       c_library.py --build       the archive alone, over the libraries that are there
 """
 import importlib.machinery
 import importlib.util
@@ -17,7 +18,7 @@ import sys
 import tempfile
 from pathlib import Path
 
-ROOT = Path(__file__).resolve().parent.parent
+ROOT = Path(__file__).resolve().parents[2]
 CRATE = ROOT / "crates" / "abt_c"
 ARCHIVE = CRATE / "out" / "libabt_c.a"
 # What a type of an export is in C. A slice is a pointer and a length.
@@ -206,8 +207,11 @@ def main():
         print("c_library: no cc or no make here, so the tests in C weren't run")
         return
     quiet = {"stdout": subprocess.DEVNULL, "stderr": subprocess.DEVNULL}
-    # If the libraries that are there don't fit one another, they are built anew.
-    if subprocess.run([sys.executable, "-B", __file__, "--build"], check=False, **quiet).returncode:
+    # If the libraries that are there don't fit one another, they are built anew, but where others work over them.
+    is_built = not subprocess.run([sys.executable, "-B", __file__, "--build"], check=False, **quiet).returncode
+    if not is_built and sys.argv[1:] == ["--as-built"]:
+        fail("the archive isn't proved over the libraries that are there")
+    if not is_built:
         subprocess.run(["rt", "lib"], cwd=CRATE, check=True, stdout=subprocess.DEVNULL)
     header = (ROOT / "include" / "abt.h").read_text()
     functions = check_functions(header)

@@ -1,10 +1,16 @@
-"""Tests edits.py on a small crate of its own: an edit that shows something counts, and each kind that shows nothing is reported."""
+"""Tests edits.py on a small crate of its own: an edit that shows something counts, each kind that shows nothing is reported, and what is
+written as evidence is known then, and tried again by draw.
+
+usage: test_edits.py
+"""
 import subprocess
 import sys
 import tempfile
 from pathlib import Path
 
 HERE = Path(__file__).resolve().parent
+sys.path.insert(0, str(HERE))
+from ledger import sum_of_edit  # noqa: E402
 
 SOURCE = """//! A crate with functions to edit.
 #![tactic(auto)]
@@ -122,18 +128,46 @@ def faults(said, status):
         yield "it ends with status 0"
 
 
+def run_edits(root, *more):
+    words = [sys.executable, "-B", HERE / "edits.py", "--root", root, "--jobs", "1", *more]
+    done = subprocess.run(words, capture_output=True, text=True, check=False)
+    return done.stdout + done.stderr, done.returncode
+
+
+def evidence_faults(root):
+    """What is wrong with how edits.py uses the evidence: what was refused is known then, and an entry written by hand for an edit that proves
+    is found by a draw."""
+    refused = sorted(name for name, (_, _, is_refused, _) in EDITS.items() if is_refused)
+    file = root / ".ci" / "evidence" / "tried"
+    rows = [line.split("\t")[1] for line in file.read_text().split("\n") if line.startswith("refused\t")]
+    if rows != refused:
+        yield f"the evidence has {rows}"
+    false = next(name for name, edit in EDITS.items() if "still proved" in edit[3])
+    for name in EDITS:
+        if name not in (false, *refused):
+            (root / "crates" / "tried" / "must-fail" / f"{name}.edit").unlink()
+    edit = root / "crates" / "tried" / "must-fail" / f"{false}.edit"
+    with open(file, "a") as it:
+        it.write(f"refused\t{false}\t{sum_of_edit(edit)}\tby hand\n")
+    told, status = run_edits(root, "--new")
+    if status or f"{len(refused) + 1} passed, 0 failed" not in told or "edits: 0 tried" not in told:
+        yield f"with all edits known it says: {told[-400:]}"
+    told, status = run_edits(root, "--new", "--draw", "1", "--seed", "a word")
+    if not status or f"must-fail tried/{false}: NOT REFUSED" not in told or f"{len(refused)} passed, 1 failed" not in told:
+        yield f"a draw doesn't find the entry that was written by hand: {told[-400:]}"
+
+
 def main():
     with tempfile.TemporaryDirectory(prefix="test-edits-") as room:
         root = Path(room)
         written(root)
-        run = subprocess.run(
-            [sys.executable, "-B", HERE / "edits.py", "--root", root, "--jobs", "1"], capture_output=True, text=True, check=False
-        )
-    found = list(faults(run.stdout, run.returncode))
+        told, status = run_edits(root, "--write")
+        found = list(faults(told, status))
+        if found:
+            print(told)
+        found += evidence_faults(root)
     for fault in found:
         print(f"test of edits.py: {fault}")
-    if found:
-        print(run.stdout + run.stderr)
     print(f"test of edits.py: {len(EDITS)} edits, {len(found)} faults")
     sys.exit(1 if found else 0)
 

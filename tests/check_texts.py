@@ -184,7 +184,7 @@ def misplaced_sample(program, sample):
 
 def explained(program, sample):
     """What `run --explain` and `threads --explain` print of a sample beside what they print without it, and the lines of `abt check`; before
-    these a run in threads tells its events, at which .ci/woven.py looks.
+    these a run in threads tells its events, at which tests/woven.py looks.
     """
     text = sample.read_bytes()
     _, lines, _ = run(program, ["check"], text)

@@ -31,7 +31,7 @@ def page_of(text, name, number, version):
     """The manual page of a document."""
     lines, out, at = text.split("\n"), [], 0
     title = lines[0].removeprefix("# ")
-    out.append(f'.\\" Written by .ci/pages.py from a document.\n.TH {name.upper()} {number} "" "abt {version}" "File Formats"')
+    out.append(f'.\\" Written by .ci/documents/pages.py from a document.\n.TH {name.upper()} {number} "" "abt {version}" "File Formats"')
     out.append(f".SH NAME\n{name} \\- {escaped(title[0].lower() + title[1:])}\n.SH DESCRIPTION")
     at = 1
     while at < len(lines):

@@ -1,0 +1,106 @@
+"""Commands that a tool starts, and folders of work that isn't whole yet: an interrupt ends the first and removes the second."""
+import os
+import shutil
+import signal
+import subprocess
+import sys
+import tempfile
+import threading
+import time
+from pathlib import Path
+
+# The commands that were started and haven't ended, and the folders to be removed.
+running = set()
+rooms = []
+lock = threading.Lock()
+stopping = threading.Event()
+
+
+class Ended(Exception):
+    """What a thread that would start a command gets instead once an interrupt came."""
+
+
+def start(words, folder, log, environment=None):
+    """Starts a command in a process group of its own, which an interrupt ends as a whole."""
+    with lock:
+        if stopping.is_set():
+            raise Ended
+        started = subprocess.Popen(
+            words, cwd=folder, stdin=subprocess.DEVNULL, stdout=log, stderr=subprocess.STDOUT, env=environment, start_new_session=True
+        )
+        running.add(started)
+    return started
+
+
+def ended(started):
+    """Waits for a command to end, and gives its status."""
+    status = started.wait()
+    with lock:
+        running.discard(started)
+    return status
+
+
+def run(words, folder, seconds, environment=None):
+    """Runs a command, at most so long. Gives its status, None if it had no end by then, and what it printed."""
+    with tempfile.TemporaryFile() as log:
+        started = start(words, folder, log, environment)
+        try:
+            status = started.wait(timeout=seconds)
+        except subprocess.TimeoutExpired:
+            status = None
+        end_group(started, signal.SIGKILL)
+        ended(started)
+        log.seek(0)
+        return status, log.read().decode(errors="replace")
+
+
+def end_group(started, number):
+    """Sends a signal to a command and to all that it started."""
+    try:
+        os.killpg(started.pid, number)
+    except ProcessLookupError:
+        pass
+
+
+def end_all():
+    with lock:
+        left = list(running)
+    for number in (signal.SIGTERM, signal.SIGKILL):
+        for started in left:
+            if started.poll() is None:
+                end_group(started, number)
+        until = time.time() + 5
+        while number == signal.SIGTERM and time.time() < until and any(it.poll() is None for it in left):
+            time.sleep(0.05)
+
+
+def room(parent, prefix="making-"):
+    """A new folder for work that isn't whole yet."""
+    made = Path(tempfile.mkdtemp(prefix=prefix, dir=parent))
+    rooms.append(made)
+    return made
+
+
+def clear(folder):
+    """Removes such a folder."""
+    shutil.rmtree(folder, ignore_errors=True)
+    rooms.remove(folder)
+
+
+def clear_rooms():
+    while rooms:
+        shutil.rmtree(rooms.pop(), ignore_errors=True)
+
+
+def end_on_signals(tool):
+    """Has an interrupt end all that was started and remove what isn't whole, in the name of a tool."""
+
+    def on_signal(number, _):
+        stopping.set()
+        end_all()
+        clear_rooms()
+        print(f"{tool}: stopped; nothing is left half made", file=sys.stderr, flush=True)
+        os._exit(128 + number)
+
+    for number in (signal.SIGINT, signal.SIGTERM, signal.SIGHUP):
+        signal.signal(number, on_signal)
