@@ -1,4 +1,4 @@
-# Completions of abt for bash. Written by .ci/pages.py from the help of the program.
+# Completions of abt for bash. Written by .ci/documents/pages.py from the help of the program.
 _abt() {
     local word=${COMP_WORDS[COMP_CWORD]}
     if [ "$COMP_CWORD" -eq 1 ]; then

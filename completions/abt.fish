@@ -1,4 +1,4 @@
-# Completions of abt for fish. Written by .ci/pages.py from the help of the program.
+# Completions of abt for fish. Written by .ci/documents/pages.py from the help of the program.
 complete -c abt -f
 complete -c abt -n __fish_use_subcommand -s h -l help -d 'Print help'
 complete -c abt -n __fish_use_subcommand -s V -l version -d 'Print version'
