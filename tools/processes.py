@@ -65,13 +65,14 @@ def end_group(started, number):
 def end_all():
     with lock:
         left = list(running)
-    for number in (signal.SIGTERM, signal.SIGKILL):
-        for started in left:
-            if started.poll() is None:
-                end_group(started, number)
-        until = time.time() + 5
-        while number == signal.SIGTERM and time.time() < until and any(it.poll() is None for it in left):
-            time.sleep(0.05)
+    for started in left:
+        end_group(started, signal.SIGTERM)
+    until = time.time() + 5
+    while time.time() < until and any(it.poll() is None for it in left):
+        time.sleep(0.05)
+    # What a command started may outlive it.
+    for started in left:
+        end_group(started, signal.SIGKILL)
 
 
 def room(parent, prefix="making-"):
@@ -82,14 +83,18 @@ def room(parent, prefix="making-"):
 
 
 def clear(folder):
-    """Removes such a folder."""
-    shutil.rmtree(folder, ignore_errors=True)
+    """Removes such a folder, again where something that is just being killed wrote into it."""
+    for _ in range(100):
+        shutil.rmtree(folder, ignore_errors=True)
+        if not folder.exists():
+            break
+        time.sleep(0.05)
     rooms.remove(folder)
 
 
 def clear_rooms():
     while rooms:
-        shutil.rmtree(rooms.pop(), ignore_errors=True)
+        clear(rooms[-1])
 
 
 def end_on_signals(tool):
