@@ -35,7 +35,7 @@ pub returns-in_err-checked_mul-clause-none : goal.returns-in_err-checked_mul-cla
 returns-in_err-checked_mul-clause-none c = λ _ number says.
     let known = c.if-not-is_ascii_digit.ensures in
     let value = with_digit c.args.octets.now c.loop-octet.octet-index c.loop-octet.value c.from-digit.result c.loop-octet-test.true
-        c.loop-octet.invariant.0 (known.cases.0, known.cases.1) c.from-digit.ensures in
+    c.loop-octet.invariant.0 (known.cases.0, known.cases.1) c.from-digit.ensures in
     let over = c.in_err-checked_mul.ensures in
     let fits = c.ranges.limit.fits in
     past c.args.limit c.args.octets.now (c.loop-octet.octet-index + 1) number (omega (arith, value, over, fits)) says
@@ -44,7 +44,7 @@ pub returns-in_err-value-clause-none : goal.returns-in_err-value-clause-none
 returns-in_err-value-clause-none c = λ _ number says.
     let known = c.if-not-is_ascii_digit.ensures in
     let value = with_digit c.args.octets.now c.loop-octet.octet-index c.loop-octet.value c.from-digit.result c.loop-octet-test.true
-        c.loop-octet.invariant.0 (known.cases.0, known.cases.1) c.from-digit.ensures in
+    c.loop-octet.invariant.0 (known.cases.0, known.cases.1) c.from-digit.ensures in
     let product = c.in_ok-checked_mul.ensures in
     let over = c.in_err-value.ensures in
     let fits = c.ranges.limit.fits in
@@ -54,7 +54,7 @@ pub loop-octet-preserved : goal.loop-octet-preserved
 loop-octet-preserved c =
     let known = c.if-not-is_ascii_digit.ensures in
     let value = with_digit c.args.octets.now c.loop-octet.octet-index c.loop-octet.value c.from-digit.result c.loop-octet-test.true
-        c.loop-octet.invariant.0 (known.cases.0, known.cases.1) c.from-digit.ensures in
+    c.loop-octet.invariant.0 (known.cases.0, known.cases.1) c.from-digit.ensures in
     let product = c.in_ok-checked_mul.ensures in
     let sum = c.in_ok-value.ensures in (
       omega (arith, value, product.1, sum.1),
