@@ -17,6 +17,15 @@ CONNECTION = "[[connection]]\nvpi = 1\nvci = 100\npath = [0]\ndelay = 0\ntau = 5
 NET = "ports = [512000]\n" + CONNECTION
 QUIET = "warning: nothing runs: there are no events and no scripts"
 # name, text, the lines that are printed but for the last one, and the numbers in that
+# So many hops are allowed, and one port more.
+HOPS = list(range(16))
+MANY = f"ports = [{'1, ' * 17}]\n"
+
+
+def connection(vpi, vci, path="[0]"):
+    return f"[[connection]]\nvpi = {vpi}\nvci = {vci}\npath = {path}\ndelay = 0\ntau = 0\n"
+
+
 CASES = [
     ("nothing is wrong", 'ports = [1]\nevents = ["start 0 0"]\n', [], (0, 0)),
     ("nothing runs", NET, [QUIET], (0, 1)),
@@ -104,6 +113,57 @@ CASES = [
         "line 7, column 1: fault Net Limit: connection 0 has a tau of 1000000000001 ps; at most 1000000000000 are allowed",
         "line 6, column 1: fault Net Limit: connection 0 has a delay of 10000000000001 ps; at most 10000000000000 are allowed",
     ], (6, 0)),
+    ("as many hops as are allowed", MANY + connection(1, 1, HOPS), [QUIET], (0, 1)),
+    ("one hop", MANY + connection(1, 1, [16]), [QUIET], (0, 1)),
+    ("a hop too many", MANY + connection(1, 1, [*HOPS, 16]), [
+        "line 5, column 1: fault Net PathLength 0: the path of connection 0 has 17 hops; from 1 to 16 are allowed",
+    ], (1, 0)),
+    ("a port visited at both ends", MANY + connection(1, 1, [*HOPS[:15], 0]), [
+        "line 5, column 59: fault Net PathRepeat 0: connection 0 visits port 0 twice",
+    ], (1, 0)),
+    ("the last port and the one behind it", MANY + connection(1, 1, [16, 17]), [
+        "line 5, column 13: fault Net NoPort 0: connection 0 visits port 17; the net has 17 ports, counted from 0",
+    ], (1, 0)),
+    ("channels that are next to each other", "ports = [1]\n" + "".join(connection(*channel) for channel in [
+        (0, 4096), (1, 0), (0, 65535), (2, 0), (1, 65535), (16, 0), (2, 3), (3, 2), (4095, 65535), (4095, 65534), (4094, 65535),
+    ]), [QUIET], (0, 1)),
+    ("the last channel twice", "ports = [1]\n" + connection(4095, 65535) + connection(4095, 65534) + 2 * connection(4095, 65535), [
+        "line 14, column 1: fault Net VcRepeat 2: connection 2 has the channel 4095/65535 of connection 0",
+        "line 20, column 1: fault Net VcRepeat 3: connection 3 has the channel 4095/65535 of connection 0",
+    ], (2, 0)),
+    ("a fault of a key, and rules of nets", "ports = [1]\n[[connection]]\nvpi = 1\nvci = 1\npath = [5, 5]\ndelay = 0\ntau = 'x'\n", [
+        "line 7, column 1: fault WrongType tau: `tau` is of type string; a whole number from 0 to 9223372036854775807 is wanted",
+    ], (1, 0)),
+    ("a key of a connection that is missing, and rules of nets", "ports = [1]\n[[connection]]\nvci = 1\npath = []\ndelay = 0\ntau = 0\n", [
+        "line 2, column 1: fault MissingKey vpi: connection 0 has no key `vpi`",
+    ], (1, 0)),
+    ("words that are near", "ports = [1]\nopexyzor = 1\nopexytor = 1\nevonts = 1\nporxs = 1\npxxxs = 1\nxonnection = 1\nxxxnection = 1\n" + connection(1, 1)
+     + "vxi = 1\nvi = 1\npats = 1\nxxth = 1\nxxxh = 1\nscxxpt = 1\nscxxxt = 1\ntxx = 1\ntxu = 1\neventz = 1\n", [
+        "line 2, column 1: warning: nothing reads the key `opexyzor`",
+        "line 3, column 1: warning: nothing reads the key `opexytor`; did you mean `operator`?",
+        "line 4, column 1: warning: nothing reads the key `evonts`; did you mean `events`?",
+        "line 5, column 1: warning: nothing reads the key `porxs`; did you mean `ports`?",
+        "line 6, column 1: warning: nothing reads the key `pxxxs`",
+        "line 7, column 1: warning: nothing reads the key `xonnection`; did you mean `connection`?",
+        "line 8, column 1: warning: nothing reads the key `xxxnection`",
+        "line 15, column 1: warning: nothing reads the key `vxi` of connection 0; did you mean `vpi`?",
+        "line 16, column 1: warning: nothing reads the key `vi` of connection 0; did you mean `vpi`?",
+        "line 17, column 1: warning: nothing reads the key `pats` of connection 0; did you mean `path`?",
+        "line 18, column 1: warning: nothing reads the key `xxth` of connection 0; did you mean `path`?",
+        "line 19, column 1: warning: nothing reads the key `xxxh` of connection 0",
+        "line 20, column 1: warning: nothing reads the key `scxxpt` of connection 0; did you mean `script`?",
+        "line 21, column 1: warning: nothing reads the key `scxxxt` of connection 0",
+        "line 22, column 1: warning: nothing reads the key `txx` of connection 0",
+        "line 23, column 1: warning: nothing reads the key `txu` of connection 0; did you mean `tau`?",
+        "line 24, column 1: warning: nothing reads `eventz` here: it stands behind the beginning of connection 0, so TOML puts it there;"
+        " write it before the first `[[connection]]`; did you mean `events`?",
+        QUIET,
+    ], (0, 18)),
+    ("words that end at a brace", "ports = [1]\nother = {a = 1}\nconnection = [{vpi = 1, vci = 1, path = [0,1], delay = 0, tau = 0}]\nevents = ['x']\n", [
+        "line 3, column 44: fault Net NoPort 0: connection 0 visits port 1; the net has 1 ports, counted from 0",
+        "line 4, column 11: fault EventText 1: no event begins with `x`",
+        "line 2, column 1: warning: nothing reads the key `other`",
+    ], (2, 1)),
     ("scripts", NET + "script = ['ask 5120',\n 'emit 5 6', 'emit 5 5', 'emit 5 lost']\n" + CONNECTION.replace("100", "101") + "script = ['start 0', 'again']\n", [
         "line 8, column 1: warning: the script of connection 0 never starts its source, so `abt threads` sends nothing for it",
         "line 9, column 2: warning: command 2 of connection 0 has a jitter of 6 above its tau of 5: `abt threads` refuses the scenario",
@@ -118,6 +178,15 @@ CASES = [
     ("more than are told", "ports = []\nevents = [" + "'z'," * 101 + "]\n", [
         f"line 2, column {11 + 4 * i}: fault EventText {i + 1}: no event begins with `z`" for i in range(100)
     ], ("100 or more", 0)),
+    ("more warnings than are told", "ports = []\nevents = ['start 0 0']\n" + "".join(f"k{i} = 1\n" for i in range(101)), [
+        f"line {i + 3}, column 1: warning: nothing reads the key `k{i}`" for i in range(100)
+    ], (0, "100 or more")),
+    ("one warning fewer", "ports = []\nevents = ['start 0 0']\n" + "".join(f"k{i} = 1\n" for i in range(99)), [
+        f"line {i + 3}, column 1: warning: nothing reads the key `k{i}`" for i in range(99)
+    ], (0, 99)),
+    ("one fault fewer", "ports = []\nevents = [" + "'z'," * 99 + "]\n", [
+        f"line 2, column {11 + 4 * i}: fault EventText {i + 1}: no event begins with `z`" for i in range(99)
+    ], (99, 0)),
 ]
 # name, text, the lines in which `abt explain` says that its events stand
 LAYOUTS = [
@@ -135,6 +204,9 @@ LAYOUTS = [
      "events = [\n'again 0']\n", [5]),
     ("a byte order mark and carriage returns", "\ufeffports = []\r\nevents = [\r\n'again 0',\r\n'again 1']\r\n", [3, 4]),
     ("letters of two octets", "ports = [] # \u00e4\n# \u00e4\u00f6\nevents = ['again 0'] # \u00fc\n", [3]),
+    ("words that end at each mark", "ports = [1,2]\na = {b = 1}\nc = [[1],[{d = 2}],{e = {f = 3}}]\ng = 1# ' \" [ {\nh=true\ni = {j = 'x'}\n"
+     "events = [\n'again 0']\n", [8]),
+    ("a table in braces in a list", "ports = []\nevents = ['again 0',\n'again 1']\n[[other]]\na = [{b = 1}, {c = 2}]\n", [2, 3]),
     ("another table's events", "ports = []\nevents = ['again 0']\n[other]\nevents = ['again 1']\n", [2]),
 ]
 
