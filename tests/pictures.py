@@ -2,10 +2,13 @@
 model of scenarios/model: the ends of each arrow and its words, what never came, when sources are up, the blocks of each stack and the words
 in them, the capacities and the rates with the steps between them, and the width that the words of the rows take.
 
+A picture that can't be written leaves the one that was there, and nothing beside it; a C compiler is needed for that.
+
 Each sample for threads is drawn by `abt draw --workers` too, and the picture compared with a run of the events that `--events` writes.
 
 usage: pictures.py PROGRAM
 """
+import os
 import re
 import subprocess
 import sys
@@ -16,8 +19,10 @@ from pathlib import Path
 
 ROOT = Path(__file__).resolve().parent.parent
 sys.path.insert(0, str(ROOT / "scenarios" / "model"))
+sys.path.insert(0, str(ROOT / "tools"))
 
 from model import World  # noqa: E402
+from preload import library  # noqa: E402
 from reading import Fault, read  # noqa: E402
 
 SVG = "{http://www.w3.org/2000/svg}"
@@ -499,6 +504,52 @@ def check_shown(program, room):
     assert out.read_text() == (ROOT / "docs" / "two_ports.svg").read_text(), "docs/two_ports.svg isn't what is drawn"
 
 
+JOURNALS = '{"net":{"ports":[1],"connections":[]}}\n{"port":0,"place":0,"input":{"capacity":2},"reply":"set"}\n{"end":true}\n'
+
+
+def check_kept(program, room):
+    """Whichever write of a picture fails, the picture that was there is left as it was, and nothing else; how many were tried."""
+    (room / "library").mkdir()
+    preload = library(room / "library")
+    folder = room / "kept"
+    folder.mkdir()
+    kept, journals = folder / "kept.svg", folder / "run.jsonl"
+    journals.write_text(JOURNALS)
+    old = "kept" * 100_000
+    commands = [
+        (["draw", ROOT / "scenarios" / "two_ports.toml", "-o", kept], ""),
+        (["draw", ROOT / "scenarios" / "threads_one_source.toml", "--workers", "1", "-o", kept], ""),
+        (["audit", journals, "--draw", kept], "woven\nsafe\n"),
+    ]
+
+    def ends(words, **more):
+        kept.write_text(old)
+        done = subprocess.run([program, *words], capture_output=True, text=True, env={**os.environ, **more})
+        return done.returncode, done.stdout, done.stderr
+
+    tried = 0
+    for words, told in commands:
+        assert ends(words) == (0, told, ""), words
+        whole = kept.read_text()
+        assert whole.startswith("<svg ") and whole.endswith("</svg>\n"), ("a picture isn't whole", words)
+        assert sorted(one.name for one in folder.iterdir()) == ["kept.svg", "run.jsonl"], "a picture leaves a file beside it"
+        # What is printed may be written before the picture. The fault's own line is written behind it.
+        first = len(told) + 1
+        for number in (first, first + 1, first + 1000, first + len(whole) - 200) if preload else ():
+            ended = ends(words, LD_PRELOAD=str(preload), FAULTS_SHORT="1", FAULTS_WRITE=str(number))
+            assert ended == (1, told, "fault: write\n"), (words, number, ended)
+            assert kept.read_text() == old, ("a part of a picture replaced the old one", words, number)
+            assert sorted(one.name for one in folder.iterdir()) == ["kept.svg", "run.jsonl"], ("a part of a picture is left", words, number)
+            tried += 1
+        kept.unlink()
+        kept.mkdir()
+        done = subprocess.run([program, *words], capture_output=True, text=True)
+        assert (done.returncode, done.stdout, done.stderr) == (1, told, "fault: write\n"), (words, done)
+        assert sorted(one.name for one in folder.iterdir()) == ["kept.svg", "run.jsonl"], ("a picture that takes no name is left", words)
+        kept.rmdir()
+    return tried
+
+
 def check_columns(program, room):
     """A picture of 1,024 columns is drawn, and none of more."""
     for conns, status in ((511, 0), (512, 1)):
@@ -567,8 +618,10 @@ def main():
                 sys.exit(f"pictures: {sample.name}, woven: {error}")
         check_shown(program, Path(room))
         check_columns(program, Path(room))
+        writes = check_kept(program, Path(room))
         refusals = check_refusals(program, Path(room))
     print(f"pictures: {len(samples)} samples with {events} events are drawn as the model has them, and {refusals} refusals leave no file")
+    print(f"pictures: {writes} writes of pictures fail, and the picture that was there is left")
     print(f"pictures: {len(threads)} samples run in threads are drawn so too, each by 1, 4 and 64 link workers; {woven} events woven by 64")
 
 

@@ -1,14 +1,15 @@
 //! A run, and a worker by itself, of which one allocation may be refused (`tools/sweeps`): that is told, nothing waits for ever, and the same
 //! call then gives what it should.
 use super::fixture::{
-    START, ask, entries, faithful, first_request, fits, lone_boxes, lone_cells, one_port, port,
-    ran, scripts,
+    START, ask, entries, faithful, fits, lone_boxes, lone_cells, net, port, ran, scripts,
 };
-use abt_cell::Rm;
+use abt_cell::{Request, Rm, Vc};
 use abt_journal::{Entry, PortInput, PortReply, ServeFault};
 use abt_links::{Gathered, OpenGate, Parcel, RunFault, access_worker, link_worker};
 use abt_model::SourceEntry;
+use abt_net::Net;
 use abt_node::Onward;
+use abt_rate::Rate;
 use crossbeam_channel::{Sender, unbounded};
 use std::alloc::Global;
 use std::process::Abort;
@@ -56,8 +57,19 @@ fn is_whole(run: &Gathered) -> bool {
     has_sent(entries(run, 0)) && is_passed(port(run, 0).first())
 }
 
+// The net with one port and one connection through it, if memory for it isn't refused.
+fn lone_net(alloc: Global) -> Option<Net> {
+    net(alloc, 1, &[(&[0], 1000, 200)])
+}
+
+// The first request of its source.
+fn asked() -> Option<Request> {
+    let vc = Vc::new(1, 100)?;
+    Request::new(vc, 1, Rate::ZERO, Rate::from_code(0x5258))
+}
+
 fn run_end<R: Threads + Wait + Sync>(rt: &R, alloc: Global, workers: u16) -> End {
-    let Ok(net) = one_port(alloc) else {
+    let Some(net) = lone_net(alloc) else {
         return End::Refused;
     };
     match ran(rt, alloc, &net, &[&[START, ask(0x5120)]], faithful(workers)) {
@@ -92,7 +104,7 @@ fn a_run_by_three_link_workers_is_gathered_after_memory_was_refused(rt: HostRunt
 
 // What is wrong with an access worker's end, None if what it needs was refused memory.
 fn access_end<R: Wait>(rt: &R, alloc: Global) -> Option<End> {
-    let net = one_port(alloc).ok()?;
+    let net = lone_net(alloc)?;
     let cells = lone_cells(alloc, &net)?;
     let boxes = lone_boxes(alloc, &net)?;
     let scripts = scripts(alloc, &[&[START, ask(0x5258)]])?;
@@ -135,11 +147,11 @@ fn send_surely<R: Wait>(rt: &R, to: &Sender<Parcel>, parcel: Parcel) {
 
 // The end of a link worker to which two parcels and a stop come. A parcel for which there is no memory is lost.
 fn link_end<R: Wait>(rt: &R, alloc: Global) -> Option<End> {
-    let net = one_port(alloc).ok()?;
+    let net = lone_net(alloc)?;
     let cells = lone_cells(alloc, &net)?;
     let boxes = lone_boxes(alloc, &net)?;
     let (to, from) = unbounded(alloc).ok()?;
-    let parcel = Parcel::of(0, &Rm::Request(first_request(100, 0x5258).ok()?));
+    let parcel = Parcel::of(0, &Rm::Request(asked()?));
     send_surely(rt, &to, parcel);
     send_surely(rt, &to, parcel);
     send_surely(rt, &to, Parcel::Stop);
