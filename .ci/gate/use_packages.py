@@ -142,9 +142,22 @@ class Uses:
         tests = WRAPPERS / "python" / "tests"
         self.told(" 0 failed", self.run("python3", tests / "documented.py", **package))
         self.told("OK", self.run("python3", tests / "misuse.py", RANDOM_SECONDS, **package))
+        if subprocess.run(["python3", "-c", "import pip, setuptools, wheel"], capture_output=True, env=self.environment).returncode == 0:
+            self.by_pip()
+            self.tried.append("pip")
+        else:
+            self.left_out.append("pip")
         if shutil.which("cc", path=self.environment["PATH"]):
             (self.room / "old.c").write_text(OLD)
             self.run("cc", "-shared", "-fPIC", "-o", self.room / "old.so", self.room / "old.c")
             said = self.run("python3", "-c", "import abt", status=1, ABT_LIBRARY=str(self.room / "old.so"), **package)
             self.told("abt 0.1.0 needs the library of its version", said)
             self.told("is of version 0.0.9", said)
+
+    def by_pip(self):
+        """Installs a copy of the package, so that nothing is built where the release stands."""
+        source, to = self.room / "abt_python", self.room / "site"
+        shutil.copytree(self.root / "share" / "abt" / "python", source)
+        self.run("python3", "-m", "pip", "install", "--quiet", "--no-index", "--no-build-isolation", "--no-deps", "--target", to, source)
+        library = str(self.root / "lib" / "libabt.so.0")
+        self.told(str(to), self.run("python3", "-c", "import abt; print(abt.__file__)", PYTHONPATH=str(to), ABT_LIBRARY=library))

@@ -1,9 +1,8 @@
 /* A source with a durable store: it asks for a rate, hears answers and emits cells, and takes up its numbers after any crash.
- *
  * usage: source STORE VPI VCI
  *
  * STORE: the file of its record, made at the first write. A record is written to a file beside it, synced, and renamed over it. Moments are
- * those of CLOCK_BOOTTIME, which doesn't go back, also not over a restart of the process. Lines of standard input, and what each gives:
+ * those of CLOCK_BOOTTIME from the start of the process (docs/C.md, "Which clock"). Lines of standard input, and what each gives:
  *
  *     ask CODE    rm CELL, the request that goes out        again       rm CELL, the newest request
  *     bwd CELL    Raised, Refused or Ignored                emit        OK, or TooSoon and how long, or another fault
@@ -23,9 +22,11 @@
 
 static uint64_t now(void)
 {
+    static uint64_t origin;
     struct timespec it;
     clock_gettime(CLOCK_BOOTTIME, &it);
-    return ((uint64_t)it.tv_sec * 1000000000 + (uint64_t)it.tv_nsec) * 1000;
+    uint64_t at = (uint64_t)it.tv_sec * 1000000000 + (uint64_t)it.tv_nsec;
+    return (at - (origin = origin ? origin : at)) * 1000;
 }
 
 /* Reads what the store holds; a store that isn't there yet is four zeros. Gives its length, or 0 if it can't be read. */
@@ -35,8 +36,7 @@ static size_t stored(const char *path, uint8_t *record)
         return memset(record, 0, 4), 4;
     int file = open(path, O_RDONLY);
     ssize_t length = file < 0 ? -1 : read(file, record, ABT_RECORD_LENGTH);
-    if (file >= 0)
-        close(file);
+    close(file);
     return length < 0 ? 0 : (size_t)length;
 }
 
@@ -90,7 +90,7 @@ int main(int words, char **word)
     if (words != 4)
         return fprintf(stderr, "usage: source STORE VPI VCI\n"), 2;
     abt_source source;
-    abt_rm rm;
+    abt_rm rm = {0};
     uint8_t record[ABT_RECORD_LENGTH];
     size_t length = stored(word[1], record);
     abt_outcome outcome = abt_source_init(&source, (uint16_t)strtoul(word[2], NULL, 10), (uint16_t)strtoul(word[3], NULL, 10));
