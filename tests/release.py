@@ -69,8 +69,13 @@ class Repository:
         ran = subprocess.run(words, capture_output=True, text=True)
         return ran.returncode, ran.stdout + ran.stderr
 
-    def age(self, file):
-        os.utime(file, (time.time() - 600,) * 2)
+    def age(self, file, seconds=600):
+        os.utime(file, (time.time() - seconds,) * 2)
+
+    def age_between(self):
+        """The library is older than a crate below it, and newer than its own."""
+        self.age(self.library, 45)
+        self.age(self.root / "crates" / "abt_low" / "src" / "lib.rt", 30)
 
 
 def refusals(it):
@@ -86,6 +91,7 @@ def refusals(it):
     yield "an old program", lambda: it.age(it.program.parent / "abt.built"), "the proved program isn't there, or older"
     yield "no library", lambda: it.library.unlink(), "the proved library isn't there, or older"
     yield "an old library", lambda: it.age(it.library), "the proved library isn't there, or older"
+    yield "a library older than a crate below", it.age_between, "the proved library isn't there, or older"
     yield "another library", lambda: it.make_library("int puts(const char *); int abt_raw_one(void) { return puts(\"\"); }"), "isn't the kit's"
 
 
