@@ -10,7 +10,7 @@ WRAPPERS = ROOT / "wrappers"
 STRICT = ["-Wall", "-Wextra", "-Wpedantic", "-Werror"]
 SANITIZE = ["-g", "-fsanitize=address,undefined", "-fno-sanitize-recover=all"]
 # How long the random calls of the Python package go on, in seconds.
-RANDOM_SECONDS = "20"
+RANDOM_SECONDS = "60"
 CMAKE = """cmake_minimum_required(VERSION 3.13)
 project(user C)
 find_package(abt WANTED REQUIRED)
@@ -109,15 +109,15 @@ class Uses:
 
     def in_cpp(self):
         library, include = self.root / "lib" / "libabt.a", f"-I{self.root / 'include'}"
-        for compiler in filter(lambda it: shutil.which(it, path=self.environment["PATH"]), ("g++", "clang++", "c++")):
-            for standard in ("17", "20"):
-                for more in ([], SANITIZE, ["-fno-exceptions"]):
-                    self.run(compiler, f"-std=c++{standard}", *STRICT, *more, include, "-o", self.room / "rows", WRAPPERS / "cpp" / "rows.cpp", library)
-                    self.told("rows: passed", self.run(self.room / "rows"))
-            for misuse in sorted((WRAPPERS / "cpp" / "must-not-compile").glob("*.cpp")):
-                words = [compiler, "-std=c++17", include, "-fsyntax-only", misuse]
-                self.run(*words)
-                self.told(misuse.name, self.run(*words, "-DMISUSE", status=1))
+        compilers = [it for it in ("g++", "clang++") if shutil.which(it, path=self.environment["PATH"])] or ["c++"]
+        for compiler in compilers:
+            for more in (["-std=c++17", *SANITIZE], ["-std=c++20", "-fno-exceptions"], ["-std=c++20"]):
+                self.run(compiler, *STRICT, *more, include, "-o", self.room / "rows", WRAPPERS / "cpp" / "rows.cpp", library)
+                self.told("rows: passed", self.run(self.room / "rows"))
+        for misuse in sorted((WRAPPERS / "cpp" / "must-not-compile").glob("*.cpp")):
+            words = [compilers[0], "-std=c++17", include, "-fsyntax-only", misuse]
+            self.run(*words)
+            self.told(misuse.name, self.run(*words, "-DMISUSE", status=1))
 
     def in_rust(self):
         user, target = self.room / "rust", {"CARGO_TARGET_DIR": str(self.room / "target"), "CARGO_NET_OFFLINE": "true"}
