@@ -127,7 +127,8 @@ class Uses:
         self.told("Conforming\nCapacityRange\n", self.run("cargo", "run", "--quiet", folder=user, **target))
         crate, lib = self.room / "abt_rust", str(self.root / "lib")
         shutil.copytree(self.root / "share" / "abt" / "rust", crate)
-        self.told("test result: ok", self.run("cargo", "test", "--doc", folder=crate, ABT_LIB_DIR=lib, RUSTDOCFLAGS="-D warnings", **target))
+        shutil.copytree(WRAPPERS / "rust" / "tests", crate / "tests")
+        self.told("test result: ok", self.run("cargo", "test", folder=crate, ABT_LIB_DIR=lib, **target))
         self.run("cargo", "build", folder=crate, RUSTFLAGS="-D warnings", **target)  # by abt.pc
         self.told("no libabt.a in /none", self.run("cargo", "build", status=1, folder=crate, ABT_LIB_DIR="/none", **target))
         old = self.room / "old_lib"
