@@ -14,22 +14,16 @@ usage: audits.py PROGRAM..
 import json
 import random
 import re
-import subprocess
-import sys
-import tempfile
 from pathlib import Path
 
-ROOT = Path(__file__).resolve().parent.parent
-sys.path.insert(0, str(ROOT / "scenarios" / "model"))
-from damage import actor, changed, damaged  # noqa: E402
-from journals import journals  # noqa: E402
-from reading import Fault  # noqa: E402
-from search import Search  # noqa: E402
+from harness import ROOT, SCENARIOS, End, Trial, main
+from damage import actor, changed, damaged
+from journals import journals
+from reading import Fault
+from search import Search
 
-WHOLE = (0, "woven\nsafe\n", "")
+WHOLE = End(0, "woven\nsafe\n")
 END = '{"end":true}'
-
-
 WORKED = (ROOT / "docs" / "JOURNALS.md").read_text()
 
 
@@ -49,7 +43,7 @@ def worked_faults():
 
 def samples():
     """The journals that the events of each sample leave, by its name."""
-    for sample in sorted((ROOT / "scenarios").glob("*.toml")):
+    for sample in sorted(SCENARIOS.glob("*.toml")):
         try:
             lines = journals(sample.read_bytes())
         except Fault:
@@ -57,48 +51,36 @@ def samples():
         yield sample.name, lines
 
 
-class Auditor:
-    def __init__(self, program, folder):
-        self.program, self.folder = program, Path(folder)
-        self.runs, self.answers, self.damaged, self.found = 0, 0, 0, []
+class Auditor(Trial):
+    answers = damaged = 0
 
-    def audit(self, *texts):
-        """What the program answers of these texts, each in a file of its own."""
-        names = []
+    def put(self, texts):
+        """Texts as files, and the names of these."""
         for number, octets in enumerate(texts):
             (self.folder / str(number)).write_bytes(octets)
-            names.append(str(number))
-        self.runs += 1
-        done = subprocess.run([self.program, "audit", *names], cwd=self.folder, capture_output=True, timeout=60)
-        return done.returncode, done.stdout.decode(), done.stderr.decode()
+        return map(str, range(len(texts)))
+
+    def audit(self, *texts):
+        """How an audit of these texts ends, each in a file of its own."""
+        return self.run("audit", *self.put(texts))
 
     def save(self, out, *texts):
         """The same, where the events go out to a file."""
-        names = []
-        for number, octets in enumerate(texts):
-            (self.folder / str(number)).write_bytes(octets)
-            names.append(str(number))
-        self.runs += 1
-        done = subprocess.run([self.program, "audit", *names, "--events", out], cwd=self.folder, capture_output=True, timeout=60)
-        return done.returncode, done.stdout.decode(), done.stderr.decode()
-
-    def wants(self, what, answer, *texts):
-        if (given := self.audit(*texts)) != answer:
-            self.found.append(f"{what}: {given} in place of {answer}")
+        return self.run("audit", *self.put(texts), "--events", out)
 
     def wants_unwoven(self, what, text, line, right):
         """A fault of weaving. If it is a mismatch at the entry of this line, what the protocol answers there is what the right entry has."""
         status, out, told = self.audit(text)
         if status != 1 or out or not told.startswith(("fault: Mismatch\n", "fault: NoOrder\n")):
-            self.found.append(f"{what}: {(status, out, told)} in place of a fault of weaving")
+            self.fail(f"{what}: {(status, out, told)} in place of a fault of weaving")
         elif told.startswith("fault: Mismatch\n"):
             _, entry, protocol, *more = told.splitlines()
             if more or not protocol.startswith("protocol: "):
-                self.found.append(f"{what}: {told} has no answer of the protocol")
+                self.fail(f"{what}: {told} has no answer of the protocol")
             elif entry.startswith(f"0:{line}: "):
                 self.answers += 1
                 if json.loads(protocol.removeprefix("protocol: ")) != answer_in(right):
-                    self.found.append(f"{what}: {protocol} in place of that of {right}")
+                    self.fail(f"{what}: {protocol} in place of that of {right}")
 
 
 def text_of(lines):
@@ -143,21 +125,21 @@ def try_events(auditor, name, lines):
     """The woven events go out as a scenario: it is run, and its journals, by the slow model, are those that were audited."""
     out = auditor.folder / "events.toml"
     out.unlink(missing_ok=True)
-    if (given := auditor.save(out, text_of(lines))) != WHOLE:
-        auditor.found.append(f"the events of {name}: {given} in place of {WHOLE}")
+    given = auditor.save(out, text_of(lines))
+    auditor.wants(f"the events of {name}", WHOLE, given)
+    if given != WHOLE:
         return
     text = out.read_bytes()
     left = journals(text)
     if json.loads(left[0]) != json.loads(lines[0]) or by_actor(left) != by_actor(lines):
-        auditor.found.append(f"the events of {name} have other journals")
-    done = subprocess.run([auditor.program, "run", out], capture_output=True, timeout=60)
-    if done.returncode or done.stderr or not done.stdout.endswith(b"safe\n") or done.stdout.endswith(b"unsafe\n"):
-        auditor.found.append(f"the events of {name}, run: {done}")
+        auditor.fail(f"the events of {name} have other journals")
+    status, report, told = auditor.run("run", out)
+    auditor.wants(f"the events of {name}, run", (0, "safe", ""), (status, report.splitlines()[-1], told))
 
 
 def try_sample(auditor, name, lines):
-    auditor.wants(name, WHOLE, text_of(lines))
-    auditor.wants(f"{name}, mixed", WHOLE, *mixed(lines, name))
+    auditor.wants(name, WHOLE, auditor.audit(text_of(lines)))
+    auditor.wants(f"{name}, mixed", WHOLE, auditor.audit(*mixed(lines, name)))
     try_events(auditor, name, lines)
     for at in range(1, len(lines) - 1):
         if other := changed(lines[at]):
@@ -166,13 +148,13 @@ def try_sample(auditor, name, lines):
         if '"port"' not in lines[at]:
             continue
         place = lambda line: (1, "", f"fault: 0:{line}: Place\n")
-        auditor.wants(f"{name}, line {at + 1} twice", place(at + 2), text_of([*lines[: at + 1], *lines[at:]]))
+        auditor.wants(f"{name}, line {at + 1} twice", place(at + 2), auditor.audit(text_of([*lines[: at + 1], *lines[at:]])))
         later = [k for k in range(at + 1, len(lines) - 1) if actor(lines[k]) == actor(lines[at])]
         if later:
-            auditor.wants(f"{name}, line {at + 1} missing", place(later[0]), text_of([*lines[:at], *lines[at + 1 :]]))
+            auditor.wants(f"{name}, line {at + 1} missing", place(later[0]), auditor.audit(text_of([*lines[:at], *lines[at + 1 :]])))
             swapped = list(lines)
             swapped[at], swapped[later[0]] = lines[later[0]], lines[at]
-            auditor.wants(f"{name}, line {at + 1} later", place(at + 1), text_of(swapped))
+            auditor.wants(f"{name}, line {at + 1} later", place(at + 1), auditor.audit(text_of(swapped)))
 
 
 def try_damaged(auditor, name, lines):
@@ -190,7 +172,7 @@ def try_damaged(auditor, name, lines):
         else:
             right = (status, out, fault, spots) == (1, "", "fault: NoOrder", stuck)
         if not right:
-            auditor.found.append(f"{name}, {what}: {(status, out, told)}, and the slow search ends at the lines {stuck}")
+            auditor.fail(f"{name}, {what}: {(status, out, told)}, and the slow search ends at the lines {stuck}")
 
 
 def try_texts(auditor, lines):
@@ -226,25 +208,17 @@ def try_texts(auditor, lines):
         (text_of([net]) + b" " * 16777215, "2: Cut"),
     ]
     for octets, told in rows:
-        auditor.wants(f"a text that is {told}", (1, "", f"fault: 0:{told}\n"), octets)
-    auditor.wants("a second text without its end", (1, "", "fault: 1:1: NoEnd\n"), text_of(lines), b"")
-    auditor.wants("a second text with a net", (1, "", "fault: 1:1: SecondNet\n"), text_of(lines), text_of([net, end]))
+        auditor.wants(f"a text that is {told}", (1, "", f"fault: 0:{told}\n"), auditor.audit(octets))
+    auditor.wants("a second text without its end", (1, "", "fault: 1:1: NoEnd\n"), auditor.audit(text_of(lines), b""))
+    auditor.wants("a second text with a net", (1, "", "fault: 1:1: SecondNet\n"), auditor.audit(text_of(lines), text_of([net, end])))
 
 
 def try_other_ways(auditor, lines):
     """Files that aren't there, and the standard input."""
-    done = subprocess.run([auditor.program, "audit"], input=text_of(lines), capture_output=True, timeout=60)
-    if (done.returncode, done.stdout) != (0, b"woven\nsafe\n"):
-        auditor.found.append(f"the standard input: {done}")
-    done = subprocess.run([auditor.program, "audit"], input=text_of(lines[:-1]), capture_output=True, timeout=60)
-    if (done.returncode, done.stderr) != (1, f"fault: -:{len(lines)}: NoEnd\n".encode()):
-        auditor.found.append(f"the standard input without an end: {done}")
-    done = subprocess.run([auditor.program, "audit", "0", "none"], cwd=auditor.folder, capture_output=True, timeout=60)
-    if (done.returncode, done.stdout, done.stderr) != (1, b"", b"fault: open\nnone: there is no such file\n"):
-        auditor.found.append(f"a file that isn't there: {done}")
-    done = subprocess.run([auditor.program, "audit", "0", "."], cwd=auditor.folder, capture_output=True, timeout=60)
-    if (done.returncode, done.stdout, done.stderr) != (1, b"", b"fault: read\n.: it is a folder\n"):
-        auditor.found.append(f"a folder: {done}")
+    auditor.wants("the standard input", WHOLE, auditor.run("audit", text=text_of(lines)))
+    auditor.wants("the standard input without an end", (1, "", f"fault: -:{len(lines)}: NoEnd\n"), auditor.run("audit", text=text_of(lines[:-1])))
+    auditor.wants("a file that isn't there", (1, "", "fault: open\nnone: there is no such file\n"), auditor.run("audit", "0", "none"))
+    auditor.wants("a folder", (1, "", "fault: read\n.: it is a folder\n"), auditor.run("audit", "0", "."))
 
 
 def try_no_events(auditor, lines, faults):
@@ -254,89 +228,71 @@ def try_no_events(auditor, lines, faults):
     told = lambda fault: (1, "woven\nsafe\n", fault)
     for what, to, answer, text in [
         ("a folder that isn't there", auditor.folder / "none" / "events", told("fault: events open\n"), text_of(lines)),
-        ("a full disk", Path("/dev/full"), told("fault: events write\n"), text_of(lines)),
+        ("a full disk", "/dev/full", told("fault: events write\n"), text_of(lines)),
         ("a moment of 20 digits", kept, told("fault: events Unsaid\n"), text_of([lines[0], late, END])),
         ("no text", kept, (1, "", "fault: 0:1: NoEnd\n"), b""),
         *((name, kept, (1, "", told.replace(f"{name}:", "0:")), text) for name, text, told in faults),
     ]:
         kept.write_text("kept")
-        if (given := auditor.save(to, text)) != answer:
-            auditor.found.append(f"events of {what}: {given} in place of {answer}")
+        auditor.wants(f"events of {what}", answer, auditor.save(to, text))
         if answer[1] == "" and kept.read_text() != "kept":
-            auditor.found.append(f"events of {what}: the file isn't left as it was")
+            auditor.fail(f"events of {what}: the file isn't left as it was")
     kept.unlink()
     auditor.save(kept, faults[0][1])
     if kept.exists():
-        auditor.found.append("events of a log in which something is wrong: the file is made")
-    done = subprocess.run([auditor.program, "audit", "--events", kept], input=text_of(lines), capture_output=True, timeout=60)
-    if (done.returncode, done.stdout, done.stderr) != (0, b"woven\nsafe\n", b"") or not kept.read_bytes().startswith(b"ports = ["):
-        auditor.found.append(f"events of the standard input: {done}")
+        auditor.fail("events of a log in which something is wrong: the file is made")
+    auditor.wants("events of the standard input", WHOLE, auditor.run("audit", "--events", kept, text=text_of(lines)))
+    if not kept.read_bytes().startswith(b"ports = ["):
+        auditor.fail("events of the standard input: they aren't in the file")
 
 
 def try_threads(auditor):
     """The journals of each sample for threads go out and come back; and each way in which they don't go out."""
-    runs = 0
-    out = auditor.folder / "journals"
-    run = lambda sample, workers, to: subprocess.run(
-        [auditor.program, "threads", sample, "--workers", str(workers), "--journals", to], capture_output=True, timeout=60
-    )
-    for sample in sorted((ROOT / "scenarios").glob("threads_*.toml")):
-        shown = Path(f"{sample}.stdout").read_bytes()
+    runs, out = 0, auditor.folder / "journals"
+    run = lambda sample, workers, to: auditor.run("threads", sample, "--workers", workers, "--journals", to)
+    for sample in sorted(SCENARIOS.glob("threads_*.toml")):
+        shown = Path(f"{sample}.stdout").read_text()
         for workers in (1, 4, 64):
             out.unlink(missing_ok=True)
             done = run(sample, workers, out)
             if not shown:
-                if done.returncode != 1 or done.stdout or not done.stderr or out.read_bytes():
-                    auditor.found.append(f"{sample.name}, which can't run: {done}")
+                if done.status != 1 or done.output or not done.told or out.read_bytes():
+                    auditor.fail(f"{sample.name}, which can't run: {done}")
                 continue
             runs += 1
-            if (done.returncode, done.stdout, done.stderr) != (0, shown, b""):
-                auditor.found.append(f"{sample.name}: {done}")
-                continue
+            auditor.wants(sample.name, End(0, shown), done)
             text = out.read_bytes()
-            auditor.wants(f"the journals of {sample.name}", WHOLE, text)
-            auditor.wants(f"the journals of {sample.name}, mixed", WHOLE, *mixed(text.decode().splitlines(), sample.name))
-    sample = ROOT / "scenarios" / "threads_crossing.toml"
-    rows = [
-        ("a folder that isn't there", sample, auditor.folder / "none" / "journals", (1, b"", b"fault: open\n")),
-        ("a full disk", sample, Path("/dev/full"), (1, b"gathered\nwoven\nsafe\n", b"fault: journals\n")),
-        ("no scenario", ROOT / "README.md", auditor.folder / "unmade", (1, b"", b"fault: Toml\n")),
-    ]
-    for what, read, to, wanted in rows:
-        done = run(read, 4, to)
-        if (done.returncode, done.stdout, done.stderr) != wanted:
-            auditor.found.append(f"journals to {what}: {done}")
+            auditor.wants(f"the journals of {sample.name}", WHOLE, auditor.audit(text))
+            auditor.wants(f"the journals of {sample.name}, mixed", WHOLE, auditor.audit(*mixed(text.decode().splitlines(), sample.name)))
+    sample = SCENARIOS / "threads_crossing.toml"
+    for what, read, to, wanted in [
+        ("a folder that isn't there", sample, auditor.folder / "none" / "journals", (1, "", "fault: open\n")),
+        ("a full disk", sample, "/dev/full", (1, "gathered\nwoven\nsafe\n", "fault: journals\n")),
+        ("no scenario", ROOT / "README.md", auditor.folder / "unmade", (1, "", "fault: Toml\n")),
+    ]:
+        auditor.wants(f"journals to {what}", wanted, run(read, 4, to))
     if (auditor.folder / "unmade").exists():
-        auditor.found.append("journals of no scenario: the file is made")
+        auditor.fail("journals of no scenario: the file is made")
     return runs
 
 
-def main(program):
-    with tempfile.TemporaryDirectory() as folder:
-        auditor = Auditor(Path(program).resolve(), folder)
-        worked = worked_run()
-        every = [("docs/JOURNALS.md", worked), *samples()]
-        for name, lines in every:
-            try_sample(auditor, name, lines)
-            try_damaged(auditor, name, lines)
-        faults = worked_faults()
-        if len(faults) != 3:
-            auditor.found.append(f"docs/JOURNALS.md has {len(faults)} logs in which something is wrong")
-        for name, text, told in faults:
-            auditor.wants(f"{name} of docs/JOURNALS.md", (1, "", told.replace(f"{name}:", "0:")), text)
-        try_texts(auditor, worked)
-        try_other_ways(auditor, worked)
-        try_no_events(auditor, worked, faults)
-        runs = try_threads(auditor)
-    for difference in auditor.found:
-        print(f"audits: {difference}")
-    print(
-        f"audits: {len(every)} runs, {runs} in threads, {auditor.runs} audits, {auditor.answers} answers of the protocol, "
-        f"{auditor.damaged} damaged journals beside a slow search, "
-        f"{len(auditor.found)} differences"
-    )
-    return not auditor.found
+def look(auditor):
+    worked, faults = worked_run(), worked_faults()
+    every = [("docs/JOURNALS.md", worked), *samples()]
+    for name, lines in every:
+        try_sample(auditor, name, lines)
+        try_damaged(auditor, name, lines)
+    if len(faults) != 3:
+        auditor.fail(f"docs/JOURNALS.md has {len(faults)} logs in which something is wrong")
+    for name, text, told in faults:
+        auditor.wants(f"{name} of docs/JOURNALS.md", (1, "", told.replace(f"{name}:", "0:")), auditor.audit(text))
+    try_texts(auditor, worked)
+    try_other_ways(auditor, worked)
+    try_no_events(auditor, worked, faults)
+    runs = try_threads(auditor)
+    beside = f"{auditor.answers} answers of the protocol, {auditor.damaged} damaged journals beside a slow search"
+    return f"{len(every)} runs, {runs} in threads, {beside}"
 
 
 if __name__ == "__main__":
-    sys.exit(0 if all([main(program) for program in sys.argv[1:]]) else 1)
+    main(look, Auditor)

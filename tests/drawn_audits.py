@@ -5,50 +5,43 @@ The journals that the model writes of each sample are drawn whole: the picture h
 actor's lifeline, and one alone; the events of the picture have to be just the entries before them, by the model. What is printed is what
 `abt audit` prints without a picture.
 
-usage: drawn_audits.py PROGRAM
+usage: drawn_audits.py PROGRAM..
 """
 import json
 import random
 import re
-import subprocess
-import sys
-import tempfile
-from pathlib import Path
 
-sys.path.insert(0, str(Path(__file__).resolve().parent))
-from audits import END, WHOLE, samples, text_of, worked_faults, worked_run  # noqa: E402
-from damage import damaged  # noqa: E402
-from journals import Writer  # noqa: E402
-from pictures import SVG, Page, Picture, Run, tenths  # noqa: E402
-from reading import event, read  # noqa: E402
-from search import Search, actor_of, bare  # noqa: E402
+from harness import Trial, main
+from audits import END, WHOLE, samples, text_of, worked_faults, worked_run
+from damage import damaged
+from journals import Writer
+from pictures import SVG, Page, Picture, Run, tenths
+from reading import event, read
+from search import Search, actor_of, bare
 
 
-class Drawer:
-    def __init__(self, program, room):
-        self.program, self.room = program, Path(room)
-        self.whole, self.stuck, self.events = 0, 0, 0
+class Drawer(Trial):
+    whole = stuck = events = 0
 
     def audit(self, text, *words):
-        (self.room / "0").write_bytes(text)
-        done = subprocess.run([self.program, "audit", "0", *words], cwd=self.room, capture_output=True, text=True, timeout=60)
-        return done.returncode, done.stdout, done.stderr
+        (self.folder / "0").write_bytes(text)
+        return self.run("audit", "0", *words)
 
     def drawn(self, text, *words):
         """The picture of an audit that prints what it prints without one."""
-        out = self.room / "drawn.svg"
+        out = self.folder / "drawn.svg"
         out.unlink(missing_ok=True)
         without = self.audit(text)
         assert self.audit(text, "--draw", "drawn.svg", *words) == without, "what is printed"
-        assert not (self.room / "drawn.svg.part").exists(), "a part is left"
+        assert not (self.folder / "drawn.svg.part").exists(), "a part is left"
         return without, out.read_text()
 
     def check_whole(self, text):
         answer, picture = self.drawn(text, "--events", "woven.toml")
         assert answer == WHOLE, answer
         assert self.drawn(text) == (answer, picture), "the picture without --events"
-        ports, conns, woven, _ = read((self.room / "woven.toml").read_bytes())
-        explained = subprocess.run([self.program, "explain", self.room / "woven.toml"], capture_output=True, text=True, check=True).stdout
+        ports, conns, woven, _ = read((self.folder / "woven.toml").read_bytes())
+        explained = self.run("explain", "woven.toml").output
         seen = Picture(picture, Run(ports, conns, woven), 0, len(woven), ())
         assert seen.stuck == [], "marks of journals that are woven"
         seen.check()
@@ -120,7 +113,7 @@ def check_documents(drawer):
         status, out, errors = drawer.audit(text, "--draw", "page.html")
         assert (status, out, errors) == (1, "", told.replace(f"{name}:", "0:")), (status, out, errors)
         page = Page()
-        page.feed((drawer.room / "page.html").read_text())
+        page.feed((drawer.folder / "page.html").read_text())
         assert page.outside == [] and "\nstuck: 0:" in page.words, name
     check_escapes(drawer, worked_faults()[0][1])
 
@@ -128,19 +121,19 @@ def check_documents(drawer):
 def check_escapes(drawer, text):
     """A file whose name is full of signs stands in a page and in a picture as it is called."""
     name = "<b>&amp;'\".jsonl"
-    (drawer.room / name).write_bytes(text)
+    (drawer.folder / name).write_bytes(text)
     for out in ("signs.html", "signs.svg"):
-        done = subprocess.run([drawer.program, "audit", name, "--draw", out], cwd=drawer.room, capture_output=True, timeout=60)
-        octets = (drawer.room / out).read_text()
-        assert done.returncode == 1 and "<b>" not in octets and "&lt;b&gt;&amp;amp;" in octets, (out, done)
+        done = drawer.run("audit", name, "--draw", out)
+        octets = (drawer.folder / out).read_text()
+        assert done.status == 1 and "<b>" not in octets and "&lt;b&gt;&amp;amp;" in octets, (out, done)
     page = Page()
-    page.feed((drawer.room / "signs.html").read_text())
+    page.feed((drawer.folder / "signs.html").read_text())
     assert f"\nstuck: {name}:" in page.words, page.words[-300:]
 
 
 def check_refusals(drawer, lines):
     """Each way in which there is no picture, which leaves the file as it was."""
-    kept, folder = drawer.room / "kept.svg", drawer.room / "folder.svg"
+    kept, folder = drawer.folder / "kept.svg", drawer.folder / "folder.svg"
     folder.mkdir()
     text, wrong = text_of(lines), worked_faults()[0]
     told = wrong[2].replace(f"{wrong[0]}:", "0:")
@@ -157,27 +150,24 @@ def check_refusals(drawer, lines):
     for octets, words, answer in rows:
         kept.write_text("kept")
         assert (given := drawer.audit(octets, *words)) == answer, (words, given, answer)
-        assert kept.read_text() == "kept" and not list(drawer.room.glob("*.part")), words
+        assert kept.read_text() == "kept" and not list(drawer.folder.glob("*.part")), words
     for words in (("--draw", "kept.txt"), ("--only", "0"), ("--draw", "kept.svg", "--from", "0")):
         assert drawer.audit(text, *words)[0] == 2 and kept.read_text() == "kept", words
     assert drawer.audit(text, "--draw", "kept.svg", "--events", "none/x.toml") == (1, WHOLE[1], "fault: events open\n")
     assert kept.read_text().endswith("</svg>\n"), "the picture where its events can't be written"
-    done = subprocess.run([drawer.program, "audit", "--draw", kept], input=wrong[1], capture_output=True, timeout=60)
-    assert done.returncode == 1 and "stuck: -:6: " in kept.read_text(), done
+    done = drawer.run("audit", "--draw", kept, text=wrong[1])
+    assert done.status == 1 and "stuck: -:6: " in kept.read_text(), done
 
 
-def main(program):
-    with tempfile.TemporaryDirectory() as room:
-        drawer = Drawer(Path(program).resolve(), room)
-        worked = worked_run()
-        for name, lines in [("docs/JOURNALS.md", worked), *samples()]:
-            drawer.check_whole(text_of(lines))
-            for _, left in damaged(lines, random.Random(f"{name}, drawn"), 1):
-                drawer.check_stuck(left, text_of(left))
-        check_documents(drawer)
-        check_refusals(drawer, worked)
-    print(f"drawn audits: {drawer.whole} pictures of woven journals, {drawer.stuck} of stuck ones, {drawer.events} events, as the model has them")
+def look(drawer):
+    worked = worked_run()
+    for name, lines in [("docs/JOURNALS.md", worked), *samples()]:
+        drawer.check_whole(text_of(lines))
+        for _, left in damaged(lines, random.Random(f"{name}, drawn"), 1):
+            drawer.check_stuck(left, text_of(left))
+    check_documents(drawer)
+    check_refusals(drawer, worked)
+    return f"{drawer.whole} pictures of woven journals, {drawer.stuck} of stuck ones, {drawer.events} events"
 
 
-if __name__ == "__main__":
-    main(*sys.argv[1:])
+main(look, Drawer)

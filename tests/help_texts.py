@@ -4,17 +4,18 @@ usage: help_texts.py PROGRAM            compares
        help_texts.py PROGRAM --write    writes the texts anew
 """
 import re
-import subprocess
 import sys
 from pathlib import Path
 
-FOLDER = Path(__file__).resolve().parent.parent / "man" / "help"
+from harness import ROOT, run
+
+FOLDER = ROOT / "man" / "help"
 
 
 def shown(program, *words):
     """What some words show, on whichever stream."""
-    done = subprocess.run([program, *words], stdin=subprocess.DEVNULL, capture_output=True, text=True, check=False)
-    return done.stdout + done.stderr
+    _, output, told = run(program, words)
+    return output + told
 
 
 def texts_of(program):
@@ -37,7 +38,7 @@ def main(program, *options):
     found = sorted(name for name in texts.keys() | kept.keys() if texts.get(name) != kept.get(name))
     for name in found:
         print(f"help_texts: man/help/{name} isn't what the program shows")
-    version = re.search(r"^## ([0-9.]+)", (FOLDER.parent.parent / "CHANGELOG.md").read_text(), re.M)[1]
+    version = re.search(r"^## ([0-9.]+)", (ROOT / "CHANGELOG.md").read_text(), re.M)[1]
     if texts["version"] != f"abt {version}\n":
         print("help_texts: CHANGELOG.md begins with another version than the program tells")
         found.append("CHANGELOG.md")

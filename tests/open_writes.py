@@ -10,16 +10,11 @@ usage: open_writes.py PROGRAM..
 import itertools
 import json
 import random
-import sys
-import tempfile
-from pathlib import Path
 
-ROOT = Path(__file__).resolve().parent.parent
-sys.path.insert(0, str(ROOT / "scenarios" / "model"))
-sys.path.insert(0, str(ROOT / "tests"))
-from audits import END, WHOLE, Auditor, by_actor, text_of  # noqa: E402
-from journals import Writer, journals  # noqa: E402
-from reading import Fault, rate, read  # noqa: E402
+from harness import SCENARIOS, main
+from audits import END, WHOLE, Auditor, by_actor, text_of
+from journals import Writer, journals
+from reading import Fault, rate, read
 
 DRAWN = 400
 TOGETHER = 8
@@ -136,10 +131,10 @@ def try_run(auditor, name, ports, conns, events):
     wanted = texts_of(entries(ports, conns, settled(ports, conns, events)))
     out = auditor.folder / "settled.toml"
     out.unlink(missing_ok=True)
-    if (given := auditor.save(out, text_of(lines))) != WHOLE:
-        auditor.found.append(f"{name}: {given} in place of {WHOLE}")
-    elif by_actor(journals(out.read_bytes())) != by_actor(wanted):
-        auditor.found.append(f"{name}: {out.read_text()} in place of {wanted}")
+    given = auditor.save(out, text_of(lines))
+    auditor.wants(name, WHOLE, given)
+    if given == WHOLE and by_actor(journals(out.read_bytes())) != by_actor(wanted):
+        auditor.fail(f"{name}: {out.read_text()} in place of {wanted}")
     return count
 
 
@@ -153,31 +148,23 @@ def try_strange(auditor, name, ports, conns, events):
     cell["seq"] += 100_000
     status, out, told = auditor.audit(text_of(texts_of(lines)))
     if status != 1 or out or not told.startswith(("fault: Mismatch\n", "fault: NoOrder\n")):
-        auditor.found.append(f"{name}, a number changed: {(status, out, told)} in place of a fault of weaving")
+        auditor.fail(f"{name}, a number changed: {(status, out, told)} in place of a fault of weaving")
     return 1
 
 
-def main(program):
-    with tempfile.TemporaryDirectory() as folder:
-        auditor = Auditor(Path(program).resolve(), folder)
-        runs = []
-        for sample in sorted((ROOT / "scenarios").glob("*.toml")):
-            try:
-                ports, conns, events, _ = read(sample.read_bytes())
-            except Fault:
-                continue
-            runs.append((sample.name, ports, conns, events))
-        runs += [(f"draw {seed}", PORTS, CONNS, Draw(seed).live()) for seed in range(DRAWN)]
-        counts = [try_run(auditor, *run) for run in runs]
-        strange = sum(try_strange(auditor, *run) for run in runs)
-    for difference in auditor.found:
-        print(f"open_writes: {difference}")
-    print(
-        f"open_writes: {sum(map(bool, counts))} logs with {sum(counts)} open writes settled, {strange} with a number changed, "
-        f"{len(auditor.found)} differences"
-    )
-    return not auditor.found
+def look(auditor):
+    runs = []
+    for sample in sorted(SCENARIOS.glob("*.toml")):
+        try:
+            ports, conns, events, _ = read(sample.read_bytes())
+        except Fault:
+            continue
+        runs.append((sample.name, ports, conns, events))
+    runs += [(f"draw {seed}", PORTS, CONNS, Draw(seed).live()) for seed in range(DRAWN)]
+    counts = [try_run(auditor, *run) for run in runs]
+    strange = sum(try_strange(auditor, *run) for run in runs)
+    return f"{sum(map(bool, counts))} logs with {sum(counts)} open writes settled, {strange} with a number changed"
 
 
 if __name__ == "__main__":
-    sys.exit(0 if all([main(program) for program in sys.argv[1:]]) else 1)
+    main(look, Auditor)

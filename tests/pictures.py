@@ -1,10 +1,14 @@
 """Draws each sample of scenarios/ by `abt draw`, reads the picture by Python's own XML parser, and compares what stands in it with a run of the
-model of scenarios/model: the ends of each arrow, what never came, the blocks of each stack, the capacities and the rates.
+model of scenarios/model: the ends of each arrow and its words, what never came, when sources are up, the blocks of each stack and the words
+in them, the capacities and the rates with the steps between them, and the width that the words of the rows take.
+
+A picture that can't be written leaves the one that was there, and nothing beside it; a C compiler is needed for that.
 
 Each sample for threads is drawn by `abt draw --workers` too, and the picture compared with a run of the events that `--events` writes.
 
 usage: pictures.py PROGRAM
 """
+import os
 import re
 import subprocess
 import sys
@@ -15,19 +19,39 @@ from pathlib import Path
 
 ROOT = Path(__file__).resolve().parent.parent
 sys.path.insert(0, str(ROOT / "scenarios" / "model"))
+sys.path.insert(0, str(ROOT / "tools"))
 
 from model import World  # noqa: E402
+from preload import library  # noqa: E402
 from reading import Fault, read  # noqa: E402
 
 SVG = "{http://www.w3.org/2000/svg}"
 # The geometry of docs/PICTURES.md, in tenths of a unit.
 TOP, ROW, BAND, BAND_STEP = 400, 260, 600, 860
 AXIS_LEFT, AXIS_RIGHT = 1000, 200
+# A picture's least width, the room of a sign of the rows, at least and at most so many signs, and that of a sign in a block.
+WIDTH, SIGN, SIGNS, SIGN_IN_BLOCK = 6000, 42, (16, 66), 46
 
 
 def tenths(text):
     whole, rest = text.split(".")
     return int(whole) * 10 + int(rest)
+
+
+def units_of(code):
+    """The units of a rate code, 1/512 cell per second each."""
+    number = int(code, 16)
+    return 2 ** (number // 2**9 % 2**5) * (512 + number % 2**9) if number >= 2**14 else 0
+
+
+def short(units):
+    """A rate in whole cells per second, with a sign behind it if more than that is meant."""
+    return f"{units // 512}{'+' if units % 512 else ''}"
+
+
+def step_between(columns):
+    """How far so many columns are apart."""
+    return 1100 if columns <= 6 else 720 if columns <= 12 else 460
 
 
 # What the events of a run send and bring, by docs/PICTURES.md: a message is its connection, kind, stop and number. Stop 0 is the source, and the
@@ -73,9 +97,10 @@ class Run:
     def __init__(self, ports, conns, events):
         self.ports, self.conns, self.events = ports, conns, events
         world = World(ports, conns)
-        self.sent, self.brought, self.frames = [], [], [self.frame(world)]
+        self.sent, self.brought, self.outcomes, self.frames = [], [], [], [self.frame(world)]
         for event in events:
             outcome = world.step(event)
+            self.outcomes.append(outcome)
             known = event[0] != "capacity" and event[1] < len(conns)
             hops = len(conns[event[1]]["path"]) if known else 0
             self.sent.append(sent_by(event, outcome, hops))
@@ -116,6 +141,38 @@ class Run:
 
     def newest_sending(self, message, before):
         return max((place for place in range(before) if self.sent[place] == message), default=None)
+
+    def asked(self, conn, before):
+        """The requests that a source sent, each number with the code that it asks for."""
+        for event, outcome in zip(self.events[:before], self.outcomes):
+            words = outcome.split(" ")
+            if event[0] in ("ask", "again") and event[1] == conn and words[0] in ("asked", "again"):
+                yield int(words[1]), words[3]
+
+    def words(self, message, again=False, late=False):
+        """What stands beside the arrow of a message."""
+        conn, kind, _, seq = message
+        rate = next((f": {short(units_of(code))}" for number, code in self.asked(conn, len(self.events)) if number == seq), "")
+        return f"{'' if kind == 'request' else kind + ' '}{seq}{rate}{' again' if again else ''}{' late' if late else ''}"
+
+    def came_words(self, event):
+        """The words of the message that an event brings."""
+        message = self.brought[event]
+        late = any(number > message[3] for number, _ in self.asked(message[0], event))
+        return self.words(message, message in self.brought[:event], late)
+
+    def ups(self, conn):
+        """The events between which a source is up, the last of them None if it stays so."""
+        began = None
+        for event, outcome in enumerate(self.outcomes):
+            if self.events[event][0] != "capacity" and self.events[event][1] == conn:
+                if outcome == "started":
+                    began = event
+                elif outcome == "crashed" and began is not None:
+                    yield began, event
+                    began = None
+        if began is not None:
+            yield began, None
 
     def coming(self, place):
         """The event that brings what an event sent, if one does before it is sent again."""
@@ -168,6 +225,27 @@ class Picture:
             base = self.bottom + BAND_STEP * (place + 1)
             self.check_stack(number, base) if kind == "port" else self.check_rates(number, base)
         self.check_axis()
+        self.check_ups(places)
+        self.check_width(list(places.values()))
+
+    def check_ups(self, places):
+        """A source's line is thick where the source is up."""
+        drawn = sorted(tuple(tenths(one.get(name)) for name in ("x1", "x2", "y1", "y2")) for one in self.shapes(self.root, "line", "up"))
+        wanted = []
+        for (kind, number), x in places.items():
+            for began, ended in self.run.ups(number) if kind == "source" else ():
+                top, bottom = self.y(self.level(began)), self.bottom if ended is None else self.y(self.level(ended))
+                wanted += [(x, x, top, bottom)] if top < bottom else []
+        assert drawn == sorted(wanted), ("up", drawn, wanted)
+
+    def check_width(self, columns):
+        """The columns stand behind the words of the rows, evenly, and the picture ends behind the last one."""
+        lines = re.findall(r"^\d+ (?:line \d+ )?(.*?): (.*)$", self.root.find(SVG + "desc").text, flags=re.M)[self.first:self.last]
+        room = max([SIGNS[0], *(len(event) + 6 for event, _ in lines), *(len(answer.encode()) for _, answer in lines)])
+        step = step_between(len(columns))
+        left = (SIGNS[1] if self.stuck else min(room, SIGNS[1])) * SIGN + step // 2 + 100
+        assert columns == [left + step * place for place in range(len(columns))], ("columns", columns, left, step)
+        assert self.width == max(left + step * len(columns), WIDTH), ("width", self.width, left, step)
 
     def check_axis(self):
         """Each number along the axis stands where its event does; the first event has one."""
@@ -183,15 +261,19 @@ class Picture:
         return [(message[1], places[sender], self.y(0 if sent is None else self.level(sent)), places[receiver], self.y(self.level(came)))]
 
     def check_arrows(self, group, event, places):
-        run, wanted, stumps = self.run, [], []
+        run, wanted, stumps, notes = self.run, [], [], []
         if run.brought[event]:
             wanted += self.arrow(run.brought[event], run.newest_sending(run.brought[event], event), event, places)
+            goes_to = places.get(run.actor(*run.sent[event][:3:2])) if run.sent[event] else None
+            notes += [self.note(arrow, run.came_words(event), goes_to) for arrow in wanted]
         if run.sent[event]:
             came = run.coming(event)
             if came is None:
                 stumps = self.arrow(run.sent[event], event, event, places)
             elif came >= self.last:
-                wanted += self.arrow(run.sent[event], event, came, places)
+                leaving = self.arrow(run.sent[event], event, came, places)
+                notes += [self.note(arrow, run.words(run.sent[event]), None) for arrow in leaving]
+                wanted += leaving
         drawn = [self.ends(one) for one in self.shapes(group, "line", "arrow")]
         assert drawn == wanted, ("arrows", event + 1, drawn, wanted)
         columns = sorted(places.values())
@@ -200,6 +282,19 @@ class Picture:
         drawn = [self.ends(one) for one in self.shapes(group, "line", "stump")]
         assert drawn == halves, ("stumps", event + 1, drawn, halves)
         assert len(self.shapes(group, "line", "lost")) == 2 * len(halves), ("crosses", event + 1)
+        notes += [("note middle", x, y - 45, run.words(run.sent[event])) for _, _, _, x, y in halves]
+        drawn = self.notes(group)
+        assert drawn == notes, ("words of arrows", event + 1, drawn, notes)
+
+    def notes(self, under):
+        return [(one.get("class"), tenths(one.get("x")), tenths(one.get("y")), one.text) for one in self.shapes(under, "text", "note")]
+
+    def note(self, arrow, words, goes_to):
+        """The words of an arrow stand below its head on the side from which it comes, or on the other one if what the event sends goes there."""
+        _, start, _, head, y = arrow
+        from_left = start < head
+        returns = goes_to is not None and (goes_to < head) == from_left
+        return ("note", head + 60, y + 95, words) if from_left == returns else ("note end", head - 60, y + 95, words)
 
     def ends(self, line):
         return (line.get("class").split(" ")[1], *(tenths(line.get(name)) for name in ("x1", "y1", "x2", "y2")))
@@ -232,6 +327,9 @@ class Picture:
             assert drawn == wanted, ("stack", port, at, drawn, wanted)
             assert [y for x, y, to in lines if x < at < to] == [base - height(frame[1][port])], ("capacity", port, at)
             assert all(y >= base - height(frame[1][port]) for _, y, _ in drawn), ("a stack above its line", port)
+        parts = self.parts([(frame[0][port], frame[1][port]) for frame, _ in self.frames()])
+        self.check_rises("capacity", base, [(x, to, height(capacity)) for x, to, (_, capacity) in parts])
+        self.check_held(base, parts, height)
 
     def check_rates(self, conn, base):
         most = max(max(frame[2][conn]) for frame, _ in self.frames())
@@ -241,6 +339,42 @@ class Picture:
             rate, least = frame[2][conn]
             assert [y for x, y, to in rates if x < at < to] == [base - height(rate)], ("rate", conn, at)
             assert [y for x, y, to in leasts if x < at < to] == [base - height(least)], ("least", conn, at)
+        parts = self.parts([frame[2][conn] for frame, _ in self.frames()])
+        self.check_rises("rate", base, [(x, to, height(rate)) for x, to, (rate, _) in parts])
+        self.check_rises("least", base, [(x, to, height(least)) for x, to, (_, least) in parts])
+
+    def parts(self, values):
+        """The parts of the axis in which nothing of such values changes: where each begins and ends, and the values."""
+        begins = [frame for frame, value in enumerate(values) if frame == 0 or value != values[frame - 1]]
+        return [(self.edge(frame), self.edge(end), values[frame]) for frame, end in zip(begins, [*begins[1:], len(values)])]
+
+    def rises(self, name, base):
+        """The upright parts of a line in a band."""
+        found = []
+        for one in self.shapes(self.root, "line", name):
+            x, y, to, end = (tenths(one.get(part)) for part in ("x1", "y1", "x2", "y2"))
+            if x == to and base - BAND <= min(y, end) and max(y, end) <= base:
+                found.append((x, y, end))
+        return found
+
+    def check_rises(self, name, base, parts):
+        """A line goes upright from one height to the next, where a part begins, and nowhere else."""
+        wanted = [(x, base - old, base - new) for (_, _, old), (x, _, new) in zip(parts, parts[1:]) if old != new]
+        assert self.rises(name, base) == wanted, ("steps", name, self.rises(name, base), wanted)
+
+    def check_held(self, base, parts, height):
+        """Each block has the words of what is held, if there is room for them, and no other has."""
+        wanted = []
+        for x, to, (stack, _) in parts:
+            below = 0
+            for conn, held in enumerate(stack):
+                top, bottom = height(below + held), height(below)
+                below += held
+                words = f"{conn}: {short(held)}"
+                if held and top - bottom >= 90 and to - x >= len(words) * SIGN_IN_BLOCK + 40:
+                    wanted.append(("note", x + 30, base - top + (top - bottom) // 2 + 30, words))
+        drawn = [note for note in self.notes(self.root) if note[0] == "note" and base - BAND <= note[2] <= base]
+        assert drawn == wanted, ("words of blocks", drawn, wanted)
 
     def flat(self, name, base):
         """The level parts of a line in a band."""
@@ -370,6 +504,52 @@ def check_shown(program, room):
     assert out.read_text() == (ROOT / "docs" / "two_ports.svg").read_text(), "docs/two_ports.svg isn't what is drawn"
 
 
+JOURNALS = '{"net":{"ports":[1],"connections":[]}}\n{"port":0,"place":0,"input":{"capacity":2},"reply":"set"}\n{"end":true}\n'
+
+
+def check_kept(program, room):
+    """Whichever write of a picture fails, the picture that was there is left as it was, and nothing else; how many were tried."""
+    (room / "library").mkdir()
+    preload = library(room / "library")
+    folder = room / "kept"
+    folder.mkdir()
+    kept, journals = folder / "kept.svg", folder / "run.jsonl"
+    journals.write_text(JOURNALS)
+    old = "kept" * 100_000
+    commands = [
+        (["draw", ROOT / "scenarios" / "two_ports.toml", "-o", kept], ""),
+        (["draw", ROOT / "scenarios" / "threads_one_source.toml", "--workers", "1", "-o", kept], ""),
+        (["audit", journals, "--draw", kept], "woven\nsafe\n"),
+    ]
+
+    def ends(words, **more):
+        kept.write_text(old)
+        done = subprocess.run([program, *words], capture_output=True, text=True, env={**os.environ, **more})
+        return done.returncode, done.stdout, done.stderr
+
+    tried = 0
+    for words, told in commands:
+        assert ends(words) == (0, told, ""), words
+        whole = kept.read_text()
+        assert whole.startswith("<svg ") and whole.endswith("</svg>\n"), ("a picture isn't whole", words)
+        assert sorted(one.name for one in folder.iterdir()) == ["kept.svg", "run.jsonl"], "a picture leaves a file beside it"
+        # What is printed may be written before the picture. The fault's own line is written behind it.
+        first = len(told) + 1
+        for number in (first, first + 1, first + 1000, first + len(whole) - 200) if preload else ():
+            ended = ends(words, LD_PRELOAD=str(preload), FAULTS_SHORT="1", FAULTS_WRITE=str(number))
+            assert ended == (1, told, "fault: write\n"), (words, number, ended)
+            assert kept.read_text() == old, ("a part of a picture replaced the old one", words, number)
+            assert sorted(one.name for one in folder.iterdir()) == ["kept.svg", "run.jsonl"], ("a part of a picture is left", words, number)
+            tried += 1
+        kept.unlink()
+        kept.mkdir()
+        done = subprocess.run([program, *words], capture_output=True, text=True)
+        assert (done.returncode, done.stdout, done.stderr) == (1, told, "fault: write\n"), (words, done)
+        assert sorted(one.name for one in folder.iterdir()) == ["kept.svg", "run.jsonl"], ("a picture that takes no name is left", words)
+        kept.rmdir()
+    return tried
+
+
 def check_columns(program, room):
     """A picture of 1,024 columns is drawn, and none of more."""
     for conns, status in ((511, 0), (512, 1)):
@@ -438,8 +618,10 @@ def main():
                 sys.exit(f"pictures: {sample.name}, woven: {error}")
         check_shown(program, Path(room))
         check_columns(program, Path(room))
+        writes = check_kept(program, Path(room))
         refusals = check_refusals(program, Path(room))
     print(f"pictures: {len(samples)} samples with {events} events are drawn as the model has them, and {refusals} refusals leave no file")
+    print(f"pictures: {writes} writes of pictures fail, and the picture that was there is left")
     print(f"pictures: {len(threads)} samples run in threads are drawn so too, each by 1, 4 and 64 link workers; {woven} events woven by 64")
 
 

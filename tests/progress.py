@@ -2,7 +2,7 @@
 
 It is drawn on standard error while a long input is read, from a file or from the standard input, and goes before anything else is
 written; standard output stays what it is without it. None is drawn of a short input, with --quiet, where standard error is no terminal,
-where TERM is dumb, or by a command that reads no long input.
+where TERM is dumb or isn't set, or by a command that reads no long input.
 
 A window of 20 columns shows what it would without the line, and the line in one row as long as it stands: a small model of a terminal
 says so. A run that Ctrl-C ends leaves the terminal's settings as they were, and lines wrapped.
@@ -81,6 +81,12 @@ class Window:
         return [bytes(row.rstrip()) for row in self.rows]
 
 
+def environment(term):
+    """The environment with such a terminal, or with none named."""
+    others = {name: value for name, value in os.environ.items() if name != "TERM"}
+    return others if term is None else {**others, "TERM": term}
+
+
 class Terminal:
     """A program in a terminal: its standard error goes there, and its standard output too, or else to a file."""
 
@@ -91,7 +97,7 @@ class Terminal:
         self.shown = b""
         self.out = tempfile.TemporaryFile()
         self.program = subprocess.Popen(
-            words, stdin=stdin, stdout=self.side if both else self.out, stderr=self.side, env={**os.environ, "TERM": term},
+            words, stdin=stdin, stdout=self.side if both else self.out, stderr=self.side, env=environment(term),
             start_new_session=True, preexec_fn=self.begin)
 
     @staticmethod
@@ -164,7 +170,7 @@ def look_at_long(program, words, file):
     look_at_drawn(words, Terminal([program, *words, file]).end(), plain, length)
     with open(file, "rb") as stdin:
         look_at_drawn(words, Terminal([program, *words], stdin).end(), plain, length)
-    for more, term in ((["--quiet"], "xterm"), ([], "dumb")):
+    for more, term in ((["--quiet"], "xterm"), ([], "dumb"), ([], None)):
         silent = Terminal([program, *words, *more, file], term=term).end()
         assert silent == plain, (words, more, term, silent[2][:80])
     look_at_narrow(program, words, file)

@@ -3,10 +3,12 @@
 A run with an allocation refused has to end as one without (the C library can do without some of its own), or with status 1,
 `fault: memory` on standard error and nothing on standard output. A picture is then the same as without, or there is none. Of `abt threads`
 the lines before may stay, and a thread that isn't started for want of memory is `fault: Thread`; its allocations come in no fixed order, so
-of these only some are tried. It is tried once more with each later allocation refused too, and has to end then as well.
+of these only some are tried. It is tried once more with each later allocation refused too, and has to end then as well. With `--explain` what
+is told behind the lines may be want of memory too, in place of the events or of the check, and each is told or that.
 
 usage: refusals.py [PROGRAM]    of this program, else the one that `./abt --prove` makes
 """
+import re
 import shutil
 import subprocess
 import sys
@@ -67,15 +69,18 @@ COMMANDS = [
     *((["run", sample.name], b"") for sample in sorted(FOLDER.glob("*.toml")) if not sample.name.startswith("threads_")),
 ]
 THREADS = (["threads", "threads_one_source.toml", "--workers", "1"], b"")
+TOLD_THREADS = (["threads", "threads_one_source.toml", "--workers", "1", "--explain"], b"")
 DRAWN_THREADS = (["draw", "threads_one_source.toml", "--workers", "1", "-o", "PICTURE.svg"], b"")
 # Each later allocation is refused too.
 LASTING = {"FAULTS_LASTING": "1"}
-TRIALS = [*((command, {}) for command in COMMANDS), (THREADS, {}), (DRAWN_THREADS, {}), (THREADS, LASTING)]
+TRIALS = [*((command, {}) for command in COMMANDS), (THREADS, {}), (TOLD_THREADS, {}), (DRAWN_THREADS, {}), (THREADS, LASTING)]
 THREADS_TRIED = 400
 MOST_TRIED = 5_000
 AT_ONCE = 2
 BATCH = 32
 SECONDS = 60
+# The events of a run: how many, a line for each, and more lines that are no fault's and not the last one of a check.
+EVENTS = re.compile(r"events: (\d+), granted: \d+, refused: \d+\n((?:\d+ .*\n)*)(?:(?!faults?:).*\n)*")
 HANG = ("", f"no end after {SECONDS} seconds", None, {})
 
 
@@ -89,7 +94,15 @@ def run(program, preload, command, **more):
     if command is DRAWN_THREADS:
         # A run in threads goes otherwise each time: that its picture is whole must do.
         drawn = {kind: text.endswith("</svg>\n") for kind, text in drawn.items()}
-    return done.stdout.decode(), done.stderr.decode(), done.returncode, drawn
+    told = done.stderr.decode()
+    return done.stdout.decode(), in_short(told) if command is TOLD_THREADS else told, done.returncode, drawn
+
+
+def in_short(told):
+    """What a run in threads tells, its events as one word where they are told whole: they are others each time."""
+    events = EVENTS.match(told)
+    is_whole = events and int(events[1]) == events[2].count("\n") > 0
+    return "events\n" + told[events.end():] if is_whole else told
 
 
 def refused(program, preload, folder, command, more, number):
@@ -126,12 +139,16 @@ def beginnings(text):
 def faults(program, preload, folder, command, more):
     """The refusals of a command that end otherwise, how many there are, and how many are told."""
     without = run(program, preload, command)
-    with_threads = command in (THREADS, DRAWN_THREADS)
-    texts = LINES if command is THREADS else beginnings(without[0]) if "--stdin" in command[0] else ("",)
+    with_threads = command in (THREADS, TOLD_THREADS, DRAWN_THREADS)
+    texts = LINES if command in (THREADS, TOLD_THREADS) else beginnings(without[0]) if "--stdin" in command[0] else ("",)
     allowed = [(text, MEMORY, 1, {}) for text in texts]
     if "--draw" in command[0]:
         # The picture comes behind what is printed; and it is drawn though the words of a fault were refused memory.
         allowed += [(without[0], MEMORY, 1, {}), (without[0], without[1] + MEMORY, 1, {}), ("", MEMORY, 1, without[3])]
+    if command is TOLD_THREADS:
+        check = without[1].removeprefix("events\n")
+        allowed += [(text, fault + check, 1, {}) for text in texts for fault in (MEMORY, "fault: Thread\n")]
+        allowed += [(without[0], MEMORY + check, 0, {}), (without[0], "events\n" + MEMORY, 0, {})]
     if with_threads:
         allowed.append(("", "fault: Thread\n", 1, {}))
     ends = ends_of(program, preload, folder, command, more, THREADS_TRIED if with_threads else MOST_TRIED)

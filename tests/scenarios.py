@@ -7,24 +7,20 @@ scenarios/model has to say the same of each sample, and of stories that were wor
 text that is too long, a file that isn't there, an output that takes nothing, and words that are refused. The worked explanation of
 docs/EXPLAIN.md has to be what `abt explain` prints of its scenario.
 
-usage: scenarios.py [PROGRAM..]    as each of these programs prints it, else the proved program, which `./abt --prove` makes where need be
+usage: scenarios.py PROGRAM..
 """
 import os
 import re
 import subprocess
 import sys
-import tempfile
 from pathlib import Path
 
-ROOT = Path(__file__).resolve().parent.parent
-FOLDER = ROOT / "scenarios"
-INDEX = ROOT / "docs" / "SCENARIOS.md"
-EXPLAINED = ROOT / "docs" / "EXPLAIN.md"
+from harness import ROOT, SCENARIOS, End, main
+
 LONGEST = 16_777_216
 # What tells the name of a file that can't be opened, and why.
 NAMING = [["explain"], ["explain", "--json"], ["check"], ["check", "--json"], ["run", "--explain"], ["threads", "--workers", "1", "--explain"]]
-THROUGH = "fault: open\none_source.toml/x: its path goes through a file\n"
-LONG = "fault: open\n" + "n" * 5000 + ": the system takes no such name\n"
+ONE_FILE = "error: a file that is read or written already can't be written to\n\nFor more information, try '--help'.\n"
 
 
 def beside(sample, suffix, default):
@@ -32,98 +28,51 @@ def beside(sample, suffix, default):
     return file.read_text() if file.is_file() else default
 
 
-def run(program, words, text=b""):
-    done = subprocess.run([program, *words], cwd=FOLDER, input=text, capture_output=True, timeout=300)
-    return done.stdout.decode(), done.stderr.decode(), done.returncode
-
-
-def differences(name, wanted, given):
-    for what, want, have in zip(("output", "standard error", "status"), wanted, given):
-        if want != have:
-            yield f"{name}: the {what} is {have!r}, not {want!r}"
-
-
-def of_sample(program, sample):
-    wanted = (
-        beside(sample, ".stdout", None),
-        beside(sample, ".stderr", ""),
-        int(beside(sample, ".status", "0")),
-    )
+def try_sample(trial, sample):
+    wanted = End(int(beside(sample, ".status", "0")), beside(sample, ".stdout", None), beside(sample, ".stderr", ""))
     command, *options = beside(sample, ".args", "run\n").splitlines()
-    yield from differences(sample.name, wanted, run(program, [command, sample.name, *options]))
-    from_input = run(program, [command, *options], sample.read_bytes())
-    yield from differences(f"{sample.name} from standard input", wanted, from_input)
+    trial.wants(sample.name, wanted, trial.run(command, sample.name, *options, folder=SCENARIOS))
+    trial.wants(f"{sample.name} from standard input", wanted, trial.run(command, *options, text=sample.read_bytes()))
 
 
-def of_files_and_outputs(program):
-    """What is told of files, of lengths and of outputs for which no sample can stand."""
-    for name, words, text, line in [
-        ("a file that isn't there", ["run", "none.toml"], b"", "fault: open\n"),
-        ("a folder", ["run", "."], b"", "fault: read\n"),
-        ("a text that is too long", ["run"], b"\n" * (LONGEST + 1), "fault: TooLong\n"),
-        ("the longest text", ["run"], b"\n" * LONGEST, "fault: MissingKey ports\n"),
-        ("threads over no file", ["threads", "none.toml", "--workers", "1"], b"", "fault: open\n"),
-        ("threads over a folder", ["threads", ".", "--workers", "1"], b"", "fault: read\n"),
-        *((f"no file for {words}", [*words, "none.toml"], b"", "fault: open\nnone.toml: there is no such file\n") for words in NAMING),
-        *((f"a folder for {words}", [*words, "."], b"", "fault: read\n.: it is a folder\n") for words in NAMING),
-        *((f"a path through a file for {words}", [*words, "one_source.toml/x"], b"", THROUGH) for words in NAMING),
-        *((f"a name of 5,000 octets for {words}", [*words, "n" * 5000], b"", LONG) for words in NAMING),
-    ]:
-        yield from differences(name, ("", line, 1), run(program, words, text))
-    beyond = "one_source.toml/x"
-    for name, words in [
-        ("a path through a file", ["run", beyond]),
-        ("a path through a file, with threads", ["threads", beyond, "--workers", "1"]),
-        ("a name of 5,000 octets", ["run", "n" * 5000]),
-        ("a name of 5,000 octets, with threads", ["threads", "n" * 5000, "--workers", "1"]),
-    ]:
-        yield from differences(name, ("", "fault: open\n", 1), run(program, words))
-    with tempfile.NamedTemporaryFile(suffix=".toml") as file:
-        Path(file.name).chmod(0)
-        if not os.access(file.name, os.R_OK):
-            line = f"fault: open\n{file.name}: it may not be read\n"
-            for words in NAMING:
-                yield from differences(f"a file that may not be read for {words}", ("", line, 1), run(program, [*words, file.name]))
+def try_lengths(trial):
+    """The longest text and one octet more, and a name of 5,000 octets."""
+    trial.wants("a text that is too long", End(1, "", "fault: TooLong\n"), trial.run("run", text=b"\n" * (LONGEST + 1)))
+    trial.wants("the longest text", End(1, "", "fault: MissingKey ports\n"), trial.run("run", text=b"\n" * LONGEST))
+    name = "n" * 5000
+    for words in (["run"], ["threads", "--workers", "1"]):
+        trial.wants(f"a name of 5,000 octets for {words}", End(1, "", "fault: open\n"), trial.run(*words, name))
+    for words in NAMING:
+        wanted = End(1, "", f"fault: open\n{name}: the system takes no such name\n")
+        trial.wants(f"a name of 5,000 octets for {words}", wanted, trial.run(*words, name))
+
+
+def try_rights(trial):
+    """A file that may not be read (but by a user who may read all), and an output that takes nothing."""
+    file = trial.folder / "locked.toml"
+    file.touch(mode=0)
+    if not os.access(file, os.R_OK):
+        for words in NAMING:
+            wanted = End(1, "", "fault: open\nlocked.toml: it may not be read\n")
+            trial.wants(f"a file that may not be read for {words}", wanted, trial.run(*words, file.name))
     if Path("/dev/full").exists():
         for words in (["run", "one_source.toml"], ["explain", "one_source.toml"], ["rate", "53e8"], ["--help"], ["help", "port"]):
             with open("/dev/full", "wb") as full:
-                done = subprocess.run([program, *words], cwd=FOLDER, stdout=full, stderr=subprocess.PIPE)
-            given = ("", done.stderr.decode(), done.returncode)
-            yield from differences(f"{words} to an output that takes nothing", ("", "fault: write\n", 1), given)
+                done = subprocess.run([trial.program, *words], cwd=SCENARIOS, stdout=full, stderr=subprocess.PIPE)
+            trial.wants(f"{words} to an output that takes nothing", (1, b"fault: write\n"), (done.returncode, done.stderr))
 
 
-def of_words(program):
-    """What is told of words that are refused. `clap` writes most of these texts."""
-    more = "\n\nFor more information, try '--help'.\n"
-    count = "error: there are 1 to 64 link workers, a decimal number, digits alone"
-    limit = "error: a capacity is a decimal number of at most 2^60, digits alone"
-    for words, line in [
-        (["rate", b"\xff"], "error: a word is no UTF-8 text\n"),
-        (["run", b"\xffone_source.toml"], "error: a word is no UTF-8 text\n"),
-        ([b"\xff"], "error: a word is no UTF-8 text\n"),
-        (["port", "+5", "00"], limit + more),
-        (["threads", "threads_one_source.toml", "--workers", "+4"], count + more),
-    ]:
-        yield from differences(f"the words {words}", ("", line, 2), run(program, words))
-    for words, part in [
-        ([], "Usage: abt <COMMAND>"),
-        (["none"], "error: unrecognized subcommand 'none'"),
-        (["rate"], "error: the following required arguments were not provided"),
-        (["port", "1152921504606846977", "00"], "error: invalid value '1152921504606846977' for '<CAPACITY>'"),
-        (["threads", "threads_one_source.toml"], "error: the following required arguments were not provided"),
-        (["threads", "threads_one_source.toml", "--workers", "0"], "error: invalid value '0' for '--workers <N>'"),
-        (["threads", "threads_one_source.toml", "--workers", "65"], "error: invalid value '65' for '--workers <N>'"),
-        (["threads", "threads_one_source.toml", "--workers", "x"], "error: invalid value 'x' for '--workers <N>'"),
-    ]:
-        output, told, status = run(program, words)
-        if output or status != 2 or part not in told:
-            yield f"the words {words}: the output is {output!r}, the status {status}, and {told!r} is told"
+def try_octets(trial):
+    """Words that are no text."""
+    for words in (["rate", b"\xff"], ["run", b"\xffone_source.toml"], [b"\xff"]):
+        trial.wants(f"the words {words}", End(2, "", "error: a word is no UTF-8 text\n"), trial.run(*words))
 
 
-def of_one_file(program):
+def try_one_file(trial):
     """Words that name a file to be written which is read too, or is to be written twice: they are refused, and the file stays as it is."""
-    line = "error: a file that is read or written already can't be written to\n\nFor more information, try '--help'.\n"
     threads = ["--workers", "4"]
+    file = trial.folder / "a.svg"
+    before = (SCENARIOS / "threads_one_source.toml").read_bytes()
     for words in [
         ["threads", "a.svg", *threads, "--journals", "a.svg"],
         ["threads", "a.svg", *threads, "--events", "a.svg"],
@@ -139,55 +88,37 @@ def of_one_file(program):
         ["audit", "a.svg", "--draw", "b.svg", "--events", "b.svg"],
         ["audit", "--draw", "a.svg", "--events", "a.svg"],
     ]:
-        with tempfile.TemporaryDirectory() as room:
-            file = Path(room, "a.svg")
-            file.write_bytes((FOLDER / "threads_one_source.toml").read_bytes())
-            before = file.read_bytes()
-            done = subprocess.run([program, *words], cwd=room, input=before, capture_output=True)
-            yield from differences(f"the words {words}", ("", line, 2), (done.stdout.decode(), done.stderr.decode(), done.returncode))
-            if [it.name for it in Path(room).iterdir()] != ["a.svg"] or file.read_bytes() != before:
-                yield f"the words {words}: the files aren't as they were"
+        file.write_bytes(before)
+        trial.wants(f"the words {words}", End(2, "", ONE_FILE), trial.run(*words, text=before))
+        if list(trial.folder.glob("[ab].svg*")) != [file] or file.read_bytes() != before:
+            trial.fail(f"the words {words}: the files aren't as they were")
 
 
-def of_explanation(program):
+def try_explanation(trial):
     """The worked explanation, of its scenario as a file and from the standard input, where a file that is named is the one that is explained."""
-    scenario, explanation = re.findall(r"^```\n(.*?)^```$", EXPLAINED.read_text(), flags=re.M | re.S)[:2]
-    wanted = (explanation, "", 0)
-    with tempfile.NamedTemporaryFile(suffix=".toml") as file:
-        file.write(scenario.encode())
-        file.flush()
-        yield from differences("the worked explanation", wanted, run(program, ["explain", file.name], b"ports = []"))
-    yield from differences("the worked explanation from standard input", wanted, run(program, ["explain"], scenario.encode()))
+    scenario, explanation = re.findall(r"^```\n(.*?)^```$", (ROOT / "docs" / "EXPLAIN.md").read_text(), flags=re.M | re.S)[:2]
+    file = trial.folder / "worked.toml"
+    file.write_text(scenario)
+    trial.wants("the worked explanation", End(0, explanation), trial.run("explain", file, text="ports = []"))
+    trial.wants("the worked explanation from standard input", End(0, explanation), trial.run("explain", text=scenario))
 
 
-def of_model():
+def try_model(trial):
     for name in ("rows.py", "samples.py"):
-        done = subprocess.run([sys.executable, "-B", FOLDER / "model" / name], capture_output=True, text=True)
+        done = subprocess.run([sys.executable, "-B", SCENARIOS / "model" / name], capture_output=True, text=True)
         if done.returncode:
-            yield f"model/{name}: {done.stdout}{done.stderr}"
+            trial.fail(f"model/{name}: {done.stdout}{done.stderr}")
 
 
-def main(programs):
-    samples = sorted(FOLDER.glob("*.toml"))
-    index = INDEX.read_text()
-    found = [f"{INDEX.name} doesn't name {sample.name}" for sample in samples if f"scenarios/{sample.name}" not in index]
-    found += of_model()
-    for program in programs:
-        told = [line for sample in samples for line in of_sample(program, sample)]
-        told += of_files_and_outputs(program)
-        told += of_words(program)
-        told += of_one_file(program)
-        told += of_explanation(program)
-        found += [f"{program.name}: {line}" for line in told]
-    for line in found:
-        print(f"scenarios: {line}")
-    print(f"scenarios: {len(samples)} samples, {len(found)} differences")
-    sys.exit(1 if found or not samples else 0)
+def look(trial):
+    samples, index = sorted(SCENARIOS.glob("*.toml")), (ROOT / "docs" / "SCENARIOS.md").read_text()
+    for sample in samples:
+        if f"scenarios/{sample.name}" not in index:
+            trial.fail(f"docs/SCENARIOS.md doesn't name {sample.name}")
+        try_sample(trial, sample)
+    for part in (try_model, try_lengths, try_rights, try_octets, try_one_file, try_explanation):
+        part(trial)
+    return f"{len(samples)} samples, {trial.cases('files_and_words')} cases"
 
 
-def proved():
-    subprocess.run([ROOT / "abt", "--prove"], check=True)
-    return ROOT / "crates" / "abt" / "out" / "abt"
-
-
-main([Path(word).resolve() for word in sys.argv[1:]] or [proved()])
+main(look)

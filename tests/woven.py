@@ -9,15 +9,10 @@ files that can't be made or written, scenarios that can't run, and the worked te
 usage: woven.py PROGRAM..
 """
 import re
-import subprocess
-import sys
-import tempfile
 from pathlib import Path
 
-ROOT = Path(__file__).resolve().parent.parent
-FOLDER = ROOT / "scenarios"
-sys.path.insert(0, str(FOLDER / "model"))
-from model import run as model_run  # noqa: E402
+from harness import ROOT, SCENARIOS, Trial, main
+from model import run as model_run
 
 SHOWN = "gathered\nwoven\nsafe\n"
 HEAD = re.compile(r"events: (\d+), granted: (\d+), refused: (\d+)\n")
@@ -27,20 +22,7 @@ TOLD = re.compile(r"told-(?:yes|no) (\d+) (\d+): told (Raised|Refused)$")
 TRIES = 20
 
 
-class Teller:
-    def __init__(self, program, folder):
-        self.program, self.folder = program, Path(folder)
-        self.runs, self.found = 0, []
-
-    def run(self, *words):
-        self.runs += 1
-        done = subprocess.run([self.program, *map(str, words)], cwd=self.folder, capture_output=True, timeout=300)
-        return done.returncode, done.stdout.decode(), done.stderr.decode()
-
-    def wants(self, what, wanted, given):
-        if wanted != given:
-            self.found.append(f"{what}: {given!r} in place of {wanted!r}")
-
+class Teller(Trial):
     def threads(self, sample, workers, *options):
         return self.run("threads", sample, "--workers", workers, *options)
 
@@ -64,7 +46,7 @@ def telling_of(teller, what, written):
     report = teller.run("run", written)
     teller.wants(f"{what}, the report of the slow model", model_run(octets), report)
     if not report[1].endswith("\nsafe\n"):
-        teller.found.append(f"{what}: what is written isn't safe: {report!r}")
+        teller.fail(f"{what}: what is written isn't safe: {report!r}")
     explanation = re.sub(r"^(\d+) line \d+ ", r"\1 ", teller.run("explain", written)[1], flags=re.M)
     answers = answers_in(explanation)
     counts = [sum(f" is {verdict} " in one for one in answers) for verdict in ("granted", "refused")]
@@ -85,7 +67,7 @@ def try_sample(teller, sample, workers):
     telling_of(teller, f"{what}, the events alone", out)
     status, shown, told = teller.threads(sample, workers, "--explain")
     if (status, shown) != (0, SHOWN) or not HEAD.match(told) or not told.endswith(check):
-        teller.found.append(f"{what}, the telling alone: {(status, shown, told)!r}")
+        teller.fail(f"{what}, the telling alone: {(status, shown, told)!r}")
 
 
 def try_unfit(teller, sample):
@@ -97,12 +79,12 @@ def try_unfit(teller, sample):
     teller.wants(f"{sample.name}, both", (status, shown, told + check), teller.threads(sample, 4, "--explain", "--events", out))
     teller.wants(f"{sample.name}, its events", (status, shown, told), teller.threads(sample, 4, "--events", out))
     if out.exists():
-        teller.found.append(f"{sample.name}: the file of its events is made")
+        teller.fail(f"{sample.name}: the file of its events is made")
 
 
 def try_files(teller):
     """Files that can't be made or written, with the events told behind that."""
-    sample = FOLDER / "threads_crossing.toml"
+    sample = SCENARIOS / "threads_crossing.toml"
     check = teller.run("check", sample)[1]
     for out, line in [
         (teller.folder / "none" / "events.toml", "fault: events open\n"),
@@ -111,12 +93,12 @@ def try_files(teller):
         teller.wants(f"events to {out.name}", (1, SHOWN, line), teller.threads(sample, 4, "--events", out))
         status, shown, told = teller.threads(sample, 4, "--explain", "--events", out)
         if (status, shown) != (1, SHOWN) or not HEAD.match(told.removeprefix(line)) or not told.startswith(line) or not told.endswith(check):
-            teller.found.append(f"events to {out.name}, and told: {(status, shown, told)!r}")
+            teller.fail(f"events to {out.name}, and told: {(status, shown, told)!r}")
     none = teller.folder / "none.toml"
     teller.wants("no scenario", (1, "", "fault: open\nnone.toml: there is no such file\n"), teller.run("threads", none.name, "--workers", 4, "--events", "unmade"))
     status, shown, told = teller.threads(sample, 4, "--events", "e", "--journals", "j")
     if (status, shown) != (2, "") or "cannot be used with" not in told:
-        teller.found.append(f"events and journals: {(status, shown, told)!r}")
+        teller.fail(f"events and journals: {(status, shown, told)!r}")
 
 
 def try_worked(teller):
@@ -129,26 +111,20 @@ def try_worked(teller):
         status, shown, told = teller.threads(ROOT / found[1], 1, "--explain")
         if status == 0 and shown + told == found[2]:
             return
-    teller.found.append(f"the worked telling: {shown + told!r} in place of {found[2]!r}")
+    teller.fail(f"the worked telling: {shown + told!r} in place of {found[2]!r}")
 
 
-def main(program):
-    with tempfile.TemporaryDirectory() as folder:
-        teller = Teller(Path(program).resolve(), folder)
-        samples = sorted(FOLDER.glob("threads_*.toml"))
-        for sample in samples:
-            if Path(f"{sample}.stdout").read_text() != SHOWN:
-                try_unfit(teller, sample)
-                continue
-            for workers in (1, 4, 64):
-                try_sample(teller, sample, workers)
-        try_files(teller)
-        try_worked(teller)
-    for difference in teller.found:
-        print(f"woven: {difference}")
-    print(f"woven: {len(samples)} samples, {teller.runs} commands, {len(teller.found)} differences")
-    return not teller.found
+def look(teller):
+    samples = sorted(SCENARIOS.glob("threads_*.toml"))
+    for sample in samples:
+        if Path(f"{sample}.stdout").read_text() != SHOWN:
+            try_unfit(teller, sample)
+            continue
+        for workers in (1, 4, 64):
+            try_sample(teller, sample, workers)
+    try_files(teller)
+    try_worked(teller)
+    return f"{len(samples)} samples"
 
 
-if __name__ == "__main__":
-    sys.exit(0 if all([main(program) for program in sys.argv[1:]]) else 1)
+main(look, Teller)

@@ -1,4 +1,5 @@
 """Commands that a tool starts, and folders of work that isn't whole yet: an interrupt ends the first and removes the second."""
+import contextlib
 import os
 import shutil
 import signal
@@ -89,12 +90,14 @@ def clear(folder):
         if not folder.exists():
             break
         time.sleep(0.05)
-    rooms.remove(folder)
+    # Another thread may have been quicker.
+    with contextlib.suppress(ValueError):
+        rooms.remove(folder)
 
 
 def clear_rooms():
-    while rooms:
-        clear(rooms[-1])
+    for folder in list(rooms):
+        clear(folder)
 
 
 def end_on_signals(tool):

@@ -18,6 +18,12 @@ ROOT = Path(__file__).resolve().parents[2]
 HELP = ROOT / "man" / "help"
 # What the help calls a file that an option writes.
 OUT = "OUT"
+STATUSES = [
+    (0, "It is done."),
+    (1, "There is a fault, which standard error names; abt check prints those of its text."),
+    (2, "The words are refused, which standard error tells, or no command is named."),
+    (70, "The script ./abt of a clone can make no program."),
+]
 VERSION = re.search(r"^## (\d+\.\d+\.\d+)", (ROOT / "CHANGELOG.md").read_text(), re.M)[1]
 
 
@@ -108,6 +114,7 @@ def manual(program, them):
         parts += [f".SS abt {it.name}", escaped(it.about) + ".", *described(it)]
         if it.after:
             parts += told_after(it.after)
+    parts += [".SH EXIT STATUS", *(f".TP\n\\fB{status}\\fR\n{escaped(told)}" for status, told in STATUSES)]
     parts += [".SH EXAMPLES", *told_after(program.after), ".SH SEE ALSO\n.BR abt_formats (5), abt (3)"]
     return "\n".join(parts) + "\n"
 

@@ -9,12 +9,17 @@ def escaped(text):
 
 
 def inline(text):
-    """A line of Markdown: code and what is strong become bold, a link its text."""
+    """The lines of a paragraph in Markdown: code and what is strong become bold, a link its text, also where it goes over the end of a line."""
     text = re.sub(r"\[([^\]]+)\]\([^)]+\)", r"\1", text)
     parts = re.split(r"(`[^`]+`|\*\*[^*]+\*\*)", text)
-    told = [f"\\fB{escaped(it.strip('`*'))}\\fR" if re.match(r"`[^`]|\*\*", it) else escaped(it).replace("\\&", "") for it in parts]
-    told = "".join(told)
-    return "\\&" + told if told[:1] in (".", "'") else told
+    told = [f"\\fB{escaped(it.strip('`*'))}\\fR" if re.match(r"`[^`]|\*\*", it) else escaped(it) for it in parts]
+    return re.sub(r"^([.'])", r"\\&\1", "".join(told).replace("\\&", ""), flags=re.M)
+
+
+def paragraph(lines, at):
+    """The end of the paragraph, or the item of a list, that begins at a line."""
+    other = re.compile(r"\s*$|```|\||#|\s*(?:[-*]|\d+\.)\s")
+    return next((k for k in range(at + 1, len(lines)) if other.match(lines[k])), len(lines))
 
 
 def table(rows):
@@ -49,13 +54,16 @@ def page_of(text, name, number, version):
         if line.startswith("#"):
             depth, heading = re.match(r"(#+)\s+(.*)", line).groups()
             out.append(f"{'.SH' if len(depth) == 2 else '.SS'} {inline(heading)}")
-        elif item := re.match(r"\s*(?:[-*]|\d+\.)\s+(.*)", line):
-            out.append(f".IP \\(bu 2\n{inline(item[1])}")
+            at += 1
         elif not line.strip():
             out.append(".PP")
+            at += 1
         else:
-            out.append(inline(line.strip()))
-        at += 1
+            end = paragraph(lines, at)
+            item = re.match(r"\s*(?:[-*]|\d+\.)\s+", line)
+            told = "\n".join(it.strip() for it in [line[item.end() if item else 0 :], *lines[at + 1 : end]])
+            out.append(f".IP \\(bu 2\n{inline(told)}" if item else inline(told))
+            at = end
     return "\n".join(merged(out)) + "\n"
 
 

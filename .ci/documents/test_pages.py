@@ -29,6 +29,12 @@ def shown(page):
     return re.sub(r"\x1b\[[0-9;]*m|.\x08", "", done.stdout)
 
 
+def raw(page):
+    """The marks of Markdown that a page still has, its examples left out."""
+    text = re.sub(r"^\.nf$.*?^\.fi$", "", page.read_text(), flags=re.M | re.S)
+    return re.findall(r"`|\*\*|\]\(", text)
+
+
 def completed(*words):
     """What bash completes at the last of some words."""
     given = " ".join(f"'{word}'" for word in words)
@@ -40,6 +46,9 @@ def faults():
     texts = {file.name: file.read_text() for file in (ROOT / "man" / "help").iterdir()}
     names = re.findall(r"^  ([a-z]+)  ", texts["abt"].split("Commands:\n", 1)[1].split("\n\n", 1)[0], re.M)
     flags = {name: re.findall(r"(?<![\w-])--?[a-z][\w-]*", texts[f"abt-{name}"].partition("\nOptions:\n")[2].partition("\n\n")[0]) for name in names}
+    for page in sorted((ROOT / "man").glob("*.[1-9]")):
+        if told := raw(page):
+            yield f"{page.name}: {' '.join(told)} stand in it as in Markdown"
     if shutil.which("man"):
         for page in sorted((ROOT / "man").glob("*.[1-9]")):
             if told := warnings(page):

@@ -3,7 +3,7 @@
 #![tactic(auto)]
 
 use abt_commands::answer_words;
-use abt_progress::{Cleared, Progress, Watched};
+use abt_progress::{Cleared, Progress, Watched, draws_line};
 use abt_tasks::{carry_out_task, given_task};
 use std::env;
 use std::io::IsTerminal;
@@ -17,7 +17,13 @@ fn main(rt: HostRuntime) -> ExitCode {
             return ExitCode::from(status);
         }
     };
-    let terminal = if asked.shows_progress() && draws_lines(&rt) {
+    let is_terminal = rt.stderr().is_terminal();
+    let kind = kind_of_terminal(&rt);
+    let kind = match &kind {
+        Some(kind) => Some(kind.as_str()),
+        None => None,
+    };
+    let terminal = if draws_line(asked.shows_progress(), is_terminal, kind) {
         Some(rt.stderr())
     } else {
         None
@@ -38,13 +44,7 @@ fn main(rt: HostRuntime) -> ExitCode {
     ExitCode::from(status)
 }
 
-// Whether standard error is a terminal on which a line can be drawn anew.
-fn draws_lines(rt: &HostRuntime) -> bool {
-    if !rt.stderr().is_terminal() {
-        return false;
-    }
-    match env::var(rt, "TERM") {
-        Ok(kind) => kind.as_str() != "dumb",
-        Err(_) => false,
-    }
+// The kind of terminal that the environment names, if it names one.
+fn kind_of_terminal(rt: &HostRuntime) -> Option<String> {
+    env::var(rt, "TERM").ok()
 }

@@ -4,7 +4,7 @@ use Rattle.clap.specs.declared.parser.matches.ArgMatches.{ArgMatches}
 use Rattle.clap.specs.Words.{found_of, first_value, matched_of, raw_values, one_text}
 use Rattle.abt_rate.specs.Limits.{capacity_max, AreWorkers}
 use Rattle.abt_text.specs.Text.{Text}
-use Rattle.abt_text.specs.Words.{number_of}
+use Rattle.abt_commands.specs.Decimal.{decimal_in}
 use Rattle.abt_perform.specs.declared.plan.Plan.{Plan}
 use Rattle.abt_perform.specs.declared.plan.Plan.TheVariants.{Rate, Cell, Port, Run, Threads}
 use Rattle.abt_perform.specs.declared.plan.WordsFault.{WordsFault}
@@ -24,11 +24,11 @@ words_in found name = unwrap_or (option_map raw_values (matched_of (found_of fou
 
 -- The word says a capacity, of at most 2^60.
 abbrev pub IsCapacity : (word : Text) → ℕ → Type 0
-IsCapacity word capacity = (number_of word ≡ Some capacity) × (capacity ≤ capacity_max)
+IsCapacity word capacity = (decimal_in word ≡ Some capacity) × (capacity ≤ capacity_max)
 
 -- The word says how many link workers there are, 1 to 64.
 abbrev pub IsCount : (word : Text) → ℕ → Type 0
-IsCount word workers = (number_of word ≡ Some workers) × AreWorkers workers
+IsCount word workers = (decimal_in word ≡ Some workers) × AreWorkers workers
 
 -- The command is the one that is named, and its texts, its file and its number are those that stand there.
 abbrev pub IsPlanOf : (name : Text) → ArgMatches → Plan → Type 0

@@ -3,6 +3,7 @@
 
 mod carrying;
 mod command;
+mod decimal;
 mod telling;
 mod words;
 

@@ -7,9 +7,9 @@ ghost use Rattle.abt_commands.specs.Words.{IsCapacity, IsCommand, IsCount, IsEls
 use crate::command::{
     CAPACITY, CODE, EVENTS, FILE, HEX, JOURNALS, JSON, STDIN, WORKERS, add_commands, program,
 };
+use crate::decimal::decimal_of;
 use abt_perform::{Plan, WordsFault};
 use abt_rate::{CAPACITY_MAX, WORKERS_MAX};
-use abt_text::u64_of;
 use clap::ArgMatches;
 use clap::error::ErrorKind;
 use std::alloc::{AllocError, Global};
@@ -25,7 +25,7 @@ const WORKERS_RULE: &str = "there are 1 to 64 link workers, a decimal number, di
 
 /// The plan that the words behind the program's name ask for, if they name one of the commands of this crate.
 ///
-/// `clap` decides which words are refused, and writes what is told then, and the help; a number is 1 to 19 digits, and nothing else.
+/// `clap` decides which words are refused, and writes what is told then, and the help; a number is decimal digits, and nothing else.
 pub fn plan_words<'a>(alloc: Global, words: &'a [&'a str]) -> Result<Plan, WordsFault>
     ensures limits { IfOk result IsWithinLimits }
 {
@@ -104,9 +104,9 @@ pub fn capacity_of(alloc: Global, found: &ArgMatches<'_>) -> Result<u64, WordsFa
     ensures err { IfErr result (λ fault. (fault ≡ Memory) ⊎
         ((capacity : ℕ) → IsCapacity (word_in found.now (codes "CAPACITY")) capacity → ⊥)) }
 {
-    match u64_of(found.get_str(CAPACITY).unwrap_or("")) {
-        Some(capacity) if capacity <= CAPACITY_MAX => Ok(capacity),
-        _ => Err(wrong_words(alloc, CAPACITY_RULE)?),
+    match decimal_of(found.get_str(CAPACITY).unwrap_or(""), CAPACITY_MAX) {
+        Some(capacity) => Ok(capacity),
+        None => Err(wrong_words(alloc, CAPACITY_RULE)?),
     }
 }
 
@@ -127,8 +127,9 @@ pub fn workers_of(alloc: Global, found: &ArgMatches<'_>) -> Result<u16, WordsFau
     ensures err { IfErr result (λ fault. (fault ≡ Memory) ⊎
         ((workers : ℕ) → IsCount (word_in found.now (codes "workers")) workers → ⊥)) }
 {
-    match u64_of(found.get_str(WORKERS).unwrap_or("")) {
-        Some(workers) if workers >= 1 && workers <= u64::from(WORKERS_MAX) => Ok(workers as u16),
+    let limit = u64::from(WORKERS_MAX);
+    match decimal_of(found.get_str(WORKERS).unwrap_or(""), limit) {
+        Some(workers) if workers >= 1 => Ok(workers as u16),
         _ => Err(wrong_words(alloc, WORKERS_RULE)?),
     }
 }

@@ -2,6 +2,7 @@
 #![tactic(auto)]
 
 mod cleared;
+mod deciding;
 mod drawing;
 mod line;
 mod meter;
@@ -9,5 +10,6 @@ mod progress;
 mod watched;
 
 pub use cleared::Cleared;
+pub use deciding::draws_line;
 pub use progress::Progress;
 pub use watched::Watched;

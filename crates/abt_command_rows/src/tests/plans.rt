@@ -74,6 +74,8 @@ fn words_are_plans(rt: HostRuntime) -> Result<(), Fail> {
         ("512000", 512000),
         ("0005", 5),
         ("1152921504606846976", 1152921504606846976),
+        ("00001152921504606846976", 1152921504606846976),
+        ("000000000000000000000000000000", 0),
     ] {
         is_port(
             &rt,
@@ -111,7 +113,8 @@ fn words_are_plans_for_threads(rt: HostRuntime) -> Result<(), Fail> {
         ("4", 4),
         ("64", 64),
         ("004", 4),
-        ("0000000000000000004", 4),
+        ("00000000000000000004", 4),
+        ("000000000000000000000000000064", 64),
     ] {
         is_threads(&rt, alloc, &["threads", "--workers", word], number, None)?;
     }
@@ -165,7 +168,10 @@ fn link_workers_are_one_to_64_in_digits_alone(rt: HostRuntime) {
         "0x4",
         "65540",
         "18446744073709551620",
-        "00000000000000000004",
+        "00000000000000000000",
+        "00000000000000000065",
+        "0000000000000000004x",
+        "999999999999999999999999999999",
     ] {
         workers_refused(&rt, alloc, word);
     }
@@ -189,8 +195,10 @@ fn other_words_are_refused(rt: HostRuntime) {
     refused(&rt, alloc, &["port", "", A]);
     refused(&rt, alloc, &["port", "5k", A]);
     refused(&rt, alloc, &["port", "1152921504606846977", A]);
-    refused(&rt, alloc, &["port", "99999999999999999999", A]);
-    refused(&rt, alloc, &["port", "00000000000000512000", A]);
+    refused(&rt, alloc, &["port", "00001152921504606846977", A]);
+    refused(&rt, alloc, &["port", "18446744073709551616", A]);
+    refused(&rt, alloc, &["port", "999999999999999999999999999999", A]);
+    refused(&rt, alloc, &["port", "0000000000000000000000000000x5", A]);
     refused(&rt, alloc, &["rate"]);
     refused(&rt, alloc, &["rate", "53e8", "53e8"]);
     refused(&rt, alloc, &["cell"]);

@@ -161,12 +161,48 @@ fn of_a_text_that_breaks_off_the_beginning_went_out(rt: HostRuntime) -> Result<(
         assert_eq!(rt; put(&mut narrow, text), Err(Unwritten));
         assert_eq!(rt; narrow.taken.as_slice(), &text[..room]);
     }
-    let mut stuck = Narrow {
-        piece: 0,
-        room: 5,
-        taken: Vec::new(rt.alloc()),
-    };
-    assert_eq!(rt; put(&mut stuck, text), Err(Unwritten));
+    Ok(())
+}
+
+// A writer that takes at most five octets a call, and none behind so many calls.
+#[derive(Drop)]
+struct Stuck {
+    calls: usize,
+    taken: Vec<u8>,
+}
+
+impl Write for Stuck {
+    fn write(&mut self, buf: &[u8]) -> io::Result<usize> {
+        if self.calls == 0 {
+            return Ok(0);
+        }
+        self.calls -= 1;
+        let count = buf.len().min(5);
+        self.taken.extend_from_slice(&buf[..count])?;
+        Ok(count)
+    }
+
+    fn flush(&mut self) -> io::Result<()> {
+        Ok(())
+    }
+}
+
+#[test]
+fn a_writer_that_takes_no_octet_at_a_write_is_told(rt: HostRuntime) -> Result<(), Fail> {
+    let text = b"total 307200\n";
+    for (calls, taken, end) in [
+        (0, 0, Err(Unwritten)),
+        (1, 5, Err(Unwritten)),
+        (2, 10, Err(Unwritten)),
+        (3, 13, Ok(())),
+    ] {
+        let mut stuck = Stuck {
+            calls,
+            taken: Vec::new(rt.alloc()),
+        };
+        assert_eq!(rt; put(&mut stuck, text), end);
+        assert_eq!(rt; stuck.taken.as_slice(), &text[..taken]);
+    }
     Ok(())
 }
 

@@ -8,12 +8,13 @@ use std::sync::Wait;
 use std::test::Fail;
 use std::thread::Threads;
 
-/// Three sources whose paths cross on two ports. None listens for long, since an answer that was lost never comes.
+/// Three sources whose paths cross on two ports (scenarios/threads_crossing.toml). None listens for long, since an answer that was lost
+/// never comes.
 const CROSSING_BRIEFLY: &str = "ports = [512000, 512000]\n\
 [[connection]]\nvpi = 1\nvci = 100\npath = [0, 1]\ndelay = 1000\ntau = 200\n\
-script = [\"start 0\", \"ask 5120\", \"listen 2000\", \"emit 1000000000000 0\", \"again\", \"listen 2000\"]\n\
+script = [\"start 0\", \"ask 5120\", \"listen 2000\", \"emit 1000000000000 0\", \"ask 5258\", \"listen 2000\"]\n\
 [[connection]]\nvpi = 1\nvci = 101\npath = [1, 0]\ndelay = 1000\ntau = 200\n\
-script = [\"start 0\", \"ask 5258\", \"listen 2000\", \"emit 1000000000000 200\", \"crash\", \"start 1000000000001\", \"ask 5120\", \"listen 2000\"]\n\
+script = [\"start 0\", \"ask 5258\", \"listen 2000\", \"emit 1000000000000 200\", \"crash\", \"start 1000000000001\", \"ask 5120\"]\n\
 [[connection]]\nvpi = 1\nvci = 102\npath = [0]\ndelay = 0\ntau = 0\n\
 script = [\"start 0\", \"ask 5120\", \"again\", \"listen 2000\", \"emit 1000000000000 lost\"]\n";
 

@@ -4,6 +4,7 @@ use super::{EXAMPLE, EXAMPLE_REPORT};
 use abt_scenario::{EngineFault, run_text};
 use std::alloc::Global;
 use std::io::{self, Error, ErrorKind, Write};
+use std::process::Abort;
 use std::test::Fail;
 
 /// A writer that takes at most `piece` octets a call, `room` in all, and then fails.
@@ -100,14 +101,51 @@ fn of_a_writer_with_room_for_ten_octets_ten_are_taken(rt: HostRuntime) {
     assert_eq!(rt; out.taken(), b"events 7\n1".as_slice());
 }
 
-#[test]
-fn a_writer_that_takes_no_octet_is_told(rt: HostRuntime) {
-    let mut out = Narrow::new(0, 1024);
-    assert_eq!(rt;
-        slow_run(rt.alloc(), EXAMPLE.len() + 1, &mut out),
+/// A writer that takes at most seven octets a call, and none behind so many calls.
+#[derive(Drop)]
+struct Stuck {
+    calls: usize,
+    inside: Narrow,
+}
+
+impl Write for Stuck {
+    fn write(&mut self, buf: &[u8]) -> io::Result<usize> {
+        if self.calls == 0 {
+            return Ok(0);
+        }
+        self.calls -= 1;
+        self.inside.write(buf)
+    }
+
+    fn flush(&mut self) -> io::Result<()> {
+        Ok(())
+    }
+}
+
+// Demands that the report of the example ends as the writer does, behind so many calls.
+fn is_stuck_behind(rt: &impl Abort, alloc: Global, calls: usize) {
+    let report = EXAMPLE_REPORT.as_bytes();
+    let inside = Narrow::new(7, 1024);
+    let mut out = Stuck { calls, inside };
+    let answer = run_text(alloc, &mut EXAMPLE.as_bytes(), &mut out);
+    if answer == Err(EngineFault::Memory) {
+        return;
+    }
+    let taken = calls.saturating_mul(7).min(report.len());
+    let end = if taken < report.len() {
         Err(EngineFault::Write)
-    );
-    assert_eq!(rt; out.taken().len(), 0);
+    } else {
+        Ok(())
+    };
+    assert_eq!(rt; answer, end);
+    assert_eq!(rt; out.inside.taken(), &report[..taken]);
+}
+
+#[test]
+fn a_writer_that_takes_no_octet_at_a_write_is_told(rt: HostRuntime) {
+    for calls in 0..=EXAMPLE_REPORT.len() / 7 + 1 {
+        is_stuck_behind(&rt, rt.alloc(), calls);
+    }
 }
 
 #[test]
