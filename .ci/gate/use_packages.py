@@ -11,6 +11,8 @@ STRICT = ["-Wall", "-Wextra", "-Wpedantic", "-Werror"]
 SANITIZE = ["-g", "-fsanitize=address,undefined", "-fno-sanitize-recover=all"]
 # How long the random calls of the Python package go on, in seconds.
 RANDOM_SECONDS = "60"
+# How long one command may take, in seconds.
+LONGEST = 600
 CMAKE = """cmake_minimum_required(VERSION 3.13)
 project(user C)
 find_package(abt WANTED REQUIRED)
@@ -46,7 +48,7 @@ class Uses:
     def run(self, *words, status=0, text=None, folder=None, **more):
         """Runs a command, and gives what it told; another status fails the test."""
         ran = subprocess.run(
-            list(map(str, words)), cwd=folder or self.room, input=text, capture_output=True, text=True, env={**self.environment, **more}
+            list(map(str, words)), cwd=folder or self.room, input=text, capture_output=True, text=True, env={**self.environment, **more}, timeout=LONGEST
         )
         if (ran.returncode != 0) if status else (ran.returncode == 0):
             return ran.stdout + ran.stderr
