@@ -50,16 +50,18 @@ class Repository:
         self.program.parent.mkdir(exist_ok=True)
         self.program.write_text("#!/bin/sh\n")
         (self.program.parent / "abt.built").touch()
-        self.make_library("int abt_raw_one(void) { return 1; }")
+        self.make_library("int abt_raw_one(void) { return 1; }", "int abt_raw_one(void); int abt_raw_two(void) { return abt_raw_one(); }")
         self.write_log("1 passed, 0 failed")
 
-    def make_library(self, code):
+    def make_library(self, *codes):
+        """A library of these members, which may use one another."""
         self.library.parent.mkdir(exist_ok=True)
         self.library.unlink(missing_ok=True)
-        source = self.library.with_suffix(".c")
-        source.write_text(code)
-        subprocess.run(["cc", "-O1", "-fPIC", "-c", "-o", source.with_suffix(".o"), source], check=True)
-        subprocess.run(["ar", "rcD", self.library, source.with_suffix(".o")], check=True)
+        for number, code in enumerate(codes):
+            source = self.library.with_name(f"member{number}.c")
+            source.write_text(code)
+            subprocess.run(["cc", "-O1", "-fPIC", "-c", "-o", source.with_suffix(".o"), source], check=True)
+            subprocess.run(["ar", "rcD", self.library, source.with_suffix(".o")], check=True)
 
     def write_log(self, last, commit=None):
         self.log.write_text(LOG.format(commit=commit or self.commit, last=last))
@@ -92,7 +94,7 @@ def refusals(it):
     yield "no library", lambda: it.library.unlink(), "the proved library isn't there, or older"
     yield "an old library", lambda: it.age(it.library), "the proved library isn't there, or older"
     yield "a library older than a crate below", it.age_between, "the proved library isn't there, or older"
-    yield "another library", lambda: it.make_library("int puts(const char *); int abt_raw_one(void) { return puts(\"\"); }"), "isn't the kit's"
+    yield "another library", lambda: it.make_library("int puts(const char *); int abt_raw_one(void) { return puts(\"\"); }"), "isn't the kit's: it wants puts"
 
 
 def faults(it, folder):
