@@ -25,6 +25,12 @@
 extern "C" {
 #endif
 
+/* ---- version ---- */
+
+/* The version of this header, and that of the library that is linked. */
+#define ABT_VERSION "0.1.0"
+const char *abt_version(void);
+
 /* ---- outcomes and faults ---- */
 
 typedef uint32_t abt_outcome;

@@ -2,7 +2,8 @@
 
 The header is written by hand. Here each of its prototypes is compared with the export of that name in crates/abt_c, type by type, each
 record and state field by field or by its size, and each outcome and limit with its number in the sources. The archive has to define just
-these functions and want none from elsewhere. Then `make -C c check` builds and runs the example and the tests.
+these functions and want none from elsewhere. Then `make -C c check` builds and runs the examples and the tests, and packages.py tries the
+packages of a release.
 
 usage: c_library.py               at the top of a repository; ends with status 0 where there is no cc
        c_library.py --as-built    the same, over the libraries that are there and nothing else
@@ -221,6 +222,7 @@ def main():
     check_archive(functions)
     with tempfile.TemporaryDirectory() as room:
         subprocess.run(["make", "-s", "-C", ROOT / "c", "check", f"BUILD={room}", f"ABT_LIBRARY={ARCHIVE}"], check=True)
+    subprocess.run([sys.executable, "-B", ROOT / ".ci" / "gate" / "packages.py"], check=True)
     print(f"c_library: {len(functions)} exports are those of the header, and the tests in C pass")
 
 

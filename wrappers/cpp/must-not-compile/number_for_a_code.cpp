@@ -1,0 +1,9 @@
+#include <abt.hpp>
+void misuse(abt::policer policer)
+{
+#ifdef MISUSE
+    (void)policer.arrive(abt::picoseconds(0), 0x53e8);
+#else
+    (void)policer.arrive(abt::picoseconds(0), abt::code(0x53e8));
+#endif
+}
