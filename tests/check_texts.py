@@ -20,6 +20,9 @@ QUIET = "warning: nothing runs: there are no events and no scripts"
 # So many hops are allowed, and one port more.
 HOPS = list(range(16))
 MANY = f"ports = [{'1, ' * 17}]\n"
+# A fault behind those of nets, in the second line of a text: a fault too many is seen only if there is one.
+WRONG = "events = ['x']\n"
+WRONG_LINE = "line 2, column 11: fault EventText 1: no event begins with `x`"
 
 
 def connection(vpi, vci, path="[0]"):
@@ -114,7 +117,8 @@ CASES = [
         "line 6, column 1: fault Net Limit: connection 0 has a delay of 10000000000001 ps; at most 10000000000000 are allowed",
     ], (6, 0)),
     ("as many hops as are allowed", MANY + connection(1, 1, HOPS), [QUIET], (0, 1)),
-    ("one hop", MANY + connection(1, 1, [16]), [QUIET], (0, 1)),
+    ("as many hops as are allowed, beside a fault", MANY + WRONG + connection(1, 1, HOPS), [WRONG_LINE], (1, 0)),
+    ("one hop, beside a fault", MANY + WRONG + connection(1, 1, [16]), [WRONG_LINE], (1, 0)),
     ("a hop too many", MANY + connection(1, 1, [*HOPS, 16]), [
         "line 5, column 1: fault Net PathLength 0: the path of connection 0 has 17 hops; from 1 to 16 are allowed",
     ], (1, 0)),
@@ -124,9 +128,9 @@ CASES = [
     ("the last port and the one behind it", MANY + connection(1, 1, [16, 17]), [
         "line 5, column 13: fault Net NoPort 0: connection 0 visits port 17; the net has 17 ports, counted from 0",
     ], (1, 0)),
-    ("channels that are next to each other", "ports = [1]\n" + "".join(connection(*channel) for channel in [
+    ("channels that are next to each other, beside a fault", "ports = [1]\n" + WRONG + "".join(connection(*channel) for channel in [
         (0, 4096), (1, 0), (0, 65535), (2, 0), (1, 65535), (16, 0), (2, 3), (3, 2), (4095, 65535), (4095, 65534), (4094, 65535),
-    ]), [QUIET], (0, 1)),
+    ]), [WRONG_LINE], (1, 0)),
     ("the last channel twice", "ports = [1]\n" + connection(4095, 65535) + connection(4095, 65534) + 2 * connection(4095, 65535), [
         "line 14, column 1: fault Net VcRepeat 2: connection 2 has the channel 4095/65535 of connection 0",
         "line 20, column 1: fault Net VcRepeat 3: connection 3 has the channel 4095/65535 of connection 0",
