@@ -151,7 +151,9 @@ def faults(program, preload, folder, command, more):
         allowed += [(without[0], MEMORY + check, 0, {}), (without[0], "events\n" + MEMORY, 0, {})]
     if with_threads:
         allowed.append(("", "fault: Thread\n", 1, {}))
-    ends = ends_of(program, preload, folder, command, more, THREADS_TRIED if with_threads else MOST_TRIED)
+    # What is told comes last, so of that run all are tried.
+    is_cut = with_threads and command is not TOLD_THREADS
+    ends = ends_of(program, preload, folder, command, more, THREADS_TRIED if is_cut else MOST_TRIED)
     others = [(number, end) for number, end in enumerate(ends, 1) if end != without and end not in allowed]
     return others, len(ends), sum(end in allowed for end in ends)
 
