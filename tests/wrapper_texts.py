@@ -66,7 +66,7 @@ def faults_of_numbers():
     refused = {name: number for name, number in named.items() if number >= 32}
     rust = {name: int(number) for name, number in re.findall(r"^    (\w+) = (\d+): ", text("wrappers/rust/src/fault.rs"), re.M)}
     python = {name: int(number) for number, name in re.findall(r'^    (\d+): "(\w+)",$', text("wrappers/python/abt/faults.py"), re.M)}
-    cpp = {name for name in re.findall(r"^    \w+ = ABT_(\w+)", text("include/abt.hpp"), re.M)}
+    cpp = {name for name in re.findall(r"^    \w+ = ABT_(\w+)", text("include/abt_result.hpp"), re.M)}
     yield from differs("faults in Rust", rust, refused)
     yield from differs("faults in Python", python, refused)
     yield from differs("faults in C++", sorted(cpp), sorted(name for name, number in declared.items() if number >= 32))
