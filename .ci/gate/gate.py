@@ -172,10 +172,13 @@ class Gate:
             list(pool.map(lambda part: part(), (self.edits, self.beside)))
 
     def hand_over(self):
-        """Puts the proved program, and the evidence where it is asked for, into the checkout."""
-        out = TOP / "crates" / "abt" / "out"
+        """Puts the proved program and the proved library for C into the checkout."""
+        out, library = TOP / "crates" / "abt" / "out", Path("crates", "abt_c", "out", "libabt_c.a")
         out.mkdir(exist_ok=True)
         shutil.copy2(self.programs()[0], out / "abt")
+        if (self.copy / library).is_file():
+            (TOP / library).parent.mkdir(exist_ok=True)
+            shutil.copyfile(self.copy / library, TOP / library)
         (out / "abt.built").touch()
         os.utime(out / "abt.built", (self.began, self.began))
 
