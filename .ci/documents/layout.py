@@ -35,6 +35,7 @@ WITHOUT_BODIES = {
     "abt_part_tests",
     "abt_rows",
     "abt_scenario_rows",
+    "abt_serving",
     "abt_thread_tests",
     "abt_walk",
     "abt_weave_tests",
