@@ -22,7 +22,13 @@ pub fn is_noted<N: Place, J: Naming, R: Wait>(
     ensures { IfSome result (λ r. IsPrefix letter.now.front station.new.front) }
 {
     let (place, reply) = station.serve(rt, seat, letter).ok()?;
-    let left = left_after(net, letter.port(), letter.message(), &reply, station.front());
+    let left = left_after(
+        net,
+        letter.port(),
+        letter.message(),
+        &reply,
+        station.front(),
+    );
     Some((place, left))
 }
 
