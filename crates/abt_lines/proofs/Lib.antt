@@ -1,4 +1,5 @@
+mod Lines
+pub mod Runs
+mod Pieces
 mod Fed
 mod Stopped
-mod Lines
-mod Pieces

@@ -1,4 +1,5 @@
 pub mod Lines
+pub mod Runs
 pub mod Served
 pub mod Stopped
 pub mod Fed

@@ -1,8 +1,9 @@
 -- Which lines of a reader are answered, and why the next one isn't.
-use Rattle.std.specs.Prelude.{◌≡◌, ℕ, ◌+◌, ◌^◌, ◌<◌, ◌≤◌, ◌==◌, ◌⊎◌, List, ◌++◌, length, take, count_by, Option}
+use Rattle.std.specs.Prelude.{◌≡◌, ℕ, ◌+◌, ◌^◌, ◌<◌, ◌≤◌, ◌==◌, ◌⊎◌, length, take, count_by, Option}
 use Rattle.std.specs.Io.KnownBytes.{Appends, Consumes, IsAtEnd}
-use Rattle.abt_text.specs.Text.{Text, ◌⋅◌, line_feed}
+use Rattle.abt_text.specs.Text.{Text, line_feed}
 use Rattle.abt_lines.specs.Lines.{lines_of, seen_lines}
+use Rattle.abt_lines.specs.Runs.{AnswersAll, AnswersFirst, Ends, Steps}
 use Rattle.abt_lines.specs.declared.fault.LinesFault.{LinesFault}
 use Rattle.abt_lines.specs.declared.fault.LinesFault.TheVariants.{Read, TooLong, Write, Memory}
 
@@ -10,41 +11,34 @@ use Rattle.abt_lines.specs.declared.fault.LinesFault.TheVariants.{Read, TooLong,
 abbrev pub feeds_in : Text → ℕ
 feeds_in text = count_by (λ octet. octet == line_feed) text
 
--- A text is exactly the answers to the first so many lines: the server, as it is then, answers the next one.
-pub record AnswersFirst {A : Type 0} (answers : A → ℕ → List (Option Text) → Text) (first : A) (lines : List (Option Text))
-    (count : ℕ) (text : Text) : Type 0 where
-  pub server : A
-  pub within : count ≤ length lines
-  pub exact : (more : List (Option Text)) → text ⋅ answers server (count + 1) more ≡ answers first 1 (take count lines ++ more)
-
 -- Less went out than was to: answers to the first lines, or, at the end of the input, to all, with what is said behind them.
-pub record IsCutShort {A : Type 0} (answers : A → ℕ → List (Option Text) → Text) (first : A) (left : Option Text) (taken printed : Text)
-    : Type 0 where
+pub record IsCutShort {A : Type 0} (steps : Steps A) (ends : Ends A) (first : A) (left : Option Text) (taken printed : Text) : Type 0 where
   pub made : Text
   pub count : ℕ
   pub front : printed ≡ take count made
   pub short : count < length made
-  pub of : ((n : ℕ) × AnswersFirst answers first (seen_lines taken) n made) ⊎ (IsAtEnd left × (made ≡ answers first 1 (seen_lines taken)))
+  pub of : ((n : ℕ) × AnswersFirst steps first (seen_lines taken) n made)
+      ⊎ (IsAtEnd left × ((last : A) × AnswersAll steps ends first 1 (seen_lines taken) made last))
 
 -- Why no more lines are answered, if this was taken of the input, this is left, and this went out.
 --   Read: all whole lines that were taken are answered, and no others.
 --   TooLong: 2^64 - 1 octets were taken at least.
 --   Memory: the next line, which isn't answered, had begun in what was taken; behind the last line the input is at its end.
 --   Write: less went out than was to.
-abbrev pub StopsBy : {A : Type 0} → (answers : A → ℕ → List (Option Text) → Text) → (first : A) → (left : Option Text) → (taken printed : Text)
+abbrev pub StopsBy : {A : Type 0} → (steps : Steps A) → (ends : Ends A) → (first : A) → (left : Option Text) → (taken printed : Text)
     → LinesFault → Type 0
-StopsBy answers first left taken printed Read = AnswersFirst answers first (seen_lines taken) (feeds_in taken) printed
-StopsBy answers first left taken printed TooLong =
-    ((n : ℕ) × AnswersFirst answers first (seen_lines taken) n printed) × (2 ^ 64 ≤ length taken + 1)
-StopsBy answers first left taken printed Memory =
-    (n : ℕ) × AnswersFirst answers first (seen_lines taken) n printed × (n ≡ length (lines_of taken) → IsAtEnd left)
-StopsBy answers first left taken printed Write = IsCutShort answers first left taken printed
+StopsBy steps ends first left taken printed Read = AnswersFirst steps first (seen_lines taken) (feeds_in taken) printed
+StopsBy steps ends first left taken printed TooLong =
+    ((n : ℕ) × AnswersFirst steps first (seen_lines taken) n printed) × (2 ^ 64 ≤ length taken + 1)
+StopsBy steps ends first left taken printed Memory =
+    (n : ℕ) × AnswersFirst steps first (seen_lines taken) n printed × (n ≡ length (lines_of taken) → IsAtEnd left)
+StopsBy steps ends first left taken printed Write = IsCutShort steps ends first left taken printed
 
 -- Lines are answered up to one, and this fault is why that isn't.
-pub record IsStopped {A : Type 0} (answers : A → ℕ → List (Option Text) → Text) (first : A) (left_old left_new old new : Option Text)
+pub record IsStopped {A : Type 0} (steps : Steps A) (ends : Ends A) (first : A) (left_old left_new old new : Option Text)
     (fault : LinesFault) : Type 0 where
   pub taken : Text
   pub consumed : Consumes left_old left_new taken
   pub printed : Text
   pub written : Appends old new printed
-  pub why : StopsBy answers first left_new taken printed fault
+  pub why : StopsBy steps ends first left_new taken printed fault

@@ -1,5 +1,5 @@
 //! The line that has begun.
-ghost use Rattle.std.specs.Prelude.{◌≡◌, ◌≢◌, ◌≤◌, ◌+◌, [], ◌∷◌, vec_len, OnOk};
+ghost use Rattle.std.specs.Prelude.{◌≡◌, ◌<◌, ◌≤◌, ◌+◌, [], length, vec_len, OnOk, OnErr};
 ghost use Rattle.std.specs.Option.{option_map};
 ghost use Rattle.abt_text.specs.Text.{Text, ◌⋅◌, line_feed};
 ghost use Rattle.abt_text.specs.Words.{Lacks};
@@ -32,18 +32,21 @@ impl Begun {
         }
     }
 
-    #[tactic(auto, using(crate::proofs::Lines::long_stays))]
-    // Adds an octet of the line. If the line is too long already, it is as good as lost.
-    pub(crate) fn add(&mut self, octet: u8) -> Result<(), AllocError>
-        requires { octet ≢ line_feed }
+    #[tactic(auto, using(crate::proofs::Lines::added_seen, crate::proofs::Lines::none_added, crate::proofs::Lines::lacks_added))]
+    // Adds octets of the line. If the line is too long already, they are as good as lost.
+    pub(crate) fn add(&mut self, octets: &[u8]) -> Result<(), AllocError>
+        requires { Lacks line_feed octets.now }
         ensures ok { OnOk result ((rest : Text) → seen_lines (self.new.octets.items ⋅ rest)
-            ≡ seen_lines (self.old.octets.items ⋅ octet ∷ rest)) }
+            ≡ seen_lines (self.old.octets.items ⋅ octets.now ⋅ rest)) }
         ensures number { self.new.number ≡ self.old.number }
+        ensures some { OnErr result (0 < length octets.now) }
     {
-        if self.octets.len() > LINE_MAX + 1 {
+        let room = LINE_MAX + 2 - self.octets.len();
+        let count = octets.len().min(room);
+        if count == 0 {
             return Ok(());
         }
-        Ok(self.octets.push(octet)?)
+        self.octets.extend_from_slice(&octets[..count])
     }
 }
 

@@ -1,50 +1,54 @@
 //! Lines from any reader, answers to any writer.
-ghost use Rattle.std.specs.Prelude.{◌≡◌, ◌<◌, ◌+◌, ◌⊎◌, List, [], ◌∷◌, ◌++◌, length, Option, Err, IfErr, IsOk, OnOk, OnErr, string_bytes};
+ghost use Rattle.std.specs.Prelude.{◌≡◌, ◌<◌, ◌+◌, ◌⊎◌, [], ◌∷◌, length, Err, IfErr, IsOk, OnOk, OnErr, string_bytes};
 ghost use Rattle.std.specs.Io.KnownBytes.{Appends, IsAtEnd};
 ghost use Rattle.abt_text.specs.Streams.{AppendsPrefix};
-ghost use Rattle.abt_text.specs.Text.{Text, ◌⋅◌};
+ghost use Rattle.abt_text.specs.Text.{◌⋅◌, line_feed};
+ghost use Rattle.abt_text.specs.Words.{Lacks};
 ghost use Rattle.abt_lines.specs.Fed.{EndedPart, Fed, FedPart, IsUnanswered};
 ghost use Rattle.abt_lines.specs.Lines.{seen_lines, seen_of};
-ghost use Rattle.abt_lines.specs.Served.{AppendsFront, Begins, IsServed, IsServedPart};
+ghost use Rattle.abt_lines.specs.Runs.{Adds, AnswersAll, Runs};
+ghost use Rattle.abt_lines.specs.Served.{AppendsFront, ServesAll, ServesPart};
 ghost use Rattle.abt_lines.specs.Stopped.{IsStopped};
 ghost use Rattle.abt_lines.specs.declared.fault.LinesFault.TheVariants.{Write as NotWritten};
 
+use crate::answers::Answers;
 use crate::begun::{Begun, seen_of};
+use crate::cutting::first_line;
 use crate::fault::LinesFault;
 use crate::server::LineServer;
 use abt_text::{put, read_some};
-use std::alloc::Global;
+use std::alloc::{AllocError, Global};
 use std::io::{Read, Write};
 
 /// Answers the lines of a reader, and writes the answers to all lines that are there before it reads on.
 ///
-/// What is in memory at a time is a read of at most 16,384 octets, the answers to its lines, and the line that has begun, of which no more is
-/// kept than it takes to see that it is too long.
+/// What is in memory at a time is a read of at most 16,384 octets, the answers to its lines, one answer in the making, and the line that
+/// has begun, of which no more is kept than it takes to see that it is too long. A line that lies whole within a read is seen there.
 pub fn serve_lines<S: LineServer, R: Read, W: Write>(
     alloc: Global,
     server: &mut S,
     reader: &mut R,
     writer: &mut W,
 ) -> Result<(), LinesFault>
-    ensures ok { OnOk result (IsServed (λ source. S.answers server.old 1 (seen_lines source))
+    ensures ok { OnOk result (ServesAll S.steps S.ends server.old server.new
         (R.remaining reader.old) (W.contents writer.old) (W.contents writer.new)) }
     ensures end { OnOk result (IsAtEnd (R.remaining reader.new)) }
-    ensures err { OnErr result (IsServedPart (λ source. S.answers server.old 1 (seen_lines source))
+    ensures err { OnErr result (ServesPart S.steps S.ends server.old
         (R.remaining reader.old) (W.contents writer.old) (W.contents writer.new)) }
-    ensures fault { IfErr result (IsStopped S.answers server.old (R.remaining reader.old)
+    ensures fault { IfErr result (IsStopped S.steps S.ends server.old (R.remaining reader.old)
         (R.remaining reader.new) (W.contents writer.old) (W.contents writer.new)) }
 {
     let mut begun = Begun::new(alloc);
-    let mut text = String::new(alloc);
+    let mut answers = Answers::new(alloc);
     let mut piece = [0; 16384];
     for _read in 0..u64::MAX {
         let count = read_some(reader, &mut piece)?;
         if count == 0 {
-            let ended = end(alloc, server, &mut begun, &mut text);
-            return write_out(writer, &text, ended);
+            let ended = end(alloc, server, &mut begun, &mut answers);
+            return write_out(writer, &answers.made, ended);
         }
-        let fed = feed(alloc, server, &mut begun, &piece[..count], &mut text);
-        write_out(writer, &text, fed)?;
+        let fed = feed(alloc, server, &mut begun, &piece[..count], &mut answers);
+        write_out(writer, &answers.made, fed)?;
     }
     Err(LinesFault::TooLong)
 }
@@ -73,111 +77,141 @@ fn write_out<W: Write>(
     made
 }
 
-// Takes the next octets, and makes a text of the answers to the lines that end there.
+// Takes the next octets, and makes the answers to the lines that end there.
 fn feed<S: LineServer>(
     alloc: Global,
     server: &mut S,
     begun: &mut Begun,
     piece: &[u8],
-    text: &mut String,
+    answers: &mut Answers,
 ) -> Result<(), LinesFault>
-    ensures ok { OnOk result (Fed S.answers server.old begun.old.number begun.old.octets.items piece.now
-        server.new begun.new.number begun.new.octets.items [] (string_bytes text.new)) }
-    ensures err { IfErr result (FedPart S.answers server.old begun.old.number begun.old.octets.items
-        piece.now (string_bytes text.new)) }
+    ensures ok { OnOk result (Fed S.steps server.old begun.old.number begun.old.octets.items piece.now
+        server.new begun.new.number begun.new.octets.items [] (string_bytes answers.new.made)) }
+    ensures err { IfErr result (FedPart S.steps server.old begun.old.number begun.old.octets.items
+        piece.now (string_bytes answers.new.made)) }
 {
-    text.clear();
-    for octet in piece {
-        take(alloc, server, begun, *octet, text)?;
+    answers.made.clear();
+    let mut rest = piece;
+    while let Some((line, more)) = first_line(rest) {
+        answer(alloc, server, begun, line, answers)?;
+        rest = more;
     }
+    begun.add(rest)?;
     Ok(())
 }
 
-// Takes the next octet, and adds the answer to the line that it ends to a text.
-fn take<S: LineServer>(
-    alloc: Global,
-    server: &mut S,
-    begun: &mut Begun,
-    octet: u8,
-    text: &mut String,
-) -> Result<(), LinesFault>
-    ensures err { OnErr result (string_bytes text.new ≡ string_bytes text.old) }
-    ensures ok { OnOk result (Fed S.answers server.old begun.old.number begun.old.octets.items (octet ∷ [])
-        server.new begun.new.number begun.new.octets.items (string_bytes text.old) (string_bytes text.new)) }
-    ensures fault { IfErr result (IsUnanswered begun.old.number) }
-{
-    if octet != b'\n' {
-        begun.add(octet)?;
-        return Ok(());
-    }
-    answer(alloc, server, begun, text)
-}
-
-// Adds the answer to the line that has begun, which ends here, to a text, and begins the next one.
+// Adds the answer to the line that ends with these octets, and begins the next one.
 fn answer<S: LineServer>(
     alloc: Global,
     server: &mut S,
     begun: &mut Begun,
-    text: &mut String,
+    line: &[u8],
+    answers: &mut Answers,
 ) -> Result<(), LinesFault>
+    requires { Lacks line_feed line.now }
     ensures next { OnOk result (begun.new.octets.items ≡ []) }
-    ensures ok { OnOk result ((more : List (Option Text)) →
-        string_bytes text.new ⋅ S.answers server.new begun.new.number more
-        ≡ string_bytes text.old ⋅ S.answers server.old begun.old.number
-        (seen_of begun.old.octets.items ∷ more)) }
+    ensures ok { OnOk result (Adds (string_bytes answers.old.made) (string_bytes answers.new.made)
+        (λ said. S.steps server.old begun.old.number (seen_of (begun.old.octets.items ⋅ line.now))
+        said server.new)) }
     ensures number { OnOk result (begun.new.number ≡ begun.old.number + 1) }
-    ensures err { OnErr result (string_bytes text.new ≡ string_bytes text.old) }
+    ensures err { OnErr result (string_bytes answers.new.made ≡ string_bytes answers.old.made) }
     ensures fault { IfErr result (IsUnanswered begun.old.number) }
 {
     let Some(next) = begun.number.checked_add(1) else {
         return Err(LinesFault::TooLong);
     };
-    server.answer(alloc, begun.number, seen_of(begun.octets.as_slice()), text)?;
-    begun.octets.clear();
+    answer_begun(alloc, server, begun, line, answers)?;
     begun.number = next;
     Ok(())
 }
 
-// Makes a text of the answers to what is left at the end of the input.
+// Adds the answer to the line that ends with these octets. If nothing of it had begun, it is seen where it lies.
+fn answer_begun<S: LineServer>(
+    alloc: Global,
+    server: &mut S,
+    begun: &mut Begun,
+    line: &[u8],
+    answers: &mut Answers,
+) -> Result<(), AllocError>
+    requires { Lacks line_feed line.now }
+    ensures next { OnOk result (begun.new.octets.items ≡ []) }
+    ensures ok { OnOk result (Adds (string_bytes answers.old.made) (string_bytes answers.new.made)
+        (λ said. S.steps server.old begun.old.number (seen_of (begun.old.octets.items ⋅ line.now))
+        said server.new)) }
+    ensures number { begun.new.number ≡ begun.old.number }
+    ensures err { OnErr result (string_bytes answers.new.made ≡ string_bytes answers.old.made) }
+{
+    if begun.octets.is_empty() {
+        return answer_seen(alloc, server, begun.number, line, answers);
+    }
+    begun.add(line)?;
+    answer_seen(
+        alloc,
+        server,
+        begun.number,
+        begun.octets.as_slice(),
+        answers,
+    )?;
+    begun.octets.clear();
+    Ok(())
+}
+
+// Adds the answer to what is seen of the line of a number.
+fn answer_seen<S: LineServer>(
+    alloc: Global,
+    server: &mut S,
+    number: u64,
+    line: &[u8],
+    answers: &mut Answers,
+) -> Result<(), AllocError>
+    ensures ok { OnOk result (Adds (string_bytes answers.old.made) (string_bytes answers.new.made)
+        (λ said. S.steps server.old number (seen_of line.now) said server.new)) }
+    ensures err { OnErr result (string_bytes answers.new.made ≡ string_bytes answers.old.made) }
+{
+    answers.next.clear();
+    server.answer(alloc, number, seen_of(line), &mut answers.next)?;
+    answers.add_next()
+}
+
+// Makes the answers to what is left at the end of the input.
 fn end<S: LineServer>(
     alloc: Global,
     server: &mut S,
     begun: &mut Begun,
-    text: &mut String,
+    answers: &mut Answers,
 ) -> Result<(), LinesFault>
-    ensures ok { OnOk result (string_bytes text.new
-        ≡ S.answers server.old begun.old.number (seen_lines begun.old.octets.items)) }
-    ensures front { Begins (string_bytes text.new)
-        (S.answers server.old begun.old.number (seen_lines begun.old.octets.items)) }
-    ensures fault { IfErr result (EndedPart S.answers server.old begun.old.number begun.old.octets.items
-        (string_bytes text.new)) }
+    ensures ok { OnOk result (AnswersAll S.steps S.ends server.old begun.old.number
+        (seen_lines begun.old.octets.items) (string_bytes answers.new.made) server.new) }
+    ensures fault { IfErr result (EndedPart S.steps server.old begun.old.number begun.old.octets.items
+        (string_bytes answers.new.made)) }
 {
-    text.clear();
-    end_line(alloc, server, begun, text)?;
-    server.end(alloc, begun.number, text)?;
+    answers.made.clear();
+    end_line(alloc, server, begun, answers)?;
+    answers.next.clear();
+    server.end(alloc, begun.number, &mut answers.next)?;
+    answers.add_next()?;
     Ok(())
 }
 
 #[tactic(auto, using(crate::proofs::Lines::text_ends))]
-// Adds the answer to the line that ends with the input, if there is one, to a text.
+// Adds the answer to the line that ends with the input, if there is one, to those that were made.
 fn end_line<S: LineServer>(
     alloc: Global,
     server: &mut S,
     begun: &mut Begun,
-    text: &mut String,
+    answers: &mut Answers,
 ) -> Result<(), LinesFault>
-    ensures ok { OnOk result ((more : List (Option Text)) →
-        string_bytes text.new ⋅ S.answers server.new begun.new.number more
-        ≡ string_bytes text.old ⋅ S.answers server.old begun.old.number
-        (seen_lines begun.old.octets.items ++ more)) }
+    ensures ok { OnOk result (Adds (string_bytes answers.old.made) (string_bytes answers.new.made)
+        (λ said. Runs S.steps server.old begun.old.number (seen_lines begun.old.octets.items)
+        said server.new)) }
     ensures number { OnOk result
         (begun.new.number ≡ begun.old.number + length (seen_lines begun.old.octets.items)) }
-    ensures err { OnErr result (string_bytes text.new ≡ string_bytes text.old) }
+    ensures err { OnErr result (string_bytes answers.new.made ≡ string_bytes answers.old.made) }
     ensures some { OnErr result (0 < length begun.old.octets.items) }
     ensures fault { IfErr result (IsUnanswered begun.old.number) }
 {
     if begun.octets.is_empty() {
         return Ok(());
     }
-    answer(alloc, server, begun, text)
+    answer(alloc, server, begun, b"", answers)
 }
