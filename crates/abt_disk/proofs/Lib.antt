@@ -1,0 +1,5 @@
+mod Tears
+mod Moments
+mod Crash
+mod ReadRuns
+mod LaidOut

@@ -1,0 +1,4 @@
+pub mod Disk
+pub mod Calls
+pub mod Slots
+pub mod Stores
