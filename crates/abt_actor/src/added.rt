@@ -26,7 +26,7 @@ pub enum Added {
 }
 
 impl Added {
-    // Those of a request that was sent, after so many cells, by an ask that wrote this record, if it wrote one.
+    // The facts of a request that an ask sent, after so many cells, with the record that it wrote, if it wrote one.
     pub(crate) fn of_request(request: &Request, cells: u64, written: Option<Record>) -> Added
         ensures { (facts : List Fact) (plan : StorePlan) (rate : ℕ) → cells ≡ emitted_of facts →
             written ≡ (if writes facts rate then Some (written_for facts rate) else None) →
@@ -44,7 +44,7 @@ impl Added {
         }
     }
 
-    // Those of a refused ask that had to write this record, if it had to write one: a write that failed may have been kept.
+    // The facts of a refused ask, with the record that it had to write, if any: a write that failed may have been stored.
     pub(crate) fn of_refusal(fault: AskFault, plan: StorePlan, written: Option<Record>) -> Added
         requires { fault ≡ AskFault.Keep → IsSome written }
         ensures { (facts : List Fact) (rate : ℕ) →

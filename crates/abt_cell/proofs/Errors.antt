@@ -98,7 +98,7 @@ pub burst_shows : (error : ℕ) → IsBurst 10 error → ¬ IsMultiple error
 burst_shows error burst multiple =
     burst.some (multiple_low burst.pattern (multiple_before burst.pattern burst.after (subst IsMultiple burst.error_is multiple)) burst.within)
 
--- ---- the powers of x, of which none from x^1 to x^383 leaves 1
+-- ---- the powers of x: none from x^1 to x^383 leaves 1
 
 -- none of so many remainders from r on is 1
 none_is_one : ℕ → ℕ → Bool

@@ -74,7 +74,7 @@ fn stop_before(hop: u16) -> Stop
     }
 }
 
-// The stop behind a hop of so many.
+// The stop behind a hop of a path with so many hops.
 fn stop_after(hops: u16, hop: u16) -> Stop
     ensures { result ≡ spec.stop_after hops hop }
 {

@@ -32,7 +32,7 @@ pub fn told_of(net: &Net, event: &Event, outcome: &Outcome) -> Told
     }
 }
 
-// How many hops the path of a connection has; none if the net hasn't so many.
+// How many hops the path of a connection has; 0 if the net has no such connection.
 fn hops_of(net: &Net, conn: Option<u16>) -> u16
     ensures { result ≡ spec.hops_of net.now conn }
 {

@@ -52,7 +52,7 @@ checked_follows p taken cell stands =
           )
     ]
 
--- the same of what a call answers and leaves
+-- the verdict that a call returns and the state that it leaves
 pub checked_windows : (old new : Policing) (verdict : Verdict) (at spacing : ℕ) (taken : List Arrival) → (verdict, new) ≡ checked old at spacing → StandsFor old taken → IsVerdict old.tau taken (record { at = at; spacing = spacing }) verdict × StandsFor new (taken_after taken (record { at = at; spacing = spacing }) verdict)
 checked_windows old new verdict at spacing taken is stands =
     subst (Follows old taken (record { at = at; spacing = spacing })) (sym is) (checked_follows old taken (record { at = at; spacing = spacing }) stands)

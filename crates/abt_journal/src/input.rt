@@ -27,7 +27,7 @@ pub enum PortReply {
     Answered(Back),
     /// The verdict on a data cell, or why it has none.
     Arrived(Result<Verdict, ArriveFault>),
-    /// Whether the link has the capacity now, or why it keeps the one that it had.
+    /// Whether the link got the capacity, or why it keeps its own.
     Capped(Result<(), CapacityFault>),
 }
 

@@ -24,7 +24,8 @@ pub fn decreases_are_never_refused()
 pub fn decide(port: &mut Port, request: &Request) -> Onward
     ensures value { result ≡ reply_to port.old request.now }
     ensures table { port.new ≡ table_after port.old request.now }
-    ensures decrease { (answer : Reply) → request.now.floor ≡ request.now.ask → result ≡ onward.Refuse answer →
+    ensures decrease { (answer : Reply) → request.now.floor ≡ request.now.ask →
+        result ≡ onward.Refuse answer →
         IsSomeAnd (connection_at port.old request.now.vc) (λ c. IsRepeat c.reservation request.now) }
 {
     // What a port holds is within its capacity.

@@ -20,7 +20,7 @@ empty_store = record { number = 0; spacing = 1000000000000 }
 abbrev yes : (seq floor ask : ℕ) → Reply
 yes seq floor ask = record { terms = record { vc = channel; seq = seq; floor = floor; ask = ask }; granted = true }
 
--- Two asks, of which the first writes 64; a crash; a start whose read fails, and one that works; an ask whose write is stored and fails,
+-- Two asks, the first of which writes 64; a crash; a start whose read fails, and one that works; an ask whose write is stored and fails,
 -- and the same once more.
 abbrev a_failing_store : List (SourceCall × StorePlan)
 a_failing_store =

@@ -40,7 +40,7 @@ pub record IsCarriedOut (before : StoredView) (call : SourceCall) (request : Opt
   pub number : used_up_to after ≤ after.held.number
   pub spacing : after.was_started ≡ true → CoversSource after.source after.held.spacing
 
--- The same of calls, one after the other, and the requests that went out, the first first.
+-- A list of calls is carried out one after the other; `requests` are those that went out, in order.
 pub record AreCarriedOut (before : StoredView) (calls : List SourceCall) (requests : List Terms) (after : StoredView) : Type 0 where
   pub ways : List (SourceCall × StorePlan)
   pub are : map (λ way. way.0) ways ≡ calls
@@ -60,7 +60,7 @@ pub record IsKeptBy (first : KeptRecord) (requests : List Terms) (after : Stored
   pub number : used_up_to after ≤ after.held.number
   pub spacing : after.was_started ≡ true → CoversSource after.source after.held.spacing
 
--- It is so whatever the store held, what was done, and how the store fared.
+-- This holds whatever the store held at first, whatever was done, and however the store fared.
 abbrev pub NumbersAreKept : Type 0
 NumbersAreKept =
     (vc : Channel) (held : KeptRecord) (calls : List (SourceCall × StorePlan)) → held.number ≤ number_max →

@@ -78,7 +78,7 @@ impl<K: SeqStore> StoredSource<K> {
         }
     }
 
-    /// Does calls, one after the other, and gives the requests that go out, the first first.
+    /// Does calls, one after the other, and returns the requests that go out, in order.
     ///
     /// # Errors
     /// Where memory is refused nothing is done.
@@ -166,7 +166,7 @@ impl<K: SeqStore> StoredSource<K> {
     }
 }
 
-// Takes a source out of its place, in which one of the same connection stands meanwhile that is down.
+// Takes a source out of its place; a source of the same connection that is down stands there meanwhile.
 fn taken_out(running: &mut AnySource, vc: Vc) -> AnySource
     ensures { result ≡ running.old }
 {

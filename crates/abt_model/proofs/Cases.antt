@@ -43,7 +43,7 @@ pub is_asked-true : (s : ℕ) (f : Fact) → is_ask_of s f ≡ true → IsAskedF
 is_asked-true s (Asked t floor ask mark) h = let e : t ≡ s = eqb-true t s h in record { floor = floor; ask = ask; mark = mark; is = cc }
 is_asked-true s other h = absurd (false≢true h)
 
--- the test that passes of the list, of the newest fact or of the others
+-- what was sent was sent by the newest fact, or by an earlier one
 pub sent_cases : (sent f : Fact) (fs : List Fact) → was (f ∷ fs) sent ≡ true → (f ≡ sent) ⊎ (was fs sent ≡ true)
 sent_cases sent f fs h = elim (or_cases (is_sending sent f) (was fs sent) h) [ inl t ↦ inl (is_sending-true sent f t) | inr t ↦ inr t ]
 

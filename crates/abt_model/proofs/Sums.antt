@@ -32,7 +32,7 @@ numbered_sum f n conns = sum_by f (enumerate_from n conns)
 numbered_cons : (f : ℕ × Conn → ℕ) (n : ℕ) (conn : Conn) (conns : List Conn) → numbered_sum f n (conn ∷ conns) ≡ f (n, conn) + numbered_sum f (n + 1) conns
 numbered_cons f n conn conns = sum_by-cons f (n, conn) (enumerate_from (n + 1) conns)
 
--- a sum of which the terms stay
+-- a sum stays if its terms do
 pub numbered_same : (f g : ℕ × Conn → ℕ) (n : ℕ) (conns : List Conn) → ((d : ℕ) (conn : Conn) → n ≤ d → g (d, conn) ≡ f (d, conn)) → numbered_sum g n conns ≡ numbered_sum f n conns
 numbered_same f g n [] same = refl
 numbered_same f g n (conn ∷ conns) same =

@@ -108,7 +108,7 @@ nothing_lawful net c = elim (cases_option (conn_at net c)) [
   | inr known ↦ subst (λ o. IsConnLawful o []) (sym known.1) tt
 ]
 
--- each asked rate is a rate, of the first event and of the others
+-- each asked rate is a rate: that of the first event, and those of the others
 pub first_asks : (e : Event) (es : List Event) → All AsksRate (e ∷ es) → AsksRate e
 first_asks e es all = all 0 e (omega arith)
 

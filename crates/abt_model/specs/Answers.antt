@@ -94,7 +94,7 @@ abbrev pub is_hop : (hops j : ℕ) → Bool
 is_hop hops j = nat_le 1 j && nat_le j hops
 
 -- The outcome of an event of this connection, given what is reserved on the port that it comes to, and its capacity.
--- One of a port alone is of no connection.
+-- An event of a port alone has no connection.
 abbrev pub answer_by : Conn → (reserved capacity : ℕ) → List Fact → Event → Outcome
 answer_by conn reserved capacity facts (Start c now) = start_answer (state_of facts) facts now
 answer_by conn reserved capacity facts (Ask c rate plan) = if_up (state_of facts) (ask_answer conn.vc facts rate plan)

@@ -45,7 +45,7 @@ impl<T> Sequence<T> {
         })
     }
 
-    /// The items, the first first.
+    /// The items, in order.
     pub fn as_slice(&self) -> &[T]
         ensures { result.now ≡ self.now }
     {

@@ -29,7 +29,7 @@ pub trait Up: State {
     ghost use Rattle.std.specs.Prelude.{ℕ, ◌≢◌};
     ghost use Rattle.abt_facts.specs.Source.SourceState.{Down};
 
-    /// It is another state than [`Down`].
+    /// The state isn't [`Down`].
     ghost is_up: { (last : ℕ) → Self.state_at last ≢ Down };
 }
 

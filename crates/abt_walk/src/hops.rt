@@ -35,7 +35,7 @@ pub fn held(facts: &[Fact], hop: u16) -> Rate {
     }
 }
 
-/// What the hop holds that comes after so many others.
+/// What the hop behind so many others holds.
 pub fn held_after(facts: &[Fact], before: u16) -> Rate {
     held(facts, before.saturating_add(1))
 }

@@ -26,7 +26,7 @@ all_at test (y ∷ xs) zero x all at =
     subst (λ z. test z ≡ true) is (and_parts _ _ all).0
 all_at test (y ∷ xs) (suc i) x all at = all_at test xs i x (and_parts _ _ all).1 at
 
--- one of a list of which none is counted
+-- no item of a list passes a test that counts none
 none_at : {A : Type 0} (test : A → Bool) (xs : List A) (i : ℕ) (x : A) → count_of test xs ≡ 0 → slice_get xs i ≡ Some x → test x ≡ false
 none_at test xs i x none at = sym (uncounted (test x) (omega (arith, none, counted_one test xs i x at)))
 

@@ -1,4 +1,4 @@
--- Counts of what isn't safe, where one connection and one port change.
+-- Counts of violations, if one connection and one port change.
 use Rattle.std.proofs.Common.{◌≡◌, ◌≢◌, ℕ, zero, suc, ◌+◌, ◌≤◌, ◌<◌, Bool, true, false, not, List, [], ◌∷◌, refl, sym, subst, ap, ◌∙◌, length, map, arith, inl, inr, ◌^◌}
 use Rattle.std.specs.Prelude.{◌&&◌, Option, None, Some, unwrap_or, nat_le, slice_get, slice_set, slice_index_or}
 use Rattle.std.specs.List.{zip, list_all}

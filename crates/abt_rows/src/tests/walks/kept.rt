@@ -75,7 +75,7 @@ fn after(alloc: Global, net: &Net, walked: &Walked, count: Count) -> Result<Coun
     Ok(count)
 }
 
-// Counts those of the lists of a net.
+// Counts the writes in the lists of a net.
 fn after_all(alloc: Global, net: &Net, count: Count) -> Result<Count, AllocError> {
     let mut count = count;
     for seed in 1..=30 {
