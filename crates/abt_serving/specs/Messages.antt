@@ -42,7 +42,7 @@ pub record RequestLies (net : Topology) (past : Past) (port : ℕ) (request : Te
   pub sent : request_is_at (facts_of c past) seq hop ≡ true
   pub is : request ≡ request_of conn.vc (facts_of c past) seq
 
--- an answer was sent to a hop, or the last hop passed the request, of which a Turn makes the yes
+-- an answer was sent to a hop, or the last hop passed the request, and a Turn can make the yes
 abbrev pub IsOnItsWay : Conn → Past → (c hop seq : ℕ) → Bool → Type 0
 IsOnItsWay conn past c hop seq granted =
     (answer_is_at (length conn.path) (facts_of c past) seq hop granted ≡ true)

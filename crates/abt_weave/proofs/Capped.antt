@@ -164,7 +164,7 @@ capacity_placed net js events world new sp pp p u step progress low next place i
       (let b = sum-set_up pp p (slice_index pp p) low refl in omega (arith, b)),
     )
 
--- the same of a board whose values are equal to these
+-- a board whose values are equal to these
 pub capacity_progress : (net : Topology) (js : RunJournals) (events more : List Event) (world new : WorldView) (sp pp : List ℕ) (p kp at u : ℕ) (step : Step) →
     IsPlacing net js events world sp pp → p < length pp → next_step net js (reverse events) p ≡ Some step → step.place ≡ length (steps_on net p (reverse events)) → step.input ≡ CapacityIn u →
     reply_of (outcome_of net (facts_after net events) (Capacity p u)) ≡ Some step.reply → StandsFor net (events ++ Capacity p u ∷ []) new → more ≡ events ++ Capacity p u ∷ [] → kp ≡ p → at ≡ slice_index pp p →

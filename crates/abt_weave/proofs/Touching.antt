@@ -1,4 +1,4 @@
--- Whom an event touches, by the numbers of actors in a queue.
+-- The actors that an event touches, by their numbers in a queue.
 use Rattle.std.proofs.Common.{◌≡◌, ℕ, ◌+◌, ◌-◌, ◌<◌, ◌≤◌, inl, inr, ap, Bool, true, List, length, ◌∙◌, sym, subst, None, Some, arith}
 use Rattle.std.specs.Prelude.{◌⊎◌, nat_lt, slice_index, min, Result, OnOk}
 use Rattle.std.proofs.lemmas.Result.{on_ok_weaker}

@@ -1,4 +1,4 @@
--- That all lists of events that stand still before the same journals end alike.
+-- All lists of events that stand still before the same journals end alike.
 use Rattle.std.specs.Prelude.{◌≡◌, ◌≢◌, List, length, All}
 use Rattle.abt_net.specs.Topology.{Topology}
 use Rattle.abt_model.specs.declared.event.Event.{Event}

@@ -55,13 +55,13 @@ count progress = total progress.source_places.items + total progress.port_places
 abbrev pub whole : List (Vec Entry Global) → List SourceJournal → ℕ
 whole ports sources = sum_by (λ (journal : SourceJournal). length journal.entries) sources + sum_by (λ (entries : Vec Entry Global). length entries.items) ports
 
--- Nothing that fits behind the events is the next entry of a source, also after Turns, and whether that entry mismatches.
+-- No event that fits behind the events, also after Turns, is the next entry of a source; and whether that entry mismatches.
 pub record IsSourceSettled (net : Topology) (journals : RunJournals) (earlier : List Event) (c : ℕ) (mismatches : Bool) : Type 0 where
   pub stuck : (turns : List Event) (event done : Event) (outcome : Outcome) → AreTurns net earlier turns → conn_of event ≡ Some c →
       entry_made net (turns ++ earlier) event ≡ Some (Did done outcome) → Fits net journals (turns ++ earlier) event → ⊥
   pub marks : MatchBool mismatches (SourceMismatches net journals earlier c) (SourceMismatches net journals earlier c → ⊥)
 
--- Nothing that fits behind the events is the next entry of a port, also after Turns, and whether that entry
+-- No event that fits behind the events, also after Turns, is the next entry of a port; and whether that entry
 -- mismatches.
 pub record IsPortSettled (net : Topology) (journals : RunJournals) (earlier : List Event) (p : ℕ) (mismatches : Bool) : Type 0 where
   pub stuck : (turns : List Event) (event : Event) (v : Visit) → AreTurns net earlier turns → visit net (past_of net (turns ++ earlier)) event ≡ Some v → v.port ≡ p →

@@ -12,8 +12,8 @@ pub enum Actor {
 /// The entry at which an actor's journal got stuck, by its index there.
 #[derive(Clone, Copy, Debug, PartialEq, Eq)]
 pub struct Stuck {
-    /// Whose journal it is.
+    /// The source or port whose journal it is.
     pub actor: Actor,
-    /// How many of its entries come before.
+    /// How many entries of the journal come before this one.
     pub place: u64,
 }

@@ -15,7 +15,7 @@ use std::alloc::{AllocError, Global};
 /// The outcome of a look at an actor's next entry.
 #[derive(Clone, Copy, Debug, PartialEq, Eq)]
 pub(crate) enum Look {
-    /// It is placed, as this event.
+    /// The entry is placed, as this event.
     Placed(Event),
     /// No event can be the next entry, or no entry is left.
     Waits,

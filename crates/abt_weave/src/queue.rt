@@ -8,7 +8,7 @@ use std::collections::VecDeque;
 /// Actors, by their numbers, that are to be looked at, and those whose next entries mismatched, which aren't any more.
 #[derive(Debug, Drop)]
 pub(crate) struct Queue {
-    // Those to be looked at, in this order.
+    // The actors to be looked at, in this order.
     pub ready: VecDeque<u16>,
     // Whether an actor is one of those.
     pub woken: Vec<bool>,

@@ -171,7 +171,7 @@ fn woven(
     }
 }
 
-/// That the journals are woven into these events.
+/// Demands that the journals are woven into these events.
 fn gives(rt: &impl Abort, woven: Result<Sequence<Event>, WeaveFault>, events: &[Event]) {
     match woven {
         Ok(found) => assert_eq!(rt; found.as_slice(), events),
@@ -179,14 +179,14 @@ fn gives(rt: &impl Abort, woven: Result<Sequence<Event>, WeaveFault>, events: &[
     }
 }
 
-/// That the journals are woven into some events.
+/// Demands that the journals are woven into some events.
 fn weaves(rt: &impl Abort, woven: Result<Sequence<Event>, WeaveFault>) {
     if let Err(fault) = woven {
         assert!(rt; false, "{fault:?}");
     }
 }
 
-/// That nothing more can be placed, and that these entries are left.
+/// Demands that nothing more can be placed, and that these entries are left.
 fn is_stuck(rt: &impl Abort, woven: Result<Sequence<Event>, WeaveFault>, left: &[Stuck]) {
     match woven {
         Err(WeaveFault::NoOrder(stuck)) => assert_eq!(rt; stuck.as_slice(), left),
@@ -194,7 +194,7 @@ fn is_stuck(rt: &impl Abort, woven: Result<Sequence<Event>, WeaveFault>, left: &
     }
 }
 
-/// That an entry can't have been answered as it says.
+/// Demands that an entry can't have been answered as it says.
 fn mismatches(rt: &impl Abort, woven: Result<Sequence<Event>, WeaveFault>, entry: Stuck) {
     match woven {
         Err(WeaveFault::Mismatch { actor, place }) => {

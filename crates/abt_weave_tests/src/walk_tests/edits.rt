@@ -12,7 +12,7 @@ use std::alloc::{AllocError, Global};
 pub enum Edit {
     /// The item at a place is another one.
     Other(usize),
-    /// It is missing.
+    /// The entry is missing.
     Missing(usize),
     /// It stands there twice.
     Twice(usize),

@@ -187,7 +187,7 @@ fn outcome(draws: &mut Draws, same: &Outcome) -> Outcome {
     }
 }
 
-// Another command or answer, mostly of the same kind, or the same of another connection.
+// Another command or answer, mostly of the same kind, or this one for another connection.
 fn event(draws: &mut Draws, conn: u16, same: &Event) -> Event {
     let conn = match draws.one_in(5) {
         true => draws.small(3),

@@ -56,7 +56,7 @@ fn is_answered(
     Ok(())
 }
 
-// Lists from a seed on, of which so many entries are taken at most.
+// Lists from a seed on, each cut to so many entries at most.
 fn are_answered(
     rt: &impl Abort,
     alloc: Global,
