@@ -1,19 +1,14 @@
 -- A source that has done something by itself, with its journal and its actor.
 use Rattle.std.proofs.Common.{◌≡◌, ℕ, ◌+◌, ◌-◌, ◌≤◌, reverse, map, Bool, true, false, List, [], ◌∷◌, ◌++◌, length, refl, ap, sym, subst, ◌∙◌, arith, Option, Some}
-use Rattle.std.specs.Prelude.{◌==◌, ◌&&◌, ◌||◌, not, All}
+use Rattle.std.specs.Prelude.{◌==◌, ◌&&◌, ◌||◌, not}
 use mathlib.Core.List.{IsPrefix}
 use Rattle.std.proofs.lemmas.Bool.{cond-true, eq-eqb}
 use Rattle.std.proofs.lemmas.List.{length-append}
 use Rattle.abt_cell.specs.Channel.{Channel}
 use Rattle.abt_net.specs.Topology.{Topology}
 use Rattle.abt_facts.specs.declared.fact.Fact.{Fact}
-use Rattle.abt_facts.specs.declared.fact.Fact.TheVariants.{Shut, Back}
-use Rattle.abt_facts.specs.Requests.{is_ask_of}
-use Rattle.abt_facts.specs.Sent.{is_sending, answer_is_home}
-use Rattle.abt_cell.specs.Message.{Terms, answer_to}
 use Rattle.abt_model.specs.Events.{AsksRate}
 use Rattle.abt_weave.specs.Stuck.{AreTurns}
-use Rattle.abt_serving.proofs.Messages.{any_grows, terms_stay}
 use Rattle.abt_actor.specs.Actor.{ActorView, actor_of, CarriesOut}
 use Rattle.abt_actor.specs.Commands.{event_of, command_answer, command_adds}
 use Rattle.abt_model.specs.declared.command.SourceCommand.{SourceCommand}
@@ -42,7 +37,7 @@ use Rattle.abt_history.specs.declared.deed.Deed.TheVariants.{Happens, Goes, Ends
 use Rattle.abt_history.specs.Histories.{happened, turns_of_source, count_of, out_after, is_out, has_ended}
 use Rattle.abt_history.specs.Legal.{IsLegal, IsStep, MayNote, IsNoted, with_turns}
 use Rattle.abt_history.proofs.Fronts.{prefix_trans}
-use Rattle.abt_history.proofs.Growing.{happened-append, happened_more, turns-append, turns_turned, turned, legal_turned, with_turned, rates_of, count_at_source}
+use Rattle.abt_history.proofs.Growing.{happened-append, turns-append, turns_turned, turned, legal_turned, with_turned, count_at_source}
 use Rattle.abt_history.proofs.Turning.{StaysHome, out-append, away_still}
 use Rattle.abt_history.specs.Sites.{SiteView, IsHome, IsSite, IsSaid}
 use Rattle.abt_history.proofs.Own.{home_open, own_step}
@@ -83,28 +78,6 @@ ended_event c (Goes d ∷ log) event = ended_event c log event
 ended_event c (EndsPort p ∷ log) event = ended_event c log event
 ended_event c (EndsSource d ∷ log) event = ap (λ b. d == c || b) (ended_event c log event)
 ended_event c (Comes p input ∷ log) event = ended_event c log event
-
--- what was said stays said
-home_stays : (net : Topology) (more earlier : List Event) (c seq : ℕ) (granted : Bool) → answer_is_home (facts_of c (past_of net earlier)) seq granted ≡ true → answer_is_home (facts_of c (past_of net (more ++ earlier))) seq granted ≡ true
-home_stays net more earlier c seq true h = any_grows net more earlier c (is_sending (Back seq 1)) h
-home_stays net more earlier c seq false h = any_grows net more earlier c (is_sending (Shut seq 1)) h
-
-pub said_stays : (net : Topology) (more earlier : List Event) (c : ℕ) (command : SourceCommand) → All AsksRate (more ++ earlier) → IsSaid net (past_of net earlier) c command → IsSaid net (past_of net (more ++ earlier)) c command
-said_stays net more earlier c (source.Told answer) rates said = record {
-  conn = said.conn;
-  seq = said.seq;
-  granted = said.granted;
-  known = said.known;
-  asked = any_grows net more earlier c (is_ask_of said.seq) said.asked;
-  sent = home_stays net more earlier c said.seq said.granted said.sent;
-  is = said.is ∙ ap (λ (t : Terms). answer_to t said.granted) (sym (terms_stay net more earlier c said.seq said.conn said.known rates said.asked));
-}
-said_stays net more earlier c other rates said = tt
-
-pub said_later : (net : Topology) (seen log : List Deed) (c : ℕ) (command : SourceCommand) → IsPrefix seen log → IsLegal net log → IsSaid net (past_of net (happened seen)) c command → IsSaid net (past_of net (happened log)) c command
-said_later net seen log c command pre legal said =
-    let grown = happened_more seen log pre in
-    subst (λ (l : List Event). IsSaid net (past_of net l) c command) (sym grown) (said_stays net (happened pre.0) (happened seen) c command (subst (All AsksRate) grown (rates_of net log legal)) said)
 
 -- a history in which a source has had no other turn, by its word
 pub home_at : (net : Topology) (c turns key : ℕ) (own log : List Deed) → key ≡ length net.capacities + c → IsPrefix own log → IsLegal net log → IsHome net c turns own → count_of net key log ≡ turns → StaysHome net c own log

@@ -21,7 +21,8 @@ use Rattle.abt_history.specs.Histories.{happened, ends_of_port, is_beside_of, ou
 use Rattle.abt_history.specs.Legal.{May, IsLegal, IsLegalFrom}
 use Rattle.abt_history.specs.Ended.{AreEnded}
 use Rattle.abt_history.proofs.Growing.{happened-append, ends-append, rates_of}
-use Rattle.abt_history.proofs.Turning.{legal_rest, quiet, out-append}
+use Rattle.abt_history.proofs.Quiet.{quiet}
+use Rattle.abt_history.proofs.Turning.{legal_rest, out-append}
 
 -- to a port that ended nothing comes
 one_more : (net : Topology) (p : ℕ) (before : List Deed) (deed : Deed) → May net before deed → 0 < ends_of_port p before → steps_on net p (happened (before ++ deed ∷ [])) ≡ steps_on net p (happened before)

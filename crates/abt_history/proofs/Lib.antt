@@ -1,8 +1,10 @@
+pub mod Modes
 pub mod Fronts
 pub mod Notes
 pub mod Adding
 pub mod Opening
 pub mod Growing
+pub mod Quiet
 pub mod Turning
 pub mod Coming
 pub mod Stations
@@ -10,9 +12,13 @@ pub mod Own
 pub mod Marks
 pub mod Beside
 pub mod Visiting
+pub mod Said
 pub mod Did
 pub mod Allowing
+pub mod Going
+pub mod Reaching
 pub mod Meeting
+pub mod Visited
 pub mod Returning
 pub mod Leaving
 pub mod Ending

@@ -1,13 +1,11 @@
 -- A source goes to its first port, and the port serves what it brings: both journals have it.
-use Rattle.std.proofs.Common.{◌≡◌, ℕ, ◌+◌, ◌<◌, ◌≤◌, true, false, List, [], ◌∷◌, ◌++◌, length, reverse, map, refl, ap, sym, subst, ◌∙◌, arith, Option, Some}
-use Rattle.std.specs.Prelude.{◌==◌, ◌&&◌, ◌||◌, not, slice_index, All}
-use Rattle.std.proofs.lemmas.List.{length-append}
+use Rattle.std.proofs.Common.{◌≡◌, ℕ, ◌<◌, true, false, List, [], ◌∷◌, ◌++◌, length, reverse, map, refl, ap, sym, subst, ◌∙◌, arith, Option, Some}
+use Rattle.std.specs.Prelude.{◌&&◌, not, slice_index}
 use Rattle.std.proofs.lemmas.Bool.{cond-true, cond-false, eq-eqb}
 use mathlib.Core.List.{IsPrefix}
 use Rattle.abt_net.specs.declared.conn.Conn.{Conn}
 use Rattle.abt_net.specs.Topology.{Topology, IsWithinRules, conn_at}
 use Rattle.abt_model.specs.declared.event.Event.{Event}
-use Rattle.abt_model.specs.Events.{AsksRate}
 use Rattle.abt_model.specs.Outcomes.{conn_of, outcome_of}
 use Rattle.abt_model.specs.Past.{facts_of}
 use Rattle.abt_model.specs.PortTable.{port_table}
@@ -19,134 +17,31 @@ use Rattle.abt_weave.specs.Stuck.{AreTurns}
 use Rattle.abt_weave.proofs.PortEvents.{visit_is, known_at, input_at, made_beside, reply_enabled}
 use Rattle.abt_weave.proofs.Turns.{steps_turns}
 use Rattle.abt_cell.specs.Channel.{Channel}
-use Rattle.abt_cell.specs.Message.{Terms}
 use Rattle.abt_node.specs.declared.reply.Onward.{Onward}
 use Rattle.abt_node.specs.declared.reply.Onward.TheVariants.{Pass, Refuse, Drop}
 use Rattle.abt_facts.specs.declared.fact.Fact.{Fact}
 use Rattle.abt_facts.specs.Cells.{last_arrival_of}
-use Rattle.abt_facts.specs.Requests.{was_asked, is_ask_of}
-use Rattle.abt_source.specs.SourceFacts.{request_of}
 use Rattle.abt_model.specs.declared.event.Event.TheVariants as event
 use Rattle.abt_model.specs.declared.outcome.Outcome.{Outcome}
-use Rattle.abt_model.specs.declared.outcome.Outcome.TheVariants.{Arrived}
-use Rattle.abt_model.specs.Answers.{arrive_answer}
 use Rattle.abt_model.specs.Outcomes.{facts_added, request_adds}
-use Rattle.abt_model.proofs.Worlds.{outcome_of-known, facts_of-own}
-use Rattle.abt_journal.specs.declared.input.PortInput.TheVariants.{Request as RequestIn, Arrive as ArriveIn}
+use Rattle.abt_model.proofs.Worlds.{facts_of-own}
 use Rattle.abt_weave.proofs.LineFacts.{last_arrival_of-line}
 use Rattle.abt_weave.proofs.Replays.{request_said, arrival_said}
-use Rattle.abt_serving.proofs.Messages.{any_grows, terms_stay}
 use Rattle.abt_history.specs.declared.brought.Brought.{Brought}
 use Rattle.abt_history.specs.declared.brought.Brought.TheVariants.{Request, Cell}
-use Rattle.abt_history.specs.Sites.{IsHome, CanBring, HasBrought, event_brought, input_brought, entry_brought, arrived_with}
-use Rattle.abt_history.proofs.Visiting.{request_visits, arrival_visits}
+use Rattle.abt_history.specs.Sites.{CanBring, HasBrought, event_brought, input_brought, entry_brought, arrived_with}
 use Rattle.abt_history.specs.declared.deed.Deed.{Deed}
-use Rattle.abt_history.specs.declared.deed.Deed.TheVariants.{Happens, Goes, EndsPort, EndsSource, Comes}
-use Rattle.abt_history.specs.Histories.{happened, ends_of_port, turns_of_source, count_of, is_beside_of, out_after, is_out, has_ended}
+use Rattle.abt_history.specs.declared.deed.Deed.TheVariants.{Happens}
+use Rattle.abt_history.specs.Histories.{happened, ends_of_port, turns_of_source, count_of, out_after, is_out, has_ended}
 use Rattle.abt_history.specs.Legal.{IsLegal, IsStep, MayNote, IsNoted, with_turns}
 use Rattle.abt_history.proofs.Fronts.{prefix_trans}
-use Rattle.abt_history.proofs.Growing.{happened-append, happened_more, steps_grow, as_seen, happened_turned, ends-append, ends_turned, turns-append, turned, legal_turned, with_turned, rates_of, count_at_port}
-use Rattle.abt_history.proofs.Turning.{out-append, IsStill, same_still, still_trans, away_still}
-use Rattle.abt_history.proofs.Own.{home_open}
-use Rattle.abt_history.proofs.Marks.{goes_step}
+use Rattle.abt_history.proofs.Growing.{happened-append, as_seen, happened_turned, ends_turned, turns-append, turned, legal_turned, with_turned, count_at_port}
+use Rattle.abt_history.proofs.Turning.{out-append, still_trans}
 use Rattle.abt_history.proofs.Coming.{far_own, HasStepped, stepped}
 use Rattle.abt_history.proofs.Beside.{AreMet, met, beside_step}
-use Rattle.abt_history.proofs.Did.{home_at, home_turned, ended_event}
-
--- a source that has gone to its first port
-pub record HasLeft (net : Topology) (c : ℕ) (own seen new : List Deed) : Type 0 where
-  pub mine : IsPrefix own new
-  pub theirs : IsPrefix seen new
-  pub legal : IsLegal net new
-  pub still : IsStill net c own new
-  pub out : is_out c new ≡ true
-  pub turns : turns_of_source c new ≡ turns_of_source c own + 1
-  pub unended : has_ended c new ≡ false
-
-ended_goes : (c d : ℕ) (log : List Deed) → has_ended c (log ++ Goes d ∷ []) ≡ has_ended c log
-ended_goes c d [] = refl
-ended_goes c d (Happens other ∷ log) = ended_goes c d log
-ended_goes c d (Goes e ∷ log) = ended_goes c d log
-ended_goes c d (EndsPort p ∷ log) = ended_goes c d log
-ended_goes c d (EndsSource e ∷ log) = ap (λ b. e == c || b) (ended_goes c d log)
-ended_goes c d (Comes p input ∷ log) = ended_goes c d log
-
-pub may_go : (net : Topology) (c turns key : ℕ) (own seen : List Deed) → key ≡ length net.capacities + c → IsHome net c turns own → MayNote net own seen key turns (Goes c)
-may_go net c turns key own seen key_is home log pre theirs legal count =
-    let stays = home_at net c turns key own log key_is pre legal home count in
-    record { turns = []; all = tt; deed = Goes c; does = refl; step = subst (λ k. IsStep net k log (with_turns [] (Goes c))) (sym key_is) (goes_step net c own log stays) }
-
-pub has_left : (net : Topology) (c turns key : ℕ) (own seen new : List Deed) → key ≡ length net.capacities + c → IsHome net c turns own → IsNoted net own seen new key turns (Goes c) → HasLeft net c own seen new
-has_left net c turns key own seen new key_is home noted =
-    let before = noted.log in
-    let these = noted.next.turns in
-    let stays = home_turned net c own before these (home_at net c turns key own before key_is noted.mine noted.legal home noted.count) noted.next.all in
-    let log = turned before these in
-    let new_is : new ≡ log ++ Goes c ∷ [] = noted.new_is ∙ ap (λ (d : Deed). before ++ with_turns these d) noted.next.does ∙ with_turned before these (Goes c) in
-    let away = away_still net c own log stays.pre stays.legal stays.out stays.turns in
-    let last : IsPrefix log new = (Goes c ∷ [], sym new_is) in
-    let count = ap (turns_of_source c) new_is ∙ turns-append c log (Goes c ∷ []) in
-    let one : turns_of_source c (Goes c ∷ []) ≡ 1 = cond-true _ _ _ (eq-eqb c c refl) in
-    let had = stays.turns in
-    record {
-      mine = prefix_trans own log new stays.pre last;
-      theirs = prefix_trans seen log new (prefix_trans seen before log noted.theirs (map Happens (reverse these), refl)) last;
-      legal = subst (IsLegal net) (sym noted.new_is) noted.next.step.legal;
-      still = still_trans net c own log new away.0 (same_still net c log new (ap happened new_is ∙ happened-append log (Goes c ∷ [])));
-      out = ap (is_out c) new_is ∙ out-append c false log (Goes c ∷ []) ∙ ap (λ b. out_after c b (Goes c ∷ [])) away.1 ∙ ap (λ b. b || false) (eq-eqb c c refl);
-      turns = omega (arith, count, one, had);
-      unended = ap (has_ended c) new_is ∙ ended_goes c c log ∙ home_open net c own log stays;
-    }
-
--- counts only grow
-count_grows : (net : Topology) (p : ℕ) (seen log : List Deed) → p < length net.capacities → IsPrefix seen log → count_of net p seen ≤ count_of net p log
-count_grows net p seen log low pre =
-    let grown = steps_grow net (happened pre.0) (happened seen) p in
-    let now = ap length (ap (steps_on net p) (happened_more seen log pre) ∙ grown.1) ∙ length-append (steps_on net p (happened seen)) grown.0 in
-    let ends = ap (ends_of_port p) (sym pre.1) ∙ ends-append p seen pre.0 in
-    let one = count_at_port net p log low in
-    let other = count_at_port net p seen low in
-    omega (arith, now, ends, one, other)
-
--- what a source brings comes to the port, whatever else has happened
-brings_now : (net : Topology) → IsWithinRules net → (c : ℕ) (conn : Conn) (vc : Channel) (own log : List Deed) (brought : Brought) → conn_at net c ≡ Some conn → vc ≡ conn.vc → IsPrefix own log → IsLegal net log → IsStill net c own log → CanBring net c vc own brought →
-    (let p = slice_index conn.path 0 in let input = input_brought vc brought in
-    visit net (past_of net (happened log)) (event_brought c brought) ≡ Some (record { port = p; input = input; reply = reply_by (port_table net (past_of net (happened log)) p) input }))
-brings_now net rules c conn vc own log (Request request) known same pre legal still can =
-    let earlier = happened log in
-    let rates = rates_of net log legal in
-    let grown = happened_more own log pre in
-    let facts = facts_of c (past_of net earlier) in
-    let seq = request.seq in
-    let p = slice_index conn.path 0 in
-    let asked : was_asked facts seq ≡ true = subst (λ (l : List Event). was_asked (facts_of c (past_of net l)) seq ≡ true) (sym grown) (any_grows net (happened pre.0) (happened own) c (is_ask_of seq) can.0) in
-    let terms = terms_stay net (happened pre.0) (happened own) c seq conn known (subst (All AsksRate) grown rates) can.0 in
-    let is : request ≡ request_of conn.vc facts seq = can.1 ∙ ap (λ (v : Channel). request_of v (facts_of c (past_of net (happened own))) seq) same ∙ sym terms ∙ ap (λ (l : List Event). request_of conn.vc (facts_of c (past_of net l)) seq) (sym grown) in
-    subst (λ (t : Terms). visit net (past_of net earlier) (event.Request c 1 seq) ≡ Some (record { port = p; input = RequestIn t; reply = reply_by (port_table net (past_of net earlier) p) (RequestIn t) })) (sym is)
-    (request_visits net rules earlier rates c seq conn known asked)
-brings_now net rules c conn vc own log (Cell cell at) known same pre legal still can =
-    let earlier = happened log in
-    let p = slice_index conn.path 0 in
-    let facts = facts_of c (past_of net (happened own)) in
-    let arrives : arrive_answer conn facts cell at ≡ Arrived can.0 = sym (outcome_of-known net (past_of net (happened own)) (event.Arrive c cell at) c conn refl known) ∙ can.1 in
-    subst (λ (v : Channel). visit net (past_of net earlier) (event.Arrive c cell at) ≡ Some (record { port = p; input = ArriveIn v at; reply = reply_by (port_table net (past_of net earlier) p) (ArriveIn v at) })) (sym same)
-    (arrival_visits net rules earlier (rates_of net log legal) c cell at conn facts can.0 known (sym still.still) arrives)
-
-asks_none : (c : ℕ) (brought : Brought) → AsksRate (event_brought c brought)
-asks_none c (Request request) = tt
-asks_none c (Cell cell at) = tt
-
-whose_brought : (c : ℕ) (brought : Brought) → conn_of (event_brought c brought) ≡ Some c
-whose_brought c (Request request) = refl
-whose_brought c (Cell cell at) = refl
-
-beside_brought : (c : ℕ) (brought : Brought) → is_beside_of c (event_brought c brought) (conn_of (event_brought c brought)) ≡ true
-beside_brought c (Request request) = eq-eqb c c refl
-beside_brought c (Cell cell at) = eq-eqb c c refl
-
-entry_is : (c place : ℕ) (brought : Brought) → entry_beside place (event_brought c brought) ≡ Some (entry_brought place brought)
-entry_is c place (Request request) = refl
-entry_is c place (Cell cell at) = refl
+use Rattle.abt_history.proofs.Did.{ended_event}
+use Rattle.abt_history.proofs.Going.{HasLeft}
+use Rattle.abt_history.proofs.Reaching.{count_grows, brings_now, asks_none, whose_brought, beside_brought, entry_is}
 
 -- a source that has gone to a port whose journal it has seen, with what it brings
 pub record IsThere (net : Topology) (c port deeds : ℕ) (conn : Conn) (vc : Channel) (own front out : List Deed) (brought : Brought) : Type 0 where

@@ -33,6 +33,11 @@ pub if_ok : {A E : Type 0} {P Q : A → Type 0} (r : Result A E) → IfOk r P �
 if_ok (Ok x) p more = more x p
 if_ok (Err e) p more = tt
 
+-- and from two of them
+pub if_both : {A E : Type 0} {P Q S : A → Type 0} (r : Result A E) → IfOk r P → IfOk r Q → ((x : A) → P x → Q x → S x) → IfOk r S
+if_both (Ok x) p q more = more x p q
+if_both (Err e) p q more = tt
+
 mapped : (xs : List Entry) (e : Entry) → map step_of (xs ++ e ∷ []) ≡ map step_of xs ++ step_of e ∷ []
 mapped [] e = refl
 mapped (x ∷ xs) e = ap (λ (l : List Step). step_of x ∷ l) (mapped xs e)
@@ -79,6 +84,11 @@ stays_station net old state caller place new input reply its rates is stepped at
           ∙ ap (λ (s : Journaled). map step_of s.entries) (sym made);
       unended = stepped.unended;
     }
+
+-- a port under the number that its state has
+pub numbered : (net : Topology) (key port : ℕ) (state : Journaled) (front : List Deed) → port ≡ state.opening.id → key ≡ port → IsStation net (record { port = port; state = state; front = front }) →
+    (key ≡ state.opening.id) × IsStation net (record { port = state.opening.id; state = state; front = front })
+numbered net key port state front same key_is its = subst (λ p. (key ≡ p) × IsStation net (record { port = p; state = state; front = front })) same (key_is, its)
 
 -- and the newest event is one by which this came and had this reply
 pub came_so : (net : Topology) (old : StationView) (new : List Deed) (input : PortInput) (reply : PortReply) → IsStation net old → All AsksRate (happened old.front) → old.state.table ≡ replay old.state.opening old.state.entries →

@@ -1,3 +1,4 @@
+pub mod Modes
 pub mod Histories
 pub mod Legal
 pub mod Rules

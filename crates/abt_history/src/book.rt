@@ -8,10 +8,11 @@ ghost use Rattle.abt_history.specs.Histories.{words_of};
 
 use crate::deed::Deed;
 use crate::front::{Front, Tally};
+use crate::keeping::Kept;
 use crate::place::{Naming, Place};
 use crate::rule::{Begun, Law};
-use crate::site::Site;
-use crate::station::Station;
+use crate::site::{Site, SiteOf};
+use crate::station::{Station, StationOf};
 use abt_cell::Vc;
 use abt_journal::PortState;
 use abt_net::Net;
@@ -130,7 +131,7 @@ impl<N: Place, J: Naming> Book<N, J> {
     {
         let front = self.front();
         let tally = self.tally();
-        Station::new(state, tally, front)
+        StationOf::<Kept<N, J>>::new(state, tally, front)
     }
 
     /// The next source, that of the connection of this number and channel, which has done nothing.
@@ -150,6 +151,6 @@ impl<N: Place, J: Naming> Book<N, J> {
     {
         let front = self.front();
         let tally = self.tally();
-        Site::new(alloc, conn, vc, tally, front)
+        SiteOf::<Kept<N, J>>::new(alloc, conn, vc, tally, front)
     }
 }

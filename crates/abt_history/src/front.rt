@@ -15,7 +15,7 @@ use std::marker::{Model, PhantomData};
 
 /// How many deeds the history has of a port or a source.
 #[derive(Drop)]
-pub(crate) struct Tally<N: Place, J: Naming> {
+pub struct Tally<N: Place, J: Naming> {
     pub(crate) key: usize,
     pub(crate) word: Word<Deed, u64, Law<N>>,
     pub(crate) of: PhantomData<J>,

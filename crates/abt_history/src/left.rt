@@ -9,35 +9,39 @@ ghost use Rattle.abt_weave.specs.Projections.{past_of};
 ghost use Rattle.abt_serving.specs.Followed.{FollowsOn};
 ghost use Rattle.abt_history.specs.Histories.{happened};
 ghost use Rattle.abt_history.specs.Left as left;
+ghost use Rattle.abt_history.specs.Modes.{When};
 
-use crate::front::Front;
-use crate::letter::{Letter, Notice};
-use crate::place::{Naming, Place};
+use crate::keeping::{Keeping, Kept};
+use crate::letter::{LetterOf, NoticeOf};
 use abt_cell::Rm;
 use abt_journal::{Next, PortReply, follow};
 use abt_net::Net;
 
 /// What a port's reply leaves.
 #[derive(Drop)]
-pub enum Left<N: Place, J: Naming> {
+pub enum LeftOf<K: Keeping> {
     /// A message to a port.
-    ToPort(Letter<N, J>),
+    ToPort(LetterOf<K>),
     /// An answer to a source.
-    ToSource(Notice<N, J>),
+    ToSource(NoticeOf<K>),
     /// Nothing.
     Nothing,
 }
 
+/// What a port's reply leaves in a run that keeps its history.
+pub type Left<N, J> = LeftOf<Kept<N, J>>;
+
 /// What follows a port's reply to a message ([`follow`]), with what was seen once the port had replied.
-pub fn left_after<N: Place, J: Naming>(
+pub fn left_after<K: Keeping>(
     net: &Net,
     port: u16,
     message: &Rm,
     reply: &PortReply,
-    front: Front<N, J>,
-) -> Left<N, J>
-    requires net { N.net ≡ net.now }
-    requires follows { FollowsOn N.net (past_of N.net (happened front)) port message.now reply.now }
+    front: K::Front,
+) -> LeftOf<K>
+    requires net { When K.kept (K.net ≡ net.now) }
+    requires follows { When K.kept
+        (FollowsOn K.net (past_of K.net (happened (K.log front))) port message.now reply.now) }
     ensures on_path { (c : ℕ) (conn : Conn) → conn_at net.now c ≡ Some conn →
         conn.vc ≡ following.channel_of message.now →
         hop_of conn.path port ≢ 0 →
@@ -49,8 +53,8 @@ pub fn left_after<N: Place, J: Naming>(
         left.next_in result ≡ NextSpec.Nothing }
 {
     match follow(net, port, message, reply) {
-        Next::Send { port, rm } => Left::ToPort(Letter::new(port, rm, front)),
-        Next::Tell { conn, answer } => Left::ToSource(Notice::new(conn, answer, front)),
-        Next::Nothing => Left::Nothing,
+        Next::Send { port, rm } => LeftOf::ToPort(LetterOf::new(port, rm, front)),
+        Next::Tell { conn, answer } => LeftOf::ToSource(NoticeOf::new(conn, answer, front)),
+        Next::Nothing => LeftOf::Nothing,
     }
 }

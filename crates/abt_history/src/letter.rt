@@ -3,40 +3,44 @@ ghost use Rattle.std.specs.Prelude.{◌≡◌};
 ghost use Rattle.abt_weave.specs.Projections.{past_of};
 ghost use Rattle.abt_serving.specs.Messages.{Lies, LiesHome};
 ghost use Rattle.abt_history.specs.Histories.{happened};
+ghost use Rattle.abt_history.specs.Modes.{When};
 
-use crate::front::Front;
-use crate::place::{Naming, Place};
+use crate::keeping::{Keeping, Kept};
 use abt_cell::{Answer, Rm};
 use std::marker::Model;
 
-/// A message that was sent to a port, with what was seen then.
+/// A message that was sent to a port, with what was seen then, if the run keeps its history.
 #[derive(Drop)]
-pub struct Letter<N: Place, J: Naming> {
+pub struct LetterOf<K: Keeping> {
     port: u16,
     message: Rm,
-    front: Front<N, J>,
+    front: K::Front,
 }
 
-impl<N: Place, J: Naming> Model for Letter<N, J> {
+/// A message of a run that keeps its history.
+pub type Letter<N, J> = LetterOf<Kept<N, J>>;
+
+impl<K: Keeping> Model for LetterOf<K> {
     ghost use Rattle.abt_weave.specs.Projections.{past_of};
     ghost use Rattle.abt_serving.specs.Messages.{Lies};
     ghost use Rattle.abt_history.specs.Histories.{happened};
+    ghost use Rattle.abt_history.specs.Modes.{When};
     ghost use Rattle.abt_history.specs.Letters.{LetterView};
 
     ghost Value = { LetterView };
 
-    ghost view = { λ l. record { port = l.port; message = l.message; front = l.front } };
+    ghost view = { λ l. record { port = l.port; message = l.message; front = K.log l.front } };
 
-    ghost invariant = { λ l. Lies N.net (past_of N.net (happened l.front)) l.port l.message };
+    ghost invariant = { λ l. When K.kept (Lies K.net (past_of K.net (happened (K.log l.front))) l.port l.message) };
 }
 
-impl<N: Place, J: Naming> Letter<N, J> {
-    // A message that lies at this port, by what was seen.
-    pub(crate) fn new(port: u16, message: Rm, front: Front<N, J>) -> Letter<N, J>
-        requires { Lies N.net (past_of N.net (happened front)) port message }
-        ensures { result ≡ record { port = port; message = message; front = front } }
+impl<K: Keeping> LetterOf<K> {
+    /// A message that was sent to this port, by what was seen.
+    pub fn new(port: u16, message: Rm, front: K::Front) -> LetterOf<K>
+        requires { When K.kept (Lies K.net (past_of K.net (happened (K.log front))) port message) }
+        ensures { result ≡ record { port = port; message = message; front = K.log front } }
     {
-        Letter {
+        LetterOf {
             port,
             message,
             front,
@@ -58,42 +62,47 @@ impl<N: Place, J: Naming> Letter<N, J> {
     }
 
     /// What was seen when it was sent.
-    pub fn front(&self) -> &Front<N, J>
-        ensures value { result.now ≡ self.now.front }
-        ensures lies { Lies N.net (past_of N.net (happened result.now)) self.now.port self.now.message }
+    pub fn front(&self) -> &K::Front
+        ensures value { K.log result.now ≡ self.now.front }
+        ensures lies { When K.kept
+            (Lies K.net (past_of K.net (happened (K.log result.now))) self.now.port self.now.message) }
     {
         &self.front
     }
 }
 
-/// An answer that was sent to a source, with what was seen then.
+/// An answer that was sent to a source, with what was seen then, if the run keeps its history.
 #[derive(Drop)]
-pub struct Notice<N: Place, J: Naming> {
+pub struct NoticeOf<K: Keeping> {
     conn: u16,
     answer: Answer,
-    front: Front<N, J>,
+    front: K::Front,
 }
 
-impl<N: Place, J: Naming> Model for Notice<N, J> {
+/// An answer of a run that keeps its history.
+pub type Notice<N, J> = NoticeOf<Kept<N, J>>;
+
+impl<K: Keeping> Model for NoticeOf<K> {
     ghost use Rattle.abt_weave.specs.Projections.{past_of};
     ghost use Rattle.abt_serving.specs.Messages.{LiesHome};
     ghost use Rattle.abt_history.specs.Histories.{happened};
+    ghost use Rattle.abt_history.specs.Modes.{When};
     ghost use Rattle.abt_history.specs.Letters.{NoticeView};
 
     ghost Value = { NoticeView };
 
-    ghost view = { λ n. record { conn = n.conn; answer = n.answer; front = n.front } };
+    ghost view = { λ n. record { conn = n.conn; answer = n.answer; front = K.log n.front } };
 
-    ghost invariant = { λ n. LiesHome N.net (past_of N.net (happened n.front)) n.conn n.answer };
+    ghost invariant = { λ n. When K.kept (LiesHome K.net (past_of K.net (happened (K.log n.front))) n.conn n.answer) };
 }
 
-impl<N: Place, J: Naming> Notice<N, J> {
-    // An answer that lies at this source, by what was seen.
-    pub(crate) fn new(conn: u16, answer: Answer, front: Front<N, J>) -> Notice<N, J>
-        requires { LiesHome N.net (past_of N.net (happened front)) conn answer }
-        ensures { result ≡ record { conn = conn; answer = answer; front = front } }
+impl<K: Keeping> NoticeOf<K> {
+    /// An answer that was sent to this source, by what was seen.
+    pub fn new(conn: u16, answer: Answer, front: K::Front) -> NoticeOf<K>
+        requires { When K.kept (LiesHome K.net (past_of K.net (happened (K.log front))) conn answer) }
+        ensures { result ≡ record { conn = conn; answer = answer; front = K.log front } }
     {
-        Notice {
+        NoticeOf {
             conn,
             answer,
             front,
@@ -115,9 +124,10 @@ impl<N: Place, J: Naming> Notice<N, J> {
     }
 
     /// What was seen when it was sent.
-    pub fn front(&self) -> &Front<N, J>
-        ensures value { result.now ≡ self.now.front }
-        ensures lies { LiesHome N.net (past_of N.net (happened result.now)) self.now.conn self.now.answer }
+    pub fn front(&self) -> &K::Front
+        ensures value { K.log result.now ≡ self.now.front }
+        ensures lies { When K.kept
+            (LiesHome K.net (past_of K.net (happened (K.log result.now))) self.now.conn self.now.answer) }
     {
         &self.front
     }

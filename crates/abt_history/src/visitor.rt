@@ -5,55 +5,58 @@ ghost use Rattle.abt_net.specs.declared.conn.Conn.{Conn};
 ghost use Rattle.abt_net.specs.Topology.{conn_at};
 ghost use Rattle.abt_journal.specs.declared.fault.ServeFault.{ServeFault};
 ghost use Rattle.abt_journal.specs.Receipts.{seen_at};
+ghost use Rattle.abt_history.specs.Modes.{When};
 ghost use Rattle.abt_history.specs.Sites.{CanBring, HasBrought, IsHome, input_brought};
 ghost use Rattle.abt_history.specs.Stations.{CameTo, HasServed};
 
 use crate::brought::Brought;
 use crate::deed::Deed;
-use crate::front::{Front, Tally};
-use crate::note::note;
-use crate::place::{Naming, Place};
-use crate::station::Station;
+use crate::keeping::Keeping;
+use crate::station::StationOf;
 use abt_cell::Vc;
 use abt_journal::{PortReply, Seat, ServeFault};
 use std::sync::Wait;
 
 /// A source that brings something to its first port: its connection's number and channel, how many turns it has had, and what it has seen.
 #[derive(Drop)]
-pub(crate) struct Visitor<'site, N: Place, J: Naming> {
+pub(crate) struct Visitor<'site, K: Keeping> {
     pub(crate) conn: u16,
     pub(crate) vc: Vc,
     pub(crate) turns: u64,
-    pub(crate) tally: &'site Tally<N, J>,
-    pub(crate) front: &'site Front<N, J>,
+    pub(crate) tally: &'site K::Tally,
+    pub(crate) front: &'site K::Front,
 }
 
-impl<N: Place, J: Naming> Station<N, J> {
+impl<K: Keeping> StationOf<K> {
     // Has the port step with what a source brings, and notes first that the source came, and then the step. Its front is then what both
     // have seen.
     pub(crate) fn meet<R: Wait>(
         &mut self,
         rt: &R,
         seat: &mut Seat,
-        visitor: &Visitor<N, J>,
+        visitor: &Visitor<K>,
         brought: &Brought,
     ) -> Result<(u64, PortReply), ServeFault>
-        requires key { visitor.now.tally.now.key ≡ length N.net.capacities + visitor.now.conn }
+        requires key { When K.kept
+            (K.key visitor.now.tally.now ≡ length K.net.capacities + visitor.now.conn) }
         requires room { visitor.now.turns + 1 < 2 ^ 64 }
-        requires home { IsHome N.net visitor.now.conn visitor.now.turns visitor.now.front.now }
-        requires channel { (line : Conn) → conn_at N.net visitor.now.conn ≡ Some line → visitor.now.vc ≡
-            line.vc }
-        requires first { (line : Conn) → conn_at N.net visitor.now.conn ≡ Some line → self.old.port ≡
-            slice_index line.path 0 }
-        requires can { CanBring N.net visitor.now.conn visitor.now.vc visitor.now.front.now brought.now }
+        requires home { When K.kept
+            (IsHome K.net visitor.now.conn visitor.now.turns (K.log visitor.now.front.now)) }
+        requires channel { When K.kept
+            ((line : Conn) → conn_at K.net visitor.now.conn ≡ Some line → visitor.now.vc ≡ line.vc) }
+        requires first { When K.kept ((line : Conn) → conn_at K.net visitor.now.conn ≡ Some line →
+            self.old.port ≡ slice_index line.path 0) }
+        requires can { When K.kept
+            (CanBring K.net visitor.now.conn visitor.now.vc (K.log visitor.now.front.now) brought.now) }
         ensures served { IfOk result (λ r.
             HasServed self.old self.new seat.old seat.new
             (input_brought visitor.now.vc brought.now) r.0 r.1) }
-        ensures came { IfOk result (λ r.
-            CameTo N.net self.new.front self.old.port (input_brought visitor.now.vc brought.now) r.1) }
-        ensures back { IfOk result (λ r.
-            HasBrought N.net visitor.now.conn visitor.now.front.now self.new.front r.0 brought.now) }
-        ensures own { IfOk result (λ r. IsPrefix self.old.front self.new.front) }
+        ensures came { IfOk result (λ r. When K.kept
+            (CameTo K.net self.new.front self.old.port (input_brought visitor.now.vc brought.now) r.1)) }
+        ensures back { IfOk result (λ r. When K.kept
+            (HasBrought K.net visitor.now.conn (K.log visitor.now.front.now) self.new.front r.0
+            brought.now)) }
+        ensures own { IfOk result (λ r. When K.kept (IsPrefix self.old.front self.new.front)) }
         ensures wound { (seen found : ℕ) → IsErrOf result (ServeFault.Wound seen found)
             → (seen ≡ seen_at self.old.port seat.old.receipts) × (found ≡ length self.old.state.entries) ×
             (found < seen) }
@@ -65,7 +68,7 @@ impl<N: Place, J: Naming> Station<N, J> {
         let (place, reply) = seat.step(port, &mut self.state, input)?;
         let conn = visitor.conn;
         let going = Deed::Goes { conn };
-        let out = note(
+        let out = K::note(
             rt,
             visitor.tally,
             visitor.front,
@@ -74,7 +77,7 @@ impl<N: Place, J: Naming> Station<N, J> {
             &going,
         );
         let event = brought.event(conn);
-        self.front = note(
+        self.front = K::note(
             rt,
             &self.tally,
             &self.front,
