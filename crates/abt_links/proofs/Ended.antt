@@ -10,7 +10,7 @@ use Rattle.abt_journal.specs.declared.entry.Receipt.{Receipt}
 use Rattle.abt_journal.specs.Receipts.{Seated, entries_at}
 use Rattle.abt_journal.specs.Gathered.{journal_at, entries_of, AreReceipts}
 use Rattle.abt_model.specs.declared.script_command.Command.{Command}
-use Rattle.abt_model.specs.declared.journal.SourceJournal.{SourceJournal}
+use Rattle.abt_history.specs.Sites.{SiteView}
 use Rattle.abt_links.specs.CommandEffects.{LineStep}
 use Rattle.abt_links.specs.Scripts.{RunsScript, step_of}
 use Rattle.abt_links.specs.Messages.{IsMessage}
@@ -19,7 +19,9 @@ use Rattle.abt_links.specs.Operations.{AreReceiptsFor, handed_in, handed_by, han
 use Rattle.abt_journal.specs.Foreign.{AreHistories}
 use Rattle.abt_links.specs.Runs.{ScriptsFit, IsRunOf, AreRunsFrom, IsMessageEntry, IsRun}
 use Rattle.abt_links.specs.Promises.{IsAccess, IsOperator, AreSourcesFrom, AreLinkSeatsFrom, AreWorked}
+use Rattle.abt_links.specs.Ends.{journal_of, journals_left}
 use Rattle.abt_links.specs.declared.worker_results.WorkerResults.{WorkerResults}
+use Rattle.abt_links.specs.declared.gathered.Gathered.{Gathered}
 use Rattle.abt_links.proofs.Fitting.{fits_length}
 
 same_port : (p q : ℕ) → p ≡ q → (p == q) ≡ true
@@ -46,8 +48,8 @@ none_elsewhere port q (r ∷ rs) apart all = rw (other_port r.port port q (all 0
 abbrev pub SameEntries : List (List Entry) → List Seated → Type 0
 SameEntries js seats = (p : ℕ) → All (λ (s : Seated). entries_at p s.receipts ≡ entries_of s.caller (journal_at js p)) seats
 
-run_of : (net : Topology) (c : ℕ) (line : Conn) (script : List Command) (seat : Seated) (source : SourceJournal) (js : List (List Entry)) → conn_at net c ≡ Some line → IsAccess net c script seat source
-    → ((p : ℕ) → entries_at p seat.receipts ≡ entries_of seat.caller (journal_at js p)) → IsRunOf line c script js source
+run_of : (net : Topology) (c : ℕ) (line : Conn) (script : List Command) (seat : Seated) (source : SiteView) (js : List (List Entry)) → conn_at net c ≡ Some line → IsAccess net c script seat source
+    → ((p : ℕ) → entries_at p seat.receipts ≡ entries_of seat.caller (journal_at js p)) → IsRunOf line c script js (journal_of source)
 run_of net c line script seat source js there access same =
     let port : ℕ = slice_index line.path 0 in
     let here : (p : ℕ) → entries_at p seat.receipts ≡ entries_of c (journal_at js p) = λ p. same p ∙ ap (λ (k : ℕ). entries_of k (journal_at js p)) access.caller in
@@ -59,9 +61,9 @@ run_of net c line script seat source js there access same =
       elsewhere = λ p apart. sym (here p) ∙ none_elsewhere port p seat.receipts apart (access.first line there);
     }
 
-runs_from : (net : Topology) (n : ℕ) (conns : List Conn) (scripts : List (List Command)) (seats links : List Seated) (sources : List SourceJournal) (js : List (List Entry))
+runs_from : (net : Topology) (n : ℕ) (conns : List Conn) (scripts : List (List Command)) (seats links : List Seated) (sources : List SiteView) (js : List (List Entry))
     → ((k : ℕ) (line : Conn) → slice_get conns k ≡ Some line → conn_at net (n + k) ≡ Some line) → ScriptsFit conns scripts → AreSourcesFrom net n scripts seats sources → SameEntries js (seats ++ links)
-    → AreRunsFrom n conns scripts js sources
+    → AreRunsFrom n conns scripts js (journals_left sources)
 runs_from net n [] [] [] links [] js at fit ran same = tt
 runs_from net n [] [] [] links (j ∷ sources) js at fit ran same = absurd ran
 runs_from net n [] [] (s ∷ seats) links sources js at fit ran same = absurd ran
@@ -74,8 +76,8 @@ runs_from net n (conn ∷ conns) (script ∷ scripts) (s ∷ seats) links (j ∷
   runs_from net (n + 1) conns scripts seats links sources js (λ k line there. ap (conn_at net) (omega arith) ∙ at (suc k) line there) fit.1 ran.1 (λ p k d low. same p (suc k) d (omega arith)),
 )
 
-sources_run : (net : Topology) (scripts : List (List Command)) (seats links all : List Seated) (sources : List SourceJournal) (js : List (List Entry)) → ScriptsFit net.conns scripts
-    → AreSourcesFrom net 0 scripts seats sources → all ≡ seats ++ links → AreReceipts js all → AreRunsFrom 0 net.conns scripts js sources
+sources_run : (net : Topology) (scripts : List (List Command)) (seats links all : List Seated) (sources : List SiteView) (js : List (List Entry)) → ScriptsFit net.conns scripts
+    → AreSourcesFrom net 0 scripts seats sources → all ≡ seats ++ links → AreReceipts js all → AreRunsFrom 0 net.conns scripts js (journals_left sources)
 sources_run net scripts seats links all sources js fit ran joined receipts =
     let P : List Seated → Type 0 = SameEntries js in
     runs_from net 0 net.conns scripts seats links sources js (λ k line there. ap (conn_at net) (omega arith) ∙ there) fit ran (subst P joined receipts.same)
@@ -144,7 +146,7 @@ operator_left caller operations seat js p is same =
 
 -- callers
 
-sources_low : (net : Topology) (n most : ℕ) (scripts : List (List Command)) (seats : List Seated) (sources : List SourceJournal) → AreSourcesFrom net n scripts seats sources → n + length scripts ≤ most
+sources_low : (net : Topology) (n most : ℕ) (scripts : List (List Command)) (seats : List Seated) (sources : List SiteView) → AreSourcesFrom net n scripts seats sources → n + length scripts ≤ most
     → All (λ (s : Seated). s.caller < most) seats
 sources_low net n most [] [] [] ran low = All-nil (λ (s : Seated). s.caller < most)
 sources_low net n most [] [] (j ∷ sources) ran low = absurd ran
@@ -173,10 +175,11 @@ callers_low most seats js low known k d below =
 callers_most : (most : ℕ) (js : List Entry) → All (λ (e : Entry). e.caller < most + 1) js → All (λ (e : Entry). e.caller ≤ most) js
 callers_most most js low k d below = let h = low k d below in omega (arith, h)
 
-pub ended : (net : Topology) (scripts : List (List Command)) (operations : List (ℕ × ℕ)) (workers : ℕ) (worked : WorkerResults) (all : List Seated) (js : List (List Entry)) → ScriptsFit net.conns scripts
-    → AreWorked net scripts operations workers worked → all ≡ (worked.accesses.items ++ worked.links.items) ++ worked.operator ∷ [] → AreHistories net js → AreReceipts js all
-    → IsRun net scripts operations workers (record { journals = js; sources = worked.sources })
-ended net scripts operations workers worked all js fit done joined histories receipts =
+pub ended : {K F T : Type 0} (net : Topology) (scripts : List (List Command)) (operations : List (ℕ × ℕ)) (workers : ℕ) (worked : WorkerResults K F T) (all : List Seated) (run : Gathered) → ScriptsFit net.conns scripts
+    → AreWorked net scripts operations workers worked → all ≡ (worked.accesses.items ++ worked.links.items) ++ worked.operator ∷ [] → AreHistories net run.journals → AreReceipts run.journals all
+    → run.sources.items ≡ journals_left worked.sites.items → IsRun net scripts operations workers run
+ended net scripts operations workers worked all run fit done joined histories receipts left =
+    let js : List (List Entry) = run.journals in
     let seats : List Seated = worked.accesses.items in
     let links : List Seated = worked.links.items in
     let last : List Seated = worked.operator ∷ [] in
@@ -189,13 +192,13 @@ ended net scripts operations workers worked all js fit done joined histories rec
     let most : ℕ = length net.conns + workers + 1 in
     let own : worked.operator.caller ≡ length net.conns + workers = done.operator.own in
     let low : All (λ (s : Seated). s.caller < most) (seats ++ (links ++ last)) =
-    All-append (λ (s : Seated). s.caller < most) seats (links ++ last) (sources_low net 0 most scripts seats worked.sources.items done.sources (omega arith))
+    All-append (λ (s : Seated). s.caller < most) seats (links ++ last) (sources_low net 0 most scripts seats worked.sites.items done.sources (omega arith))
     (All-append (λ (s : Seated). s.caller < most) links last (links_low (length net.conns) most links done.links (omega arith))
     (All-cons (λ (s : Seated). s.caller < most) worked.operator [] (omega arith) (All-nil (λ (s : Seated). s.caller < most)))) in
     let Q : List Seated → Type 0 = All (λ (s : Seated). s.caller < most) in
     record {
       histories = histories;
-      sources = sources_run net scripts seats (links ++ last) all worked.sources.items js fit done.sources whole receipts;
+      sources = subst (AreRunsFrom 0 net.conns scripts js) (sym left) (sources_run net scripts seats (links ++ last) all worked.sites.items js fit done.sources whole receipts);
       links = λ k p below. links_only (length net.conns) links js k p done.links (same_before js links last behind) (omega arith);
       operator = λ p. operator_left (length net.conns + workers) operations worked.operator js p done.operator (first_seat js worked.operator [] (same_behind js links last behind) p);
       callers = λ p. callers_most (length net.conns + workers) (journal_at js p) (callers_low most all (journal_at js p) (subst Q (sym whole) low) (receipts.known p));

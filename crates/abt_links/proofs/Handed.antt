@@ -4,7 +4,7 @@ use Rattle.std.proofs.lemmas.Option.{slice_get-get_or}
 use Rattle.std.proofs.lemmas.List.{take_more, map-append}
 use Rattle.abt_net.specs.Topology.{Topology}
 use Rattle.abt_journal.specs.declared.entry.Receipt.{Receipt}
-use Rattle.abt_links.specs.declared.port_cell.PortCell.{PortCell}
+use Rattle.abt_links.specs.declared.port_cell.PortCellOf.{PortCellOf}
 use Rattle.abt_links.specs.Cells.{AreCellsOf}
 use Rattle.abt_links.specs.Operations.{AreReceiptsFor, handed_in, handed_by}
 
@@ -17,7 +17,7 @@ handed-more operations i old new r below grown handed are =
     ∙ sym (ap (map handed_by) (take_more operations i (0, 0) below) ∙ map-append handed_by (take i operations) (o ∷ []))
 
 -- the cell at a port's place has its number
-pub port_there : (net : Topology) (cells : List PortCell) (port place : ℕ) (cell : PortCell) → AreCellsOf net cells → port < length net.capacities → place ≡ port → cell ≡ get_or cells place cell → cell.port ≡ port
-port_there net cells port place cell are low at is =
+pub port_there : {K F T : Type 0} (net : Topology) (cells : List (PortCellOf K F T)) (port place : ℕ) (cell : PortCellOf K F T) → AreCellsOf net cells → port < length net.capacities → place ≡ port → cell ≡ get_or cells place cell → cell.port ≡ port
+port_there {K} {F} {T} net cells port place cell are low at is =
     let within : port < length cells = omega (arith, are.ports, low) in
     are.each port cell (slice_get-get_or cells port cell within ∙ ap Some (ap (λ k. get_or cells k cell) (sym at) ∙ sym is))

@@ -1,5 +1,5 @@
 -- Answers heard one after the other.
-use Rattle.std.proofs.Common.{◌≡◌, ℕ, ◌+◌, true, List, [], ◌∷◌, ◌++◌, refl, sym, ap, ◌∙◌, append-nil, append_assoc, length-append, arith}
+use Rattle.std.proofs.Common.{◌≡◌, ℕ, ◌+◌, true, List, [], ◌∷◌, ◌++◌, refl, sym, ap, subst, ◌∙◌, append-nil, append_assoc, length-append, arith}
 use Rattle.abt_cell.specs.Channel.{Channel}
 use Rattle.abt_cell.specs.Message.{Reply}
 use Rattle.abt_facts.specs.declared.fact.Fact.{Fact}
@@ -8,15 +8,15 @@ use Rattle.abt_model.specs.declared.outcome.Outcome.{Outcome}
 use Rattle.abt_actor.specs.Actor.{ActorView, actor_of, is_asking_in}
 use Rattle.abt_model.specs.declared.entry.SourceEntry.{SourceEntry}
 use Rattle.abt_links.specs.CommandEffects.{did, facts_past, Hears}
-use Rattle.abt_links.specs.SourceWorkers.{HasDone, Listened}
-use Rattle.abt_links.specs.declared.source_worker.SourceWorker.{SourceWorker}
+use Rattle.abt_history.specs.Sites.{SiteView}
+use Rattle.abt_links.specs.SourceWorkers.{WorkerView, HasDone, Listened, StaysHome}
 
 hears-append : (vc : Channel) (c : ℕ) (facts mid after : List Fact) (xs ys : List SourceEntry) → Hears vc c facts xs mid → Hears vc c mid ys after → Hears vc c facts (xs ++ ys) after
 hears-append vc c facts mid after [] ys first rest = rw (← first) rest
 hears-append vc c facts mid after (x ∷ xs) ys first rest =
     (first.0, first.1, first.2, hears-append vc c (facts_past vc facts (Told first.0)) mid after xs ys first.3 rest)
 
-pub listened_none : (vc : Channel) (c : ℕ) (worker : SourceWorker) → Listened vc c 0 worker worker
+pub listened_none : (vc : Channel) (c : ℕ) (worker : WorkerView) → Listened vc c 0 worker worker
 listened_none vc c worker facts is = (
   [],
   facts,
@@ -30,7 +30,7 @@ listened_none vc c worker facts is = (
   },
 )
 
-pub listened_longer : (vc : Channel) (c turns : ℕ) (old new : SourceWorker) → Listened vc c turns old new → Listened vc c (turns + 1) old new
+pub listened_longer : (vc : Channel) (c turns : ℕ) (old new : WorkerView) → Listened vc c turns old new → Listened vc c (turns + 1) old new
 listened_longer vc c turns old new heard facts is =
     let h = (heard facts is).2 in (
       (heard facts is).0,
@@ -45,7 +45,7 @@ listened_longer vc c turns old new heard facts is =
       },
     )
 
-pub listened_again : (vc : Channel) (c turns : ℕ) (old mid new : SourceWorker) → Listened vc c turns old mid → Listened vc c 1 mid new → Listened vc c (turns + 1) old new
+pub listened_again : (vc : Channel) (c turns : ℕ) (old mid new : WorkerView) → Listened vc c turns old mid → Listened vc c 1 mid new → Listened vc c (turns + 1) old new
 listened_again vc c turns old mid new before once facts is =
     let first = before facts is in
     let last = once first.1 first.2.actor in (
@@ -61,7 +61,7 @@ listened_again vc c turns old mid new before once facts is =
       },
     )
 
-pub heard_once : (vc : Channel) (c : ℕ) (answer : Reply) (old : SourceWorker) (outcome : Outcome) (new : SourceWorker) → is_asking_in old.actor.state ≡ true
+pub heard_once : (vc : Channel) (c : ℕ) (answer : Reply) (old : WorkerView) (outcome : Outcome) (new : WorkerView) → is_asking_in old.actor.state ≡ true
     → ((facts : List Fact) → old.actor ≡ actor_of vc facts → HasDone vc c facts (Told answer) old outcome new) → Listened vc c 1 old new
 heard_once vc c answer old outcome new asks done facts is =
     let h = done facts is in (
@@ -76,3 +76,13 @@ heard_once vc c answer old outcome new asks done facts is =
         arrived = h.arrived;
       },
     )
+
+-- a source that stays the one of its connection
+pub stays_on : (old mid new : SiteView) → StaysHome old mid → StaysHome mid new → StaysHome old new
+stays_on old mid new first then_ = record { conn = then_.conn ∙ first.conn; vc = then_.vc ∙ first.vc }
+
+pub told_again : (site here there : SiteView) (turns : ℕ) (old mid new : WorkerView) → Listened site.vc site.conn turns old mid → StaysHome site here → Listened here.vc here.conn 1 mid new → Listened site.vc site.conn (turns + 1) old new
+told_again site here there turns old mid new before stays once =
+    let P : Channel → Type 0 = λ vc. Listened vc here.conn 1 mid new in
+    let Q : ℕ → Type 0 = λ c. Listened site.vc c 1 mid new in
+    listened_again site.vc site.conn turns old mid new before (subst Q stays.conn (subst P stays.vc once))

@@ -9,3 +9,6 @@ pub mod Doing
 pub mod Hearing
 pub mod Running
 mod Grown
+pub mod Acting
+pub mod Closing
+pub mod Wounds

@@ -8,11 +8,12 @@ use Rattle.abt_journal.specs.Receipts.{Seated}
 use Rattle.abt_journal.specs.declared.fault.ServeFault.{ServeFault}
 use Rattle.abt_journal.specs.declared.fault.ServeFault.TheVariants.{Wound, Memory}
 use Rattle.abt_model.specs.declared.script_command.Command.{Command}
-use Rattle.abt_model.specs.declared.journal.SourceJournal.{SourceJournal}
+use Rattle.abt_history.specs.Sites.{SiteView}
 use Rattle.abt_links.specs.Faults.{IsRight, run_fault, graver, fault_in, fault_among, given_back, fault_told}
-use Rattle.abt_links.specs.Promises.{IsAccess, AreLinksFrom, AreAccessesFrom, KeepEachLink, KeepEachAccess, KeepItsOperator, IsOperator, KeepLinks, KeepAccesses, AreSourcesFrom, AreLinkSeatsFrom, AreWorked, IsOwn, IsOwnFault, WoundsRight}
+use Rattle.abt_links.specs.Promises.{IsAccess, AreLinksFrom, AreAccessesFrom, KeepEachLink, KeepEachAccess, KeepItsOperator, IsOperator, KeepLinks, KeepAccesses, AreSourcesFrom, AreLinkSeatsFrom, AreWorked, IsOwn, IsLate, IsOwnFault, WoundsRight}
 use Rattle.abt_links.specs.declared.fault.RunFault.{RunFault}
-use Rattle.abt_links.specs.declared.fault.RunFault.TheVariants.{Thread, Wound as RunWound, Memory as RunMemory}
+use Rattle.abt_links.specs.Lines.{AreNumberedFrom}
+use Rattle.abt_links.specs.declared.fault.RunFault.TheVariants.{Workers, Scripts, Operator, Thread, Wound as RunWound, Gather, Memory as RunMemory}
 use Rattle.abt_links.specs.declared.worker_results.WorkerResults.{WorkerResults}
 use Rattle.abt_links.specs.declared.promises.AccessOf.{AccessOf}
 use Rattle.abt_links.specs.declared.promises.LinkOf.{LinkOf}
@@ -50,14 +51,14 @@ links_kept n (p ∷ ps) (s ∷ ss) a k =
     let h = links_kept (n + 1) ps ss a.1 k.1 in
     ((record { own = k.0.own ∙ a.0; messages = k.0.messages }, h.0), omega arith)
 
-access_is : (net other : Topology) (c d : ℕ) (script said : List Command) (seat : Seated) (journal : SourceJournal) → d ≡ c → other ≡ net → said ≡ script → IsAccess other d said seat journal → IsAccess net c script seat journal
+access_is : (net other : Topology) (c d : ℕ) (script said : List Command) (seat : Seated) (journal : SiteView) → d ≡ c → other ≡ net → said ≡ script → IsAccess other d said seat journal → IsAccess net c script seat journal
 access_is net other c d script said seat journal at own is h =
     let P : ℕ → Type 0 = λ k. IsAccess other k said seat journal in
     let Q : Topology → Type 0 = λ t. IsAccess t c said seat journal in
     let R : List Command → Type 0 = λ s. IsAccess net c s seat journal in
     subst R is (subst Q own (subst P at h))
 
-pub sources_kept : (net : Topology) (n : ℕ) (cs : List (List Command)) (ps : List AccessOf) (ss : List Seated) (js : List SourceJournal) → AreAccessesFrom net n cs ps → length ps ≡ length cs → KeepAccesses ps ss js
+pub sources_kept : (net : Topology) (n : ℕ) (cs : List (List Command)) (ps : List AccessOf) (ss : List Seated) (js : List SiteView) → AreAccessesFrom net n cs ps → length ps ≡ length cs → KeepAccesses ps ss js
     → AreSourcesFrom net n cs ss js
 sources_kept net n [] [] [] [] a l k = tt
 sources_kept net n [] [] [] (j ∷ js) a l k = absurd k
@@ -98,7 +99,7 @@ links_right [] (r ∷ rs) k = absurd k
 links_right (p ∷ ps) [] k = absurd k
 links_right (p ∷ ps) (r ∷ rs) k = graver_right (fault_in r) (fault_among rs) (fault_right r k.0.1) (links_right ps rs k.1)
 
-accesses_right : (ps : List AccessOf) (rs : List (Result (Seated × SourceJournal) ServeFault)) → KeepEachAccess ps rs → ForSome (fault_among rs) IsRight
+accesses_right : (ps : List AccessOf) (rs : List (Result (Seated × SiteView) ServeFault)) → KeepEachAccess ps rs → ForSome (fault_among rs) IsRight
 accesses_right [] [] k = λ x is. absurd (cc)
 accesses_right [] (r ∷ rs) k = absurd k
 accesses_right (p ∷ ps) [] k = absurd k
@@ -112,8 +113,8 @@ keep_links (p ∷ ps) [] k none = absurd k
 keep_links (p ∷ ps) (Ok seat ∷ rs) k none = (k.0.0, keep_links ps rs k.1 none)
 keep_links (p ∷ ps) (Err fault ∷ rs) k none = absurd (let h : Some fault ≡ None = (graver_none (Some fault) (fault_among rs) none).0 in cc)
 
-keep_accesses : (ps : List AccessOf) (rs : List (Result (Seated × SourceJournal) ServeFault)) → KeepEachAccess ps rs → fault_among rs ≡ None
-    → KeepAccesses ps (map (λ (r : Seated × SourceJournal). r.0) (given_back rs)) (map (λ (r : Seated × SourceJournal). r.1) (given_back rs))
+keep_accesses : (ps : List AccessOf) (rs : List (Result (Seated × SiteView) ServeFault)) → KeepEachAccess ps rs → fault_among rs ≡ None
+    → KeepAccesses ps (map (λ (r : Seated × SiteView). r.0) (given_back rs)) (map (λ (r : Seated × SiteView). r.1) (given_back rs))
 keep_accesses [] [] k none = tt
 keep_accesses [] (r ∷ rs) k none = absurd k
 keep_accesses (p ∷ ps) [] k none = absurd k
@@ -134,7 +135,7 @@ mapped_own (Some Memory) fault right is =
     let P : RunFault → Type 0 = IsOwn in subst P same tt
 
 -- no fault is told
-pub none_told : (operator : Result Seated ServeFault) (ss : List (Result (Seated × SourceJournal) ServeFault)) (ls : List (Result Seated ServeFault)) → fault_told (Some operator) ss ls ≡ None
+pub none_told : (operator : Result Seated ServeFault) (ss : List (Result (Seated × SiteView) ServeFault)) (ls : List (Result Seated ServeFault)) → fault_told (Some operator) ss ls ≡ None
     → (fault_among ss ≡ None) × (fault_among ls ≡ None) × (fault_in operator ≡ None)
 none_told operator ss ls none =
     let all = graver_none (graver (fault_among ss) (fault_among ls)) (fault_in operator) (unmapped (graver (graver (fault_among ss) (fault_among ls)) (fault_in operator)) none) in
@@ -146,7 +147,7 @@ seat_given : (operator : Result Seated ServeFault) → fault_in operator ≡ Non
 seat_given (Ok seat) none = (seat, refl)
 seat_given (Err fault) none = absurd (cc)
 
-pub operator_given : (operator : Option (Result Seated ServeFault)) (ss : List (Result (Seated × SourceJournal) ServeFault)) (ls : List (Result Seated ServeFault)) → fault_told operator ss ls ≡ None
+pub operator_given : (operator : Option (Result Seated ServeFault)) (ss : List (Result (Seated × SiteView) ServeFault)) (ls : List (Result Seated ServeFault)) → fault_told operator ss ls ≡ None
     → (seat : Seated) × (operator ≡ Some (Ok seat))
 operator_given None ss ls none = absurd (cc)
 operator_given (Some operator) ss ls none =
@@ -154,7 +155,7 @@ operator_given (Some operator) ss ls none =
 
 -- the fault that is told is one of the workers themselves
 told_own : (ps : List AccessOf) (qs : List LinkOf) (o : Option OperatorOf) (operator : Option (Result Seated ServeFault))
-    (ss : List (Result (Seated × SourceJournal) ServeFault)) (ls : List (Result Seated ServeFault)) (fault : RunFault)
+    (ss : List (Result (Seated × SiteView) ServeFault)) (ls : List (Result Seated ServeFault)) (fault : RunFault)
     → KeepEachAccess ps ss → KeepEachLink qs ls → KeepItsOperator o operator → fault_told operator ss ls ≡ Some fault → IsOwn fault
 told_own ps qs o None ss ls fault kept linked ran told =
     let same : Thread ≡ fault = cc in
@@ -180,12 +181,12 @@ promised_there None operator ran = absurd ran
 promised_there (Some p) operator ran = refl
 
 -- what all workers gave back, who kept their promises
-worked_is : (net : Topology) (scripts : List (List Command)) (operations : List (ℕ × ℕ)) (workers : ℕ) (ps : List AccessOf) (qs : List LinkOf) (o : Option OperatorOf) (seat : Seated)
-    (ss : List (Result (Seated × SourceJournal) ServeFault)) (ls : List (Result Seated ServeFault)) (worked : WorkerResults)
+worked_is : {K F T : Type 0} (net : Topology) (scripts : List (List Command)) (operations : List (ℕ × ℕ)) (workers : ℕ) (ps : List AccessOf) (qs : List LinkOf) (o : Option OperatorOf) (seat : Seated)
+    (ss : List (Result (Seated × SiteView) ServeFault)) (ls : List (Result Seated ServeFault)) (worked : WorkerResults K F T)
     → AreAccessesFrom net 0 scripts ps → AreLinksFrom (length net.conns) qs → IfSome o (λ p. (p.caller ≡ length net.conns + workers) × (p.operations.now ≡ operations))
     → (IsSome o → (length ps ≡ length scripts) × (length qs ≡ workers))
     → KeepEachAccess ps ss → KeepEachLink qs ls → KeepItsOperator o (Some (Ok seat)) → fault_told (Some (Ok seat)) ss ls ≡ None
-    → worked.accesses.items ≡ map (λ (r : Seated × SourceJournal). r.0) (given_back ss) → worked.sources.items ≡ map (λ (r : Seated × SourceJournal). r.1) (given_back ss)
+    → worked.accesses.items ≡ map (λ (r : Seated × SiteView). r.0) (given_back ss) → worked.sites.items ≡ map (λ (r : Seated × SiteView). r.1) (given_back ss)
     → worked.links.items ≡ given_back ls → worked.operator ≡ seat → AreWorked net scripts operations workers worked
 worked_is net scripts operations workers ps qs o seat ss ls worked a b promised all kept linked ran none seats journals links own =
     let clean = none_told (Ok seat) ss ls none in
@@ -194,7 +195,7 @@ worked_is net scripts operations workers ps qs o seat ss ls worked a b promised 
     let h = links_kept (length net.conns) qs (given_back ls) b (keep_links qs ls linked clean.1) in
     let P : Seated → Type 0 = IsOperator (length net.conns + workers) operations in
     record {
-      sources = rw (seats, journals) (sources_kept net 0 scripts ps (map (λ (r : Seated × SourceJournal). r.0) (given_back ss)) (map (λ (r : Seated × SourceJournal). r.1) (given_back ss)) a counts.0 accesses);
+      sources = rw (seats, journals) (sources_kept net 0 scripts ps (map (λ (r : Seated × SiteView). r.0) (given_back ss)) (map (λ (r : Seated × SiteView). r.1) (given_back ss)) a counts.0 accesses);
       links = rw links h.0;
       count = ap length links ∙ h.1 ∙ counts.1;
       operator = subst P (sym own) (operator_kept (length net.conns + workers) operations o seat promised ran);
@@ -205,13 +206,13 @@ cases_told : (told : Option RunFault) → (told ≡ None) ⊎ ((fault : RunFault
 cases_told None = inl refl
 cases_told (Some fault) = inr (fault, refl)
 
-pub worked_or : (net : Topology) (scripts : List (List Command)) (operations : List (ℕ × ℕ)) (workers : ℕ) (ps : List AccessOf) (qs : List LinkOf) (o : Option OperatorOf) (operator : Option (Result Seated ServeFault))
-    (ss : List (Result (Seated × SourceJournal) ServeFault)) (ls : List (Result Seated ServeFault)) (result : Result WorkerResults RunFault)
+pub worked_or : {K F T : Type 0} (net : Topology) (scripts : List (List Command)) (operations : List (ℕ × ℕ)) (workers : ℕ) (ps : List AccessOf) (qs : List LinkOf) (o : Option OperatorOf) (operator : Option (Result Seated ServeFault))
+    (ss : List (Result (Seated × SiteView) ServeFault)) (ls : List (Result Seated ServeFault)) (result : Result (WorkerResults K F T) RunFault)
     → AreAccessesFrom net 0 scripts ps → AreLinksFrom (length net.conns) qs → IfSome o (λ p. (p.caller ≡ length net.conns + workers) × (p.operations.now ≡ operations))
     → (IsSome o → (length ps ≡ length scripts) × (length qs ≡ workers))
     → KeepEachAccess ps ss → KeepEachLink qs ls → KeepItsOperator o operator → ((fault : RunFault) → fault_told operator ss ls ≡ Some fault → result ≡ Err fault)
-    → IfOk result (λ w. w.accesses.items ≡ map (λ (r : Seated × SourceJournal). r.0) (given_back ss))
-    → IfOk result (λ w. w.sources.items ≡ map (λ (r : Seated × SourceJournal). r.1) (given_back ss))
+    → IfOk result (λ w. w.accesses.items ≡ map (λ (r : Seated × SiteView). r.0) (given_back ss))
+    → IfOk result (λ w. w.sites.items ≡ map (λ (r : Seated × SiteView). r.1) (given_back ss))
     → IfOk result (λ w. w.links.items ≡ given_back ls) → IfOk result (λ w. operator ≡ Some (Ok w.operator)) → IfOk result (AreWorked net scripts operations workers)
 worked_or net scripts operations workers ps qs o operator ss ls (Err fault) a b promised all kept linked ran told seats journals links own = tt
 worked_or net scripts operations workers ps qs o operator ss ls (Ok worked) a b promised all kept linked ran told seats journals links own = elim (cases_told (fault_told operator ss ls)) [
@@ -223,8 +224,8 @@ worked_or net scripts operations workers ps qs o operator ss ls (Ok worked) a b 
   | inr some ↦ absurd (let clash = told some.0 some.1 in cc)
 ]
 
-pub own_or : (ps : List AccessOf) (qs : List LinkOf) (o : Option OperatorOf) (operator : Option (Result Seated ServeFault))
-    (ss : List (Result (Seated × SourceJournal) ServeFault)) (ls : List (Result Seated ServeFault)) (result : Result WorkerResults RunFault)
+pub own_or : {K F T : Type 0} (ps : List AccessOf) (qs : List LinkOf) (o : Option OperatorOf) (operator : Option (Result Seated ServeFault))
+    (ss : List (Result (Seated × SiteView) ServeFault)) (ls : List (Result Seated ServeFault)) (result : Result (WorkerResults K F T) RunFault)
     → KeepEachAccess ps ss → KeepEachLink qs ls → KeepItsOperator o operator → ((fault : RunFault) → fault_told operator ss ls ≡ Some fault → result ≡ Err fault)
     → (fault_told operator ss ls ≡ None → IfErr result (λ fault. fault ≡ RunMemory)) → IsOwnFault result
 own_or ps qs o operator ss ls (Ok worked) kept linked ran told none = tt
@@ -240,3 +241,53 @@ pub promised_of : {H : Type 0} (f : H → OperatorOf) (o : Option H) (caller mos
     → IfSome (option_map f o) (λ p. (p.caller ≡ most) × (p.operations.now ≡ operations))
 promised_of f None caller most operations same promised = tt
 promised_of f (Some h) caller most operations same promised = (promised.0 ∙ same, promised.1)
+
+-- the sources that were given back are those of their connections
+pub sources_numbered : (net : Topology) (n : ℕ) (scripts : List (List Command)) (seats : List Seated) (sites : List SiteView) → AreSourcesFrom net n scripts seats sites → AreNumberedFrom n sites
+sources_numbered net n [] [] [] ran = tt
+sources_numbered net n [] [] (s ∷ sites) ran = absurd ran
+sources_numbered net n [] (t ∷ seats) sites ran = absurd ran
+sources_numbered net n (c ∷ scripts) [] sites ran = absurd ran
+sources_numbered net n (c ∷ scripts) (t ∷ seats) [] ran = absurd ran
+sources_numbered net n (c ∷ scripts) (t ∷ seats) (s ∷ sites) ran = (ran.0.own, sources_numbered net (n + 1) scripts seats sites ran.1)
+
+pub sources_counted : (net : Topology) (n : ℕ) (scripts : List (List Command)) (seats : List Seated) (sites : List SiteView) → AreSourcesFrom net n scripts seats sites → length sites ≡ length scripts
+sources_counted net n [] [] [] ran = refl
+sources_counted net n [] [] (s ∷ sites) ran = absurd ran
+sources_counted net n [] (t ∷ seats) sites ran = absurd ran
+sources_counted net n (c ∷ scripts) [] sites ran = absurd ran
+sources_counted net n (c ∷ scripts) (t ∷ seats) [] ran = absurd ran
+sources_counted net n (c ∷ scripts) (t ∷ seats) (s ∷ sites) ran = let h = sources_counted net (n + 1) scripts seats sites ran.1 in omega arith
+
+-- a fault of the workers comes after what is asked for was looked at
+pub own_late : (fault : RunFault) → IsOwn fault → IsLate fault
+own_late Workers own = own
+own_late Scripts own = own
+own_late Operator own = own
+own_late Thread own = own
+own_late (RunWound seen found) own = own
+own_late (Gather fault) own = absurd own
+own_late RunMemory own = own
+
+-- the fault that is told, as it is worked out
+pub told_is : (o : Option (Result Seated ServeFault)) (op : Result Seated ServeFault) (ss xs : List (Result (Seated × SiteView) ServeFault)) (ls ys : List (Result Seated ServeFault)) (a b h i r : Option ServeFault) (f : ServeFault) (t : RunFault)
+    → o ≡ Some op → xs ≡ ss → ys ≡ ls → a ≡ fault_among xs → b ≡ fault_among ys → h ≡ graver a b → i ≡ fault_in op → r ≡ graver h i → r ≡ Some f → t ≡ run_fault f → Some t ≡ fault_told o ss ls
+told_is o op ss xs ls ys a b h i r f t there one two first second both own all some told =
+    let a_is : a ≡ fault_among ss = first ∙ ap fault_among one in
+    let b_is : b ≡ fault_among ls = second ∙ ap fault_among two in
+    let h_is : h ≡ graver (fault_among ss) (fault_among ls) = both ∙ (λ k. graver (a_is k) (b_is k)) in
+    let r_is : r ≡ graver (graver (fault_among ss) (fault_among ls)) (fault_in op) = all ∙ (λ k. graver (h_is k) (own k)) in
+    let whole : graver (graver (fault_among ss) (fault_among ls)) (fault_in op) ≡ Some f = sym r_is ∙ some in
+    subst (λ x. Some t ≡ fault_told x ss ls) (sym there) (ap Some told ∙ sym (ap (option_map run_fault) whole))
+
+-- a fault that comes late
+pub late_at : {A : Type 0} (r : Result A RunFault) (fault : RunFault) → IfErr r IsLate → r ≡ Err fault → IsLate fault
+late_at {A} r fault late is = (let P : Result A RunFault → Type 0 = λ x. IfErr x IsLate in subst P is late)
+
+pub own_all_late : {A : Type 0} (r : Result A RunFault) → IsOwnFault r → IfErr r IsLate
+own_all_late {A} (Ok x) own = tt
+own_all_late {A} (Err fault) own = own_late fault own
+
+pub some_of : {A B : Type 0} (f : A → B) (o : Option A) → IsSome (option_map f o) → IsSome o
+some_of f None is = absurd (cc)
+some_of f (Some x) is = refl

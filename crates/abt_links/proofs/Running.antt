@@ -1,32 +1,37 @@
 -- Scripts that are run command by command.
-use Rattle.std.proofs.Common.{◌≡◌, ℕ, ◌+◌, ◌≤◌, ◌<◌, ◌^◌, List, [], ◌∷◌, ◌++◌, length, map, take, get_or, All, Option, Some, slice_get, slice_index, refl, sym, ap, subst, ◌∙◌, add-one, append-nil, append_assoc, arith}
+use Rattle.std.proofs.Common.{◌≡◌, Bool, true, false, ℕ, ◌+◌, ◌≤◌, ◌<◌, ◌^◌, List, [], ◌∷◌, ◌++◌, length, map, take, get_or, All, Option, Some, slice_get, slice_index, refl, sym, ap, subst, ◌∙◌, add-one, append-nil, append_assoc, arith}
 use Rattle.std.specs.Option.{ForSome}
 use Rattle.std.proofs.Math.Seq.{take-suc}
 use Rattle.std.proofs.lemmas.Option.{slice_get-get_or}
 use Rattle.std.proofs.lemmas.List.{map-append, take_all}
 use Rattle.std.proofs.lemmas.List.Elements.{All-append}
 use Rattle.abt_net.specs.declared.conn.Conn.{Conn}
-use Rattle.abt_net.specs.Topology.{Topology, IsConnWithin, IsWithinRules}
+use Rattle.abt_net.specs.Topology.{Topology, IsConnWithin, IsWithinRules, conn_at}
+use Rattle.abt_cell.specs.Channel.{Channel}
 use Rattle.abt_facts.specs.declared.fact.Fact.{Fact}
+use Rattle.abt_model.specs.declared.command.SourceCommand.{SourceCommand}
 use Rattle.abt_model.specs.declared.command.SourceCommand.TheVariants as source
 use Rattle.abt_model.specs.declared.outcome.Outcome.{Outcome}
 use Rattle.abt_actor.specs.Actor.{actor_of}
 use Rattle.abt_journal.specs.declared.entry.Receipt.{Receipt}
 use Rattle.abt_journal.specs.Receipts.{Seated}
-use Rattle.abt_links.specs.declared.port_cell.PortCell.{PortCell}
+use Rattle.abt_links.specs.declared.port_cell.PortCellOf.{PortCellOf}
 use Rattle.abt_links.specs.Cells.{AreCellsOf}
 use Rattle.abt_model.specs.declared.script_command.Command.{Command}
 use Rattle.abt_model.specs.declared.script_command.Command.TheVariants.{Start, Ask, Again, Crash, Emit, Listen}
 use Rattle.abt_model.specs.declared.entry.SourceEntry.{SourceEntry}
 use Rattle.abt_links.specs.CommandEffects.{LineStep, CommandEffect, Does}
 use Rattle.abt_links.specs.Scripts.{arrived_after, moment_after, then_done, step_of, AreReceiptsFor, Runs, RunsScript, IsInTolerance}
-use Rattle.abt_links.specs.SourceWorkers.{HasDone, IsAfter, Obeys, Listened, HasRun, IsBehind}
+use Rattle.abt_history.specs.Modes.{When}
+use Rattle.abt_history.specs.Sites.{SiteView}
+use Rattle.abt_links.specs.Lines.{HasBegun, IsLine}
+use Rattle.abt_links.specs.SourceWorkers.{WorkerView, worked, HasDone, IsAfter, Obeys, Listened, HasRun, IsBehind, IsGiven}
 use Rattle.abt_links.specs.declared.source_worker.SourceWorker.{SourceWorker}
-use Rattle.abt_links.proofs.Doing.{bare, bare_done}
+use Rattle.abt_links.proofs.Doing.{bare, bare_done, Requests}
 
 -- Commands with which no step comes
 
-pub started : (conn : Conn) (c port now : ℕ) (old : SourceWorker) (outcome : Outcome) (new : SourceWorker)
+pub started : (conn : Conn) (c port now : ℕ) (old : WorkerView) (outcome : Outcome) (new : WorkerView)
     → ((facts : List Fact) → old.actor ≡ actor_of conn.vc facts → HasDone conn.vc c facts (source.Start now) old outcome new) → Obeys conn c port (Start now) old new
 started conn c port now old outcome new done facts is = (
   bare conn.vc c facts (source.Start now),
@@ -34,7 +39,7 @@ started conn c port now old outcome new done facts is = (
   bare_done conn.vc c port facts (source.Start now) old outcome new (done facts is),
 )
 
-pub crashed : (conn : Conn) (c port : ℕ) (old : SourceWorker) (outcome : Outcome) (new : SourceWorker)
+pub crashed : (conn : Conn) (c port : ℕ) (old : WorkerView) (outcome : Outcome) (new : WorkerView)
     → ((facts : List Fact) → old.actor ≡ actor_of conn.vc facts → HasDone conn.vc c facts source.Crash old outcome new) → Obeys conn c port Crash old new
 crashed conn c port old outcome new done facts is = (
   bare conn.vc c facts source.Crash,
@@ -42,7 +47,7 @@ crashed conn c port old outcome new done facts is = (
   bare_done conn.vc c port facts source.Crash old outcome new (done facts is),
 )
 
-pub listened : (conn : Conn) (c port turns : ℕ) (old new : SourceWorker) → Listened conn.vc c turns old new → Obeys conn c port (Listen turns) old new
+pub listened : (conn : Conn) (c port turns : ℕ) (old new : WorkerView) → Listened conn.vc c turns old new → Obeys conn c port (Listen turns) old new
 listened conn c port turns old new heard facts is =
     let h = (heard facts is).2 in (
       record { entries = (heard facts is).0; steps = []; facts = (heard facts is).1 },
@@ -102,7 +107,7 @@ receipts-append port ss ts rs qs first last = record {
   there = All-append (λ (r : Receipt). r.port ≡ port) rs qs first.there last.there;
 }
 
-pub behind_none : (conn : Conn) (c port : ℕ) (worker : SourceWorker) → worker.actor ≡ actor_of conn.vc [] → worker.seat ≡ record { caller = c; receipts = [] } → worker.entries ≡ [] → worker.arrived ≡ 0
+pub behind_none : (conn : Conn) (c port : ℕ) (worker : WorkerView) → worker.actor ≡ actor_of conn.vc [] → worker.seat ≡ record { caller = c; receipts = [] } → worker.entries ≡ [] → worker.arrived ≡ 0
     → IsBehind conn c port [] worker
 behind_none conn c port worker actor seat entries arrived = (
   [],
@@ -116,7 +121,7 @@ behind_none conn c port worker actor seat entries arrived = (
   },
 )
 
-pub behind-push : (conn : Conn) (c port : ℕ) (commands : List Command) (command : Command) (old new : SourceWorker) → IsBehind conn c port commands old → Obeys conn c port command old new
+pub behind-push : (conn : Conn) (c port : ℕ) (commands : List Command) (command : Command) (old new : WorkerView) → IsBehind conn c port commands old → Obeys conn c port command old new
     → IsBehind conn c port (commands ++ command ∷ []) new
 behind-push conn c port commands command old new behind obeys =
     let facts : List Fact = behind.0 in
@@ -141,16 +146,16 @@ behind-push conn c port commands command old new behind obeys =
 
 -- The loop over a script
 
-pub script_begun : (conn : Conn) (c port : ℕ) (items : List Command) (worker : SourceWorker) → IsBehind conn c port [] worker → IsBehind conn c port (take 0 items) worker
+pub script_begun : (conn : Conn) (c port : ℕ) (items : List Command) (worker : WorkerView) → IsBehind conn c port [] worker → IsBehind conn c port (take 0 items) worker
 script_begun conn c port items worker h = h
 
-pub script_goes_on : (conn : Conn) (c port : ℕ) (items : List Command) (index : ℕ) (command : Command) (old new : SourceWorker) → index < length items → command ≡ get_or items index command
+pub script_goes_on : (conn : Conn) (c port : ℕ) (items : List Command) (index : ℕ) (command : Command) (old new : WorkerView) → index < length items → command ≡ get_or items index command
     → IsBehind conn c port (take index items) old → Obeys conn c port command old new → IsBehind conn c port (take (index + 1) items) new
 script_goes_on conn c port items index command old new low is behind obeys =
     let grown : take (index + 1) items ≡ take index items ++ command ∷ [] = ap (λ (n : ℕ). take n items) (add-one index) ∙ (take-suc items index command low ∙ ap (λ (x : Command). take index items ++ x ∷ []) (sym is)) in
     rw grown (behind-push conn c port (take index items) command old new behind obeys)
 
-pub script_done : (conn : Conn) (c port : ℕ) (script items : List Command) (index : ℕ) (worker : SourceWorker) → items ≡ script → length items ≤ index → IsBehind conn c port (take index items) worker
+pub script_done : (conn : Conn) (c port : ℕ) (script items : List Command) (index : ℕ) (worker : WorkerView) → items ≡ script → length items ≤ index → IsBehind conn c port (take index items) worker
     → RunsScript conn c script worker.entries (map (λ (r : Receipt). step_of r.entry) worker.seat.receipts) × All (λ (r : Receipt). r.port ≡ port) worker.seat.receipts
 script_done conn c port script items index worker same past behind =
     let h : HasRun conn c port (take index items) behind.0 behind.1 worker = behind.2 in
@@ -194,10 +199,65 @@ rules_of net c line rules low is =
     let Q : Conn → Type 0 = IsConnWithin (length net.capacities) in subst Q same here
 
 -- the cell of the first port of a line
-pub first_cell : (net : Topology) (cells : List PortCell) (line : Conn) (path : List ℕ) (place : ℕ) (cell : PortCell) → AreCellsOf net cells → IsConnWithin (length net.capacities) line
+pub first_cell : {K F T : Type 0} (net : Topology) (cells : List (PortCellOf K F T)) (line : Conn) (path : List ℕ) (place : ℕ) (cell : PortCellOf K F T) → AreCellsOf net cells → IsConnWithin (length net.capacities) line
     → path ≡ line.path → place ≡ slice_index path 0 → cell ≡ get_or cells place cell → cell.port ≡ slice_index line.path 0
-first_cell net cells line path place cell are rules same at is =
+first_cell {K} {F} {T} net cells line path place cell are rules same at is =
     let first : place ≡ slice_index line.path 0 = at ∙ ap (λ (p : List ℕ). slice_index p 0) same in
     let within : slice_index line.path 0 < length net.capacities = rules.in_net 0 0 rules.has_hop in
     let low : place < length cells = (let n = are.ports in omega arith) in
     are.each place cell (slice_get-get_or cells place cell low ∙ ap Some (sym is)) ∙ first
+
+-- The same of a source whose channel is that of its line
+
+pub starts : (conn : Conn) (vc : Channel) (c port now : ℕ) (old : WorkerView) (outcome : Outcome) (new : WorkerView) → vc ≡ conn.vc
+    → ((facts : List Fact) → old.actor ≡ actor_of vc facts → HasDone vc c facts (source.Start now) old outcome new) → Obeys conn c port (Start now) old new
+starts conn vc c port now old outcome new same done =
+    let P : Channel → Type 0 = λ v. (facts : List Fact) → old.actor ≡ actor_of v facts → HasDone v c facts (source.Start now) old outcome new in
+    started conn c port now old outcome new (subst P same done)
+
+pub crashes : (conn : Conn) (vc : Channel) (c port : ℕ) (old : WorkerView) (outcome : Outcome) (new : WorkerView) → vc ≡ conn.vc
+    → ((facts : List Fact) → old.actor ≡ actor_of vc facts → HasDone vc c facts source.Crash old outcome new) → Obeys conn c port Crash old new
+crashes conn vc c port old outcome new same done =
+    let P : Channel → Type 0 = λ v. (facts : List Fact) → old.actor ≡ actor_of v facts → HasDone v c facts source.Crash old outcome new in
+    crashed conn c port old outcome new (subst P same done)
+
+pub listens : (conn : Conn) (vc : Channel) (c port turns : ℕ) (old new : WorkerView) → vc ≡ conn.vc → Listened vc c turns old new → Obeys conn c port (Listen turns) old new
+listens conn vc c port turns old new same heard =
+    let P : Channel → Type 0 = λ v. Listened v c turns old new in listened conn c port turns old new (subst P same heard)
+
+-- what a request comes to, at the line's channel
+pub asks_so : (conn : Conn) (vc : Channel) (c port : ℕ) (command : SourceCommand) (old new : WorkerView) → vc ≡ conn.vc
+    → ((facts : List Fact) → old.actor ≡ actor_of vc facts → Requests vc c port facts command old new)
+    → (facts : List Fact) → old.actor ≡ actor_of conn.vc facts → Requests conn.vc c port facts command old new
+asks_so conn vc c port command old new same done =
+    let P : Channel → Type 0 = λ v. (facts : List Fact) → old.actor ≡ actor_of v facts → Requests v c port facts command old new in subst P same done
+
+-- a worker that has run commands has an actor that facts give
+pub behind_given : (conn : Conn) (vc : Channel) (c port : ℕ) (commands : List Command) (worker : WorkerView) → IsBehind conn c port commands worker → vc ≡ conn.vc → IsGiven vc worker.actor
+behind_given conn vc c port commands worker behind same = (behind.0, behind.2.actor ∙ ap (λ (v : Channel). actor_of v behind.0) (sym same))
+
+-- The beginning of a script
+
+pub script_begins : {K F T : Type 0} (net : Topology) (mine : Conn) (port : ℕ) (site : SiteView) (worker : SourceWorker K F T) → HasBegun net site → conn_at net site.conn ≡ Some mine → worker.site ≡ site
+    → worker.seat ≡ record { caller = site.conn; receipts = [] } → IsBehind mine worker.site.conn port [] (worked worker)
+script_begins {K} {F} {T} net mine port site worker begun at same seated =
+    behind_none mine worker.site.conn port (worked worker)
+    (ap (λ (s : SiteView). s.actor) same ∙ (begun.actor ∙ ap (λ (v : Channel). actor_of v []) (begun.channel mine at)))
+    (seated ∙ ap (λ (n : ℕ). (let s : Seated = record { caller = n; receipts = [] } in s)) (sym (ap (λ (s : SiteView). s.conn) same)))
+    (ap (λ (s : SiteView). s.entries) same ∙ begun.entries)
+    (ap (λ (s : SiteView). s.arrived) same ∙ begun.arrived)
+
+-- the line of a source, as the run's net has it
+pub line_kept : (b : Bool) (kept net : Topology) (c d port : ℕ) (line : Conn) → When b (kept ≡ net) → conn_at net d ≡ Some line → c ≡ d → port ≡ slice_index line.path 0 → When b (IsLine kept c line port)
+line_kept true kept net c d port line same at here first = record { known = ap (λ (n : Topology). conn_at n c) same ∙ (ap (conn_at net) here ∙ at); first = first }
+line_kept false kept net c d port line same at here first = tt
+
+pub net_kept : (b : Bool) (kept net other : Topology) → When b (kept ≡ net) → other ≡ net → When b (kept ≡ other)
+net_kept true kept net other same here = same ∙ sym here
+net_kept false kept net other same here = tt
+
+pub in_tolerance_at : (tau : ℕ) (script items : List Command) (index : ℕ) (command : Command) → items ≡ script → index < length items → command ≡ get_or items index command → All (IsInTolerance tau) script → IsInTolerance tau command
+in_tolerance_at tau script items index command same low is all =
+    let P : List Command → Type 0 = λ xs. All (IsInTolerance tau) xs in
+    let here : IsInTolerance tau (get_or items index command) = (subst P (sym same) all) index command low in
+    let Q : Command → Type 0 = IsInTolerance tau in subst Q (sym is) here

@@ -5,7 +5,7 @@ use Rattle.abt_journal.specs.declared.fault.ServeFault.{ServeFault}
 use Rattle.abt_journal.specs.declared.fault.ServeFault.TheVariants as serve
 use Rattle.abt_journal.specs.declared.gather_fault.GatherFault.{GatherFault}
 use Rattle.abt_journal.specs.declared.gather_fault.GatherFault.TheVariants as gather
-use Rattle.abt_model.specs.declared.journal.SourceJournal.{SourceJournal}
+use Rattle.abt_history.specs.Sites.{SiteView}
 use Rattle.abt_links.specs.declared.fault.RunFault.{RunFault}
 use Rattle.abt_links.specs.declared.fault.RunFault.TheVariants.{Thread, Wound, Gather, Memory}
 
@@ -46,7 +46,7 @@ given_back (Err fault ∷ rs) = given_back rs
 
 -- The fault that a run tells of its workers, if there is one: that not all could be started (the operator's is the
 -- last); else the first Wound, of sources, then link workers, then the operator; else want of memory.
-abbrev pub fault_told : (operator : Option (Result Seated ServeFault)) → List (Result (Seated × SourceJournal) ServeFault) → List (Result Seated ServeFault) → Option RunFault
+abbrev pub fault_told : (operator : Option (Result Seated ServeFault)) → List (Result (Seated × SiteView) ServeFault) → List (Result Seated ServeFault) → Option RunFault
 fault_told None sources links = Some Thread
 fault_told (Some operator) sources links =
     option_map run_fault (graver (graver (fault_among sources) (fault_among links)) (fault_in operator))

@@ -6,7 +6,7 @@ use Rattle.abt_journal.specs.Receipts.{Seated}
 use Rattle.abt_journal.specs.declared.fault.ServeFault.{ServeFault}
 use Rattle.abt_journal.specs.declared.fault.ServeFault.TheVariants.{Wound}
 use Rattle.abt_model.specs.declared.script_command.Command.{Command}
-use Rattle.abt_model.specs.declared.journal.SourceJournal.{SourceJournal}
+use Rattle.abt_history.specs.Sites.{SiteView}
 use Rattle.abt_links.specs.Messages.{IsMessage}
 use Rattle.abt_links.specs.Operations.{AreReceiptsFor}
 use Rattle.abt_links.specs.Scripts.{RunsScript, step_of}
@@ -21,13 +21,14 @@ use Rattle.abt_links.specs.declared.worker_results.WorkerResults.{WorkerResults}
 abbrev pub WoundsRight : {A : Type 0} → Result A ServeFault → Type 0
 WoundsRight r = (seen found : ℕ) → IsErrOf r (Wound seen found) → found < seen
 
--- The seat and the journal are those of the source of connection c, which ran its script.
-pub record IsAccess (net : Topology) (c : ℕ) (script : List Command) (seat : Seated) (journal : SourceJournal) : Type 0 where
+-- The seat is that of the source of connection c, which ran its script.
+pub record IsAccess (net : Topology) (c : ℕ) (script : List Command) (seat : Seated) (site : SiteView) : Type 0 where
   pub caller : seat.caller ≡ c
-  pub runs : (line : Conn) → conn_at net c ≡ Some line → RunsScript line c script journal.entries (map (λ receipt. step_of receipt.entry) seat.receipts)
+  pub own : site.conn ≡ c
+  pub runs : (line : Conn) → conn_at net c ≡ Some line → RunsScript line c script site.entries (map (λ receipt. step_of receipt.entry) seat.receipts)
   pub first : (line : Conn) → conn_at net c ≡ Some line → All (λ receipt. receipt.port ≡ slice_index line.path 0) seat.receipts
 
-abbrev pub KeepsAccess : Topology → ℕ → List Command → Result (Seated × SourceJournal) ServeFault → Type 0
+abbrev pub KeepsAccess : Topology → ℕ → List Command → Result (Seated × SiteView) ServeFault → Type 0
 KeepsAccess net c script r = IfOk r (λ x. IsAccess net c script x.0 x.1) × WoundsRight r
 
 -- The seat is that of a link worker.
@@ -65,7 +66,7 @@ KeepEachLink [] (r ∷ rs) = ⊥
 KeepEachLink (p ∷ ps) [] = ⊥
 KeepEachLink (p ∷ ps) (r ∷ rs) = KeepsLink p.caller r × KeepEachLink ps rs
 
-abbrev pub KeepEachAccess : List AccessOf → List (Result (Seated × SourceJournal) ServeFault) → Type 0
+abbrev pub KeepEachAccess : List AccessOf → List (Result (Seated × SiteView) ServeFault) → Type 0
 KeepEachAccess [] [] = Unit {0}
 KeepEachAccess [] (r ∷ rs) = ⊥
 KeepEachAccess (p ∷ ps) [] = ⊥
@@ -85,7 +86,7 @@ KeepLinks [] (s ∷ ss) = ⊥
 KeepLinks (p ∷ ps) [] = ⊥
 KeepLinks (p ∷ ps) (s ∷ ss) = IsLink p.caller s × KeepLinks ps ss
 
-abbrev pub KeepAccesses : List AccessOf → List Seated → List SourceJournal → Type 0
+abbrev pub KeepAccesses : List AccessOf → List Seated → List SiteView → Type 0
 KeepAccesses [] [] [] = Unit {0}
 KeepAccesses [] [] (j ∷ js) = ⊥
 KeepAccesses [] (s ∷ ss) js = ⊥
@@ -93,8 +94,8 @@ KeepAccesses (p ∷ ps) [] js = ⊥
 KeepAccesses (p ∷ ps) (s ∷ ss) [] = ⊥
 KeepAccesses (p ∷ ps) (s ∷ ss) (j ∷ js) = IsAccess p.net.value p.conn p.script.value s j × KeepAccesses ps ss js
 
--- the seats and the journals of the sources from n on
-abbrev pub AreSourcesFrom : Topology → ℕ → List (List Command) → List Seated → List SourceJournal → Type 0
+-- the seats of the sources from n on, and the sources
+abbrev pub AreSourcesFrom : Topology → ℕ → List (List Command) → List Seated → List SiteView → Type 0
 AreSourcesFrom net n [] [] [] = Unit {0}
 AreSourcesFrom net n [] [] (j ∷ js) = ⊥
 AreSourcesFrom net n [] (s ∷ ss) js = ⊥
@@ -107,9 +108,9 @@ abbrev pub AreLinkSeatsFrom : ℕ → List Seated → Type 0
 AreLinkSeatsFrom n [] = Unit {0}
 AreLinkSeatsFrom n (s ∷ ss) = IsLink n s × AreLinkSeatsFrom (n + 1) ss
 
--- The workers gave back the seats and the journals of all sources, the seats of all link workers, and the operator's seat.
-pub record AreWorked (net : Topology) (scripts : List (List Command)) (operations : List (ℕ × ℕ)) (workers : ℕ) (worked : WorkerResults) : Type 0 where
-  pub sources : AreSourcesFrom net 0 scripts worked.accesses.items worked.sources.items
+-- The workers gave back all sources with their seats, the seats of all link workers, and the operator's seat.
+pub record AreWorked {K F T : Type 0} (net : Topology) (scripts : List (List Command)) (operations : List (ℕ × ℕ)) (workers : ℕ) (worked : WorkerResults K F T) : Type 0 where
+  pub sources : AreSourcesFrom net 0 scripts worked.accesses.items worked.sites.items
   pub links : AreLinkSeatsFrom (length net.conns) worked.links.items
   pub count : length worked.links.items ≡ workers
   pub operator : IsOperator (length net.conns + workers) operations worked.operator
@@ -126,3 +127,13 @@ IsOwn run.Memory = Unit {0}
 
 abbrev pub IsOwnFault : {A : Type 0} → Result A RunFault → Type 0
 IsOwnFault r = IfErr r IsOwn
+
+-- The fault is not one of what is asked for.
+abbrev pub IsLate : RunFault → Type 0
+IsLate run.Workers = ⊥
+IsLate run.Scripts = ⊥
+IsLate run.Operator = ⊥
+IsLate run.Thread = Unit {0}
+IsLate (run.Wound seen found) = found < seen
+IsLate (run.Gather fault) = Unit {0}
+IsLate run.Memory = Unit {0}

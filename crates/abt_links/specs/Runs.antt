@@ -11,7 +11,7 @@ use Rattle.abt_links.specs.Operations.{handed_to}
 use Rattle.abt_model.specs.declared.script_command.Command.{Command}
 use Rattle.abt_model.specs.declared.journal.SourceJournal.{SourceJournal}
 use Rattle.abt_links.specs.declared.plan.ThreadPlan.{ThreadPlan}
-use Rattle.abt_links.specs.Messages.{input_of}
+use Rattle.abt_serving.specs.Messages.{input_of}
 use Rattle.abt_links.specs.Scripts.{RunsScript, IsInTolerance, step_of}
 use Rattle.abt_links.specs.declared.gathered.Gathered.{Gathered}
 

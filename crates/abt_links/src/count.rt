@@ -1,15 +1,16 @@
 //! Cells as a link worker counts them.
 ghost use Rattle.std.specs.Prelude.{◌≡◌};
+ghost use Rattle.std.specs.Option.{option_map};
 ghost use Rattle.abt_links.specs.Counting as counting;
 
-use crate::parcel::Parcel;
+use crate::carrying::Carrying;
+use crate::cell::CellOf;
 
 // A cell that a link worker took, with its number, from 1.
-#[derive(Clone, Copy, Debug, PartialEq, Eq)]
-pub(crate) struct NumberedCell {
+#[derive(Drop)]
+pub(crate) struct NumberedCell<K: Carrying> {
     pub(crate) number: u64,
-    pub(crate) port: u16,
-    pub(crate) octets: [u8; 52],
+    pub(crate) cell: CellOf<K>,
 }
 
 // How many cells a link worker has taken. The greatest number stays.
@@ -27,18 +28,19 @@ impl CellCount {
     }
 
     // Counts the cell of a parcel, if it doesn't say stop, whatever the octets of the cell are.
-    pub(crate) fn count(&mut self, parcel: Parcel) -> Option<NumberedCell>
-        ensures cell { result ≡ counting.numbered self.old.taken parcel }
-        ensures taken { self.new.taken ≡ counting.taken_after self.old.taken parcel }
+    pub(crate) fn count<K: Carrying>(&mut self, parcel: K::Parcel) -> Option<NumberedCell<K>>
+        ensures cell { option_map (λ n. record {
+          number = n.number;
+          port = n.cell.port;
+          octets = n.cell.octets;
+        }) result ≡ counting.numbered self.old.taken (K.plain parcel) }
+        ensures taken { self.new.taken ≡ counting.taken_after self.old.taken (K.plain parcel) }
     {
-        let Parcel::Cell { port, octets } = parcel else {
-            return None;
-        };
+        let (port, octets, front) = K::opened(parcel)?;
         self.taken = self.taken.saturating_add(1);
         Some(NumberedCell {
             number: self.taken,
-            port,
-            octets,
+            cell: CellOf::new(port, octets, front),
         })
     }
 }

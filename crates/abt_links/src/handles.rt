@@ -2,7 +2,7 @@
 ghost use Rattle.std.specs.Prelude.{◌≡◌, ◌≤◌, ◌<◌, ◌+◌, [], ◌∷◌, ◌++◌, true, false, IfOk, map, option_map, vec_len, vec_capacity};
 ghost use Rattle.abt_links.specs.Promises.{KeepEachAccess, KeepEachLink, KeepItsOperator};
 
-use crate::Parcel;
+use crate::Carrying;
 use crate::join::{
     AccessHandle, AccessResult, Joined, LinkHandle, LinkResult, OperatorHandle, join_links,
     join_operator, join_sources,
@@ -15,22 +15,22 @@ use std::thread::Threads;
 
 /// The workers that were started, but for the operator's. It has no `Drop`, and only [`WorkersWithOperator::stop_and_join`] takes
 /// it apart: a way out that leaves a worker running doesn't compile.
-pub(crate) struct WorkerHandles {
-    to: Sender<Parcel>,
+pub(crate) struct WorkerHandles<K: Carrying> {
+    to: Sender<K::Parcel>,
     workers: usize,
     links: Vec<LinkHandle>,
-    sources: Vec<AccessHandle>,
+    sources: Vec<AccessHandle<K>>,
     complete: bool,
 }
 
-impl WorkerHandles {
+impl<K: Carrying> WorkerHandles<K> {
     /// No worker yet, with room for so many link workers and so many sources. The link workers are stopped by `to`.
     pub(crate) fn new(
         alloc: Global,
-        to: Sender<Parcel>,
+        to: Sender<K::Parcel>,
         workers: usize,
         sources: usize,
-    ) -> Result<WorkerHandles, AllocError>
+    ) -> Result<WorkerHandles<K>, AllocError>
         ensures complete { IfOk result (λ handles. handles.complete ≡ true) }
         ensures links { IfOk result
             (λ handles. (handles.links.items ≡ []) × (workers ≤ vec_capacity handles.links)) }
@@ -60,7 +60,7 @@ impl WorkerHandles {
     }
 
     /// Adds an access worker that was started.
-    pub(crate) fn add_source(&mut self, handle: AccessHandle)
+    pub(crate) fn add_source(&mut self, handle: AccessHandle<K>)
         requires room { vec_len self.old.sources < vec_capacity self.old.sources }
         ensures sources { self.new.sources.items ≡ self.old.sources.items ++ handle ∷ [] }
         ensures len { vec_len self.new.sources ≡ vec_len self.old.sources + 1 }
@@ -78,7 +78,7 @@ impl WorkerHandles {
     }
 
     /// These handles, marked as not those of all workers: one couldn't be started.
-    pub(crate) fn broken_off(mut self) -> WorkerHandles
+    pub(crate) fn broken_off(mut self) -> WorkerHandles<K>
         ensures complete { result.complete ≡ false }
         ensures rest { (result.links ≡ self.links) × (result.sources ≡ self.sources) }
     {
@@ -89,17 +89,17 @@ impl WorkerHandles {
 
 /// The workers that were started, and the operator's, which is started last: without it, not all workers could be
 /// started. It has no `Drop` either.
-pub(crate) struct WorkersWithOperator<'run> {
-    handles: WorkerHandles,
+pub(crate) struct WorkersWithOperator<'run, K: Carrying> {
+    handles: WorkerHandles<K>,
     operator: Option<OperatorHandle<'run>>,
 }
 
-impl<'run> WorkersWithOperator<'run> {
+impl<'run, K: Carrying> WorkersWithOperator<'run, K> {
     /// The workers that were started, with the operator's, if there is one.
     pub(crate) fn new(
-        handles: WorkerHandles,
+        handles: WorkerHandles<K>,
         operator: Option<OperatorHandle<'run>>,
-    ) -> WorkersWithOperator<'run>
+    ) -> WorkersWithOperator<'run, K>
         ensures handles { result.handles ≡ handles }
         ensures operator { result.operator ≡ operator.entry }
     {
@@ -110,9 +110,9 @@ impl<'run> WorkersWithOperator<'run> {
     pub(crate) fn stop_and_join<R: Threads + Wait>(
         self,
         rt: &R,
-        sources: Vec<AccessResult>,
+        sources: Vec<AccessResult<K>>,
         links: Vec<LinkResult>,
-    ) -> Joined
+    ) -> Joined<K>
         requires empty { (sources.items ≡ []) × (links.items ≡ []) }
         requires room { (vec_len self.handles.sources ≤ vec_capacity sources) ×
             (vec_len self.handles.links ≤ vec_capacity links) }
@@ -132,7 +132,7 @@ impl<'run> WorkersWithOperator<'run> {
         } = handles;
         let sources = join_sources(rt, source_handles, sources);
         let operator = join_operator(rt, operator);
-        stop_all(rt, &to, workers);
+        stop_all::<K, R>(rt, &to, workers);
         let links = join_links(rt, link_handles, links);
         Joined {
             operator,

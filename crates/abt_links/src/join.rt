@@ -3,12 +3,12 @@ ghost use Rattle.std.specs.Prelude.{◌≡◌, ◌≤◌, [], map, option_map, v
 ghost use Rattle.abt_links.specs.Promises.{KeepEachAccess, KeepEachLink, KeepItsOperator};
 
 use crate::promises::{AccessOf, LinkOf, OperatorOf};
+use abt_history::{Keeping, SiteOf};
 use abt_journal::{Seat, ServeFault};
-use abt_model::SourceJournal;
 use std::thread::{PromisedHandle, Threads};
 
 /// The result of an access worker.
-pub(crate) type AccessResult = Result<(Seat, SourceJournal), ServeFault>;
+pub(crate) type AccessResult<K> = Result<(Seat, SiteOf<K>), ServeFault>;
 
 /// The result of a link worker.
 pub(crate) type LinkResult = Result<Seat, ServeFault>;
@@ -16,7 +16,7 @@ pub(crate) type LinkResult = Result<Seat, ServeFault>;
 /// The result of the operator's worker.
 pub(crate) type OperatorResult = Result<Seat, ServeFault>;
 
-pub(crate) type AccessHandle = PromisedHandle<AccessResult, AccessOf>;
+pub(crate) type AccessHandle<K> = PromisedHandle<AccessResult<K>, AccessOf>;
 
 pub(crate) type LinkHandle = PromisedHandle<LinkResult, LinkOf>;
 
@@ -24,9 +24,9 @@ pub(crate) type OperatorHandle<'run> = PromisedHandle<OperatorResult, OperatorOf
 
 /// The results of all workers that were started. There is the operator's only if all others were started.
 #[derive(Drop)]
-pub(crate) struct Joined {
+pub(crate) struct Joined<K: Keeping> {
     pub(crate) operator: Option<OperatorResult>,
-    pub(crate) sources: Vec<AccessResult>,
+    pub(crate) sources: Vec<AccessResult<K>>,
     pub(crate) links: Vec<LinkResult>,
 }
 
@@ -47,11 +47,11 @@ pub(crate) fn join_links<R: Threads>(
 }
 
 // Joins the access workers.
-pub(crate) fn join_sources<R: Threads>(
+pub(crate) fn join_sources<K: Keeping, R: Threads>(
     rt: &R,
-    handles: Vec<AccessHandle>,
-    mut results: Vec<AccessResult>,
-) -> Vec<AccessResult>
+    handles: Vec<AccessHandle<K>>,
+    mut results: Vec<AccessResult<K>>,
+) -> Vec<AccessResult<K>>
     requires empty { results.items ≡ [] }
     requires room { vec_len handles ≤ vec_capacity results }
     ensures { KeepEachAccess (map (λ h. h.promise) handles.items) result.items }

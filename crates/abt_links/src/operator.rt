@@ -4,8 +4,9 @@ ghost use Rattle.abt_journal.specs.declared.fault.ServeFault.{ServeFault};
 ghost use Rattle.abt_links.specs.Cells.{AreCellsOf};
 ghost use Rattle.abt_links.specs.Operations.{AreForPorts, AreReceiptsFor};
 
-use crate::{Gate, PortCell};
-use abt_journal::{PortInput, Seat, ServeFault};
+use crate::{Gate, PortCellOf};
+use abt_history::Keeping;
+use abt_journal::{Seat, ServeFault};
 use abt_model::Operation;
 use abt_net::Net;
 use std::alloc::Global;
@@ -16,13 +17,13 @@ use std::sync::Wait;
 ///
 /// # Errors
 /// A port whose journal is shorter than what the operator has seen of it ends the worker, and so does want of memory.
-pub fn operator_worker<R: Wait, G: Gate>(
+pub fn operator_worker<K: Keeping, R: Wait, G: Gate>(
     rt: &R,
     alloc: Global,
     net: &Net,
     caller: u16,
     operations: &[Operation],
-    cells: &[PortCell],
+    cells: &[PortCellOf<K>],
     gate: &G,
 ) -> Result<Seat, ServeFault>
     requires cells { AreCellsOf net.now cells.now }
@@ -36,7 +37,7 @@ pub fn operator_worker<R: Wait, G: Gate>(
     for operation in operations {
         let (port, capacity) = *operation;
         let cell = &cells[usize::from(port)];
-        cell.serve(rt, &mut seat, gate, PortInput::Capacity(capacity))?;
+        cell.set_capacity(rt, &mut seat, gate, capacity)?;
     }
     Ok(seat)
 }

@@ -4,7 +4,9 @@ ghost use Rattle.abt_cell.specs.Codec.{written_of};
 ghost use Rattle.abt_cell.specs.Reading.{Reads};
 ghost use Rattle.abt_cell.specs.declared.message.Rm.{Rm};
 
+use crate::cell::CellOf;
 use abt_cell::{Answer, Cell, Rm, read_rm, write_rm};
+use abt_history::Keeping;
 use std::collections::VecDeque;
 use std::sync::Mutex;
 
@@ -30,6 +32,15 @@ impl Parcel {
             octets: write_rm(rm).to_octets(),
         }
     }
+}
+
+/// A parcel of a run that keeps its history.
+#[derive(Drop)]
+pub enum ParcelOf<K: Keeping> {
+    /// An RM cell.
+    Cell(CellOf<K>),
+    /// The worker that takes it ends.
+    Stop,
 }
 
 // The message whose cell these octets are, if there is one.

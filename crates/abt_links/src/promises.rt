@@ -1,6 +1,7 @@
 //! The promises of workers about their results.
+use abt_history::{Keeping, SiteOf};
 use abt_journal::{Seat, ServeFault};
-use abt_model::{Operation, Script, SourceJournal};
+use abt_model::{Operation, Script};
 use abt_net::Net;
 use std::snapshot::Snapshot;
 use std::thread::Promise;
@@ -13,7 +14,7 @@ pub struct AccessOf {
     pub(crate) script: Snapshot<Script>,
 }
 
-impl Promise<Result<(Seat, SourceJournal), ServeFault>> for AccessOf {
+impl<K: Keeping> Promise<Result<(Seat, SiteOf<K>), ServeFault>> for AccessOf {
     ghost use Rattle.abt_links.specs.Promises.{KeepsAccess};
 
     ghost kept_by = { λ p r. KeepsAccess p.net.value p.conn p.script.value r };

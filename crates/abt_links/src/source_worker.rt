@@ -1,74 +1,57 @@
 //! A source at its access line.
 ghost use Rattle.std.specs.Prelude.{◌≡◌, [], List, IfOk};
-ghost use Rattle.abt_cell.specs.Channel.{Channel};
 ghost use Rattle.abt_facts.specs.declared.fact.Fact.{Fact};
 ghost use Rattle.abt_actor.specs.Actor.{actor_of};
-ghost use Rattle.abt_actor.specs.Commands as commands;
-ghost use Rattle.abt_links.specs.SourceWorkers.{HasDone};
+ghost use Rattle.abt_actor.specs.Commands.{event_of};
+ghost use Rattle.abt_model.specs.Events.{AsksRate};
+ghost use Rattle.abt_weave.specs.Projections.{past_of};
+ghost use Rattle.abt_history.specs.Histories.{happened};
+ghost use Rattle.abt_history.specs.Modes.{When};
+ghost use Rattle.abt_history.specs.Sites.{Allows, IsSaid};
+ghost use Rattle.abt_links.specs.SourceWorkers.{HasDone, worked};
 
-use abt_actor::{Outcome, SourceActor, SourceCommand};
-use abt_cell::Vc;
+use abt_actor::{Outcome, SourceCommand};
+use abt_history::{Keeping, SiteOf};
 use abt_journal::Seat;
-use abt_model::{Event, Sequence, SourceEntry, Target};
 use std::alloc::{AllocError, Global};
+use std::sync::Wait;
 
-/// A source with what its worker keeps beside it: its seat, its journal, and the moment at which its last cell arrived.
+/// A source with its journal, and its seat.
 #[derive(Drop)]
-pub(crate) struct SourceWorker {
-    pub(crate) actor: SourceActor,
+pub(crate) struct SourceWorker<K: Keeping> {
+    pub(crate) site: SiteOf<K>,
     pub(crate) seat: Seat,
-    pub(crate) entries: Sequence<SourceEntry>,
-    pub(crate) arrived: u64,
 }
 
-impl SourceWorker {
-    // The source of a connection to which nothing has happened, with its number as the caller.
-    pub(crate) fn new(alloc: Global, vc: Vc, number: u16) -> SourceWorker
-        ensures actor { result.actor ≡ actor_of vc [] }
-        ensures seat { result.seat ≡ record { caller = number; receipts = [] } }
-        ensures entries { result.entries ≡ [] }
-        ensures arrived { result.arrived ≡ 0 }
+impl<K: Keeping> SourceWorker<K> {
+    // The worker of a source, with the number of its connection as the caller.
+    pub(crate) fn new(alloc: Global, site: SiteOf<K>) -> SourceWorker<K>
+        ensures site { result.site ≡ site }
+        ensures seat { result.seat ≡ record { caller = site.conn; receipts = [] } }
     {
-        SourceWorker {
-            actor: SourceActor::new(vc),
-            seat: Seat::new(alloc, number),
-            entries: Sequence::new(alloc),
-            arrived: 0,
-        }
+        let seat = Seat::new(alloc, site.conn());
+        SourceWorker { site, seat }
     }
 
-    // Has the source of the connection of this number carry out a command, and notes what came of it.
-    pub(crate) fn carry_out(
+    // Has the source carry out a command behind what was seen with it, and notes what came of it.
+    pub(crate) fn carry_out<R: Wait>(
         &mut self,
-        number: u16,
+        rt: &R,
+        seen: &K::Front,
         command: &SourceCommand,
     ) -> Result<Outcome, AllocError>
-        ensures { IfOk result
-            (λ outcome. (vc : Channel) (facts : List Fact) → self.old.actor ≡ actor_of vc facts →
-            HasDone vc number facts command.now self.old outcome self.new) }
+        requires asks { When K.kept (AsksRate (event_of self.old.site.conn command.now)) }
+        requires said { When K.kept
+            (IsSaid K.net (past_of K.net (happened (K.log seen.now))) self.old.site.conn command.now) }
+        ensures done { IfOk result (λ outcome. (facts : List Fact) → self.old.site.actor ≡
+            actor_of self.old.site.vc facts →
+            HasDone self.old.site.vc self.old.site.conn facts command.now (worked self.old) outcome
+            (worked self.new)) }
+        ensures place { IfOk result (λ outcome. (self.new.site.conn ≡ self.old.site.conn) ×
+            (self.new.site.vc ≡ self.old.site.vc)) }
+        ensures allows { IfOk result (λ outcome. When K.kept
+            (Allows K.net self.new.site command.now outcome)) }
     {
-        let outcome = self.actor.step(command);
-        let event = event_of(number, command);
-        self.entries.push(entry_of(event, &outcome))?;
-        Ok(outcome)
+        self.site.carry_out(rt, seen, command)
     }
-}
-
-// The entry for an event and what came of it.
-fn entry_of(event: Event, outcome: &Outcome) -> SourceEntry
-    ensures { result ≡ SourceEntry.Did event outcome.now }
-{
-    SourceEntry::Did(event, *outcome)
-}
-
-// The event that a command is at the source of the connection of this number.
-fn event_of(number: u16, command: &SourceCommand) -> Event
-    ensures { result ≡ commands.event_of number command.now }
-{
-    let event = command.event();
-    Target::Source {
-        conn: number,
-        event,
-    }
-    .event()
 }

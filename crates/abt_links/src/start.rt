@@ -1,44 +1,54 @@
 //! Workers that are started.
 ghost use Rattle.std.specs.Prelude.{◌≡◌, ◌≤◌, ◌+◌, [], false, IsTrue, length, map, vec_len, vec_capacity, IfSome, IsSome};
 ghost use Rattle.abt_links.specs.Cells.{AreCellsOf};
+ghost use Rattle.abt_links.specs.Lines.{HasBegun, HaveBegunFrom};
 ghost use Rattle.abt_links.specs.Operations.{AreForPorts};
 ghost use Rattle.abt_links.specs.Runs.{ScriptsFit};
 ghost use Rattle.abt_links.specs.Promises.{AreAccessesFrom, AreLinksFrom};
 
+use crate::access::run_script;
 use crate::handles::{WorkerHandles, WorkersWithOperator};
 use crate::promises::{AccessOf, LinkOf, OperatorOf};
 use crate::scripts::script_of;
-use crate::{
-    AnswerBox, Gate, Parcel, PortCell, ThreadPlan, access_worker, link_worker, operator_worker,
-};
+use crate::{Carrying, Gate, ParcelOf, PortCellOf, ThreadPlan, link_worker, operator_worker};
+use abt_history::{Keeping, Kept, Naming, Place, Site, SiteOf};
 use abt_model::{Operation, Script};
 use abt_net::Net;
 use crossbeam_channel::{Receiver, Sender};
 use std::alloc::Global;
+use std::collections::VecDeque;
 use std::snapshot::Snapshot;
-use std::sync::Wait;
+use std::sync::{Mutex, Wait};
 use std::thread::{Scope, Threads};
 
 /// The context that all workers of a run share.
 #[derive(Drop)]
-pub(crate) struct RunContext<'run, G> {
+pub(crate) struct RunContext<'run, K: Carrying, G> {
     pub(crate) net: &'run Net,
-    pub(crate) cells: &'run [PortCell],
-    pub(crate) boxes: &'run [AnswerBox],
+    pub(crate) cells: &'run [PortCellOf<K>],
+    pub(crate) boxes: &'run [Mutex<VecDeque<K::Told>>],
     pub(crate) gate: &'run G,
 }
 
 // Starts a link worker for each of these ends of the channel, with the callers after those of the connections. If one can't be
 // started, no other one is, and the handles aren't those of all workers.
-pub(crate) fn start_links<'run, E, R: Threads + Wait + Sync, G: Gate + Sync>(
-    mut handles: WorkerHandles,
+pub(crate) fn start_links<
+    'run,
+    E,
+    N: Place + Send + Sync,
+    J: Naming + Send + Sync,
+    R: Threads + Wait + Sync,
+    G: Gate + Sync,
+>(
+    mut handles: WorkerHandles<Kept<N, J>>,
     scope: &Scope<'run, E>,
     rt: &'run R,
     alloc: Global,
-    context: &RunContext<'run, G>,
+    context: &RunContext<'run, Kept<N, J>, G>,
     plan: ThreadPlan,
-    ends: Vec<(Sender<Parcel>, Receiver<Parcel>)>,
-) -> WorkerHandles
+    ends: Vec<(Sender<ParcelOf<Kept<N, J>>>, Receiver<ParcelOf<Kept<N, J>>>)>,
+) -> WorkerHandles<Kept<N, J>>
+    requires net { N.net ≡ context.now.net.now }
     requires cells { AreCellsOf context.now.net.now context.now.cells.now }
     requires boxes { length context.now.boxes.now ≡ length context.now.net.now.conns }
     requires callers { length context.now.net.now.conns + vec_len ends ≤ 65535 }
@@ -68,17 +78,37 @@ pub(crate) fn start_links<'run, E, R: Threads + Wait + Sync, G: Gate + Sync>(
     handles
 }
 
+// That a source is the next one and has done nothing, as a fact for the proofs: its body only looks at it.
+fn has_begun<K: Keeping>(net: &Net, conn: u16, site: &SiteOf<K>)
+    requires own { site.now.conn ≡ conn }
+    requires begun { HasBegun net.now site.now }
+    ensures own { site.now.conn ≡ conn }
+    ensures begun { HasBegun net.now site.now }
+{
+    let _ports = net.capacities();
+    let _conn = site.conn() == conn;
+}
+
 // Starts an access worker for each connection, if all workers so far could be started. If one can't be started, no other one is, and
 // the handles aren't those of all workers.
-pub(crate) fn start_sources<'run, E, R: Threads + Wait + Sync, G: Gate + Sync>(
-    mut handles: WorkerHandles,
+pub(crate) fn start_sources<
+    'run,
+    E,
+    N: Place + Send + Sync,
+    J: Naming + Send + Sync,
+    R: Threads + Wait + Sync,
+    G: Gate + Sync,
+>(
+    mut handles: WorkerHandles<Kept<N, J>>,
     scope: &Scope<'run, E>,
     rt: &'run R,
     alloc: Global,
-    context: &RunContext<'run, G>,
+    context: &RunContext<'run, Kept<N, J>, G>,
     scripts: &'run [Script],
-    ends: Vec<Sender<Parcel>>,
-) -> WorkerHandles
+    ends: Vec<(Sender<ParcelOf<Kept<N, J>>>, Site<N, J>)>,
+) -> WorkerHandles<Kept<N, J>>
+    requires net { N.net ≡ context.now.net.now }
+    requires begun { HaveBegunFrom context.now.net.now 0 (map (λ e. e.1) ends.items) }
     requires cells { AreCellsOf context.now.net.now context.now.cells.now }
     requires boxes { length context.now.boxes.now ≡ length context.now.net.now.conns }
     requires scripts { ScriptsFit context.now.net.now.conns scripts.now }
@@ -104,7 +134,8 @@ pub(crate) fn start_sources<'run, E, R: Threads + Wait + Sync, G: Gate + Sync>(
         gate,
     } = *context;
     let mut conn = 0;
-    for to in ends {
+    for (to, site) in ends {
+        has_begun(net, conn, &site);
         let script = script_of(net, scripts, conn);
         let promise = AccessOf {
             conn,
@@ -112,7 +143,7 @@ pub(crate) fn start_sources<'run, E, R: Threads + Wait + Sync, G: Gate + Sync>(
             script: Snapshot::of(script),
         };
         let Ok(handle) = scope.spawn_with(promise, move || {
-            access_worker(rt, alloc, net, conn, script, cells, to, boxes, gate)
+            run_script(rt, alloc, net, conn, site, script, cells, to, boxes, gate)
         }) else {
             return handles.broken_off();
         };
@@ -123,15 +154,22 @@ pub(crate) fn start_sources<'run, E, R: Threads + Wait + Sync, G: Gate + Sync>(
 }
 
 // Starts the operator's worker, with the caller after those of the link workers, if all workers so far could be started.
-pub(crate) fn start_operator<'run, E, R: Threads + Wait + Sync, G: Gate + Sync>(
-    handles: WorkerHandles,
+pub(crate) fn start_operator<
+    'run,
+    E,
+    N: Place + Send + Sync,
+    J: Naming + Send + Sync,
+    R: Threads + Wait + Sync,
+    G: Gate + Sync,
+>(
+    handles: WorkerHandles<Kept<N, J>>,
     scope: &Scope<'run, E>,
     rt: &'run R,
     alloc: Global,
-    context: &RunContext<'run, G>,
+    context: &RunContext<'run, Kept<N, J>, G>,
     caller: u16,
     operations: &'run [Operation],
-) -> WorkersWithOperator<'run>
+) -> WorkersWithOperator<'run, Kept<N, J>>
     requires cells { AreCellsOf context.now.net.now context.now.cells.now }
     requires ports { AreForPorts context.now.net.now operations.now }
     ensures handles { (result.handles.links ≡ handles.links) × (result.handles.sources ≡ handles.sources) }

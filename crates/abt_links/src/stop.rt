@@ -2,7 +2,7 @@
 ghost use Rattle.std.specs.Prelude.{◌≡◌};
 ghost use Rattle.abt_links.specs.Stopping as stopping;
 
-use crate::Parcel;
+use crate::Carrying;
 use crossbeam_channel::{Receiver, SendError, Sender};
 use std::alloc::AllocError;
 use std::sync::Wait;
@@ -10,14 +10,14 @@ use std::thread;
 
 // Makes room in a channel for so many stops. A channel keeps the room that it has had, so once the link workers have taken what
 // lies before them, no stop wants memory.
-pub(crate) fn room_for_stops<R: Wait>(
+pub(crate) fn room_for_stops<K: Carrying, R: Wait>(
     rt: &R,
-    to: &Sender<Parcel>,
-    from: &Receiver<Parcel>,
+    to: &Sender<K::Parcel>,
+    from: &Receiver<K::Parcel>,
     workers: usize,
 ) -> Result<(), AllocError> {
     for _stop in 0..workers {
-        if to.send(rt, Parcel::Stop).is_err() {
+        if to.send(rt, K::stop()).is_err() {
             return Err(AllocError);
         }
     }
@@ -28,16 +28,16 @@ pub(crate) fn room_for_stops<R: Wait>(
 }
 
 // Puts so many stops into the channel.
-pub(crate) fn stop_all<R: Wait>(rt: &R, to: &Sender<Parcel>, workers: usize) {
+pub(crate) fn stop_all<K: Carrying, R: Wait>(rt: &R, to: &Sender<K::Parcel>, workers: usize) {
     for _stop in 0..workers {
-        stop_one(rt, to);
+        stop_one::<K, R>(rt, to);
     }
 }
 
 // Puts a stop into the channel, again and again until it need not be sent once more.
-fn stop_one<R: Wait>(rt: &R, to: &Sender<Parcel>) {
+fn stop_one<K: Carrying, R: Wait>(rt: &R, to: &Sender<K::Parcel>) {
     for _ in rt.forever() {
-        if is_done(&to.send(rt, Parcel::Stop)) {
+        if is_done(&to.send(rt, K::stop())) {
             break;
         }
         thread::yield_now();
@@ -45,7 +45,7 @@ fn stop_one<R: Wait>(rt: &R, to: &Sender<Parcel>) {
 }
 
 // Whether a stop with this result need not be sent again: the channel took it, or no link worker is left.
-fn is_done(sent: &Result<(), SendError<Parcel>>) -> bool
+fn is_done<T>(sent: &Result<(), SendError<T>>) -> bool
     ensures { result ≡ stopping.is_done sent.now }
 {
     !matches!(sent, Err(SendError::OutOfMemory(_)))

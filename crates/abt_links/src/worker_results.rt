@@ -5,21 +5,24 @@ ghost use Rattle.abt_links.specs.Faults as faults;
 
 use crate::fault::RunFault;
 use crate::join::Joined;
+use abt_history::{Keeping, SiteOf};
 use abt_journal::{Seat, ServeFault};
-use abt_model::SourceJournal;
 use std::alloc::{AllocError, Global};
 
 /// The results of the workers of a run.
 #[derive(Drop)]
-pub(crate) struct WorkerResults {
+pub(crate) struct WorkerResults<K: Keeping> {
     pub(crate) accesses: Vec<Seat>,
-    pub(crate) sources: Vec<SourceJournal>,
+    pub(crate) sites: Vec<SiteOf<K>>,
     pub(crate) links: Vec<Seat>,
     pub(crate) operator: Seat,
 }
 
 // The results of all workers, or the fault that the run tells. Memory is asked for only if no worker had a fault.
-pub(crate) fn worked_of(alloc: Global, joined: Joined) -> Result<WorkerResults, RunFault>
+pub(crate) fn worked_of<K: Keeping>(
+    alloc: Global,
+    joined: Joined<K>,
+) -> Result<WorkerResults<K>, RunFault>
     ensures fault { (fault : RunFault) →
         faults.fault_told joined.operator joined.sources.items joined.links.items ≡ Some fault →
         result ≡ Err fault }
@@ -27,8 +30,8 @@ pub(crate) fn worked_of(alloc: Global, joined: Joined) -> Result<WorkerResults, 
         IfErr result (λ fault. fault ≡ RunFault.Memory) }
     ensures accesses { IfOk result
         (λ w. w.accesses.items ≡ map (λ r. r.0) (faults.given_back joined.sources.items)) }
-    ensures sources { IfOk result
-        (λ w. w.sources.items ≡ map (λ r. r.1) (faults.given_back joined.sources.items)) }
+    ensures sites { IfOk result
+        (λ w. w.sites.items ≡ map (λ r. r.1) (faults.given_back joined.sources.items)) }
     ensures links { IfOk result (λ w. w.links.items ≡ faults.given_back joined.links.items) }
     ensures operator { IfOk result (λ w. joined.operator ≡ Some (Ok w.operator)) }
 {
@@ -43,18 +46,18 @@ pub(crate) fn worked_of(alloc: Global, joined: Joined) -> Result<WorkerResults, 
     let Some(Ok(operator)) = operator else {
         unreachable!()
     };
-    let (accesses, sources) = apart(alloc, given_back(alloc, sources)?)?;
+    let (accesses, sites) = apart(alloc, given_back(alloc, sources)?)?;
     let links = given_back(alloc, links)?;
     Ok(WorkerResults {
         accesses,
-        sources,
+        sites,
         links,
         operator,
     })
 }
 
 // The fault that a run tells of its workers, if there is one.
-fn fault_told(joined: &Joined) -> Option<RunFault>
+fn fault_told<K: Keeping>(joined: &Joined<K>) -> Option<RunFault>
     ensures { result ≡ faults.fault_told joined.now.operator joined.now.sources.items joined.now.links.items }
 {
     let Some(operator) = &joined.operator else {
@@ -111,19 +114,19 @@ fn given_back<T: Drop>(
     Ok(given)
 }
 
-// The seats and the journals of sources.
-fn apart(
+// The first ones of pairs, and the others.
+fn apart<A: Drop, B: Drop>(
     alloc: Global,
-    pairs: Vec<(Seat, SourceJournal)>,
-) -> Result<(Vec<Seat>, Vec<SourceJournal>), AllocError>
+    pairs: Vec<(A, B)>,
+) -> Result<(Vec<A>, Vec<B>), AllocError>
     ensures { IfOk result
         (λ r. (r.0.items ≡ map (λ p. p.0) pairs.items) × (r.1.items ≡ map (λ p. p.1) pairs.items)) }
 {
-    let mut seats = Vec::with_capacity(alloc, pairs.len())?;
-    let mut journals = Vec::with_capacity(alloc, pairs.len())?;
-    for (seat, journal) in pairs {
-        seats.push(seat)?;
-        journals.push(journal)?;
+    let mut firsts = Vec::with_capacity(alloc, pairs.len())?;
+    let mut others = Vec::with_capacity(alloc, pairs.len())?;
+    for (first, other) in pairs {
+        firsts.push(first)?;
+        others.push(other)?;
     }
-    Ok((seats, journals))
+    Ok((firsts, others))
 }

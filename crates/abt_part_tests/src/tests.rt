@@ -3,6 +3,7 @@ mod cell;
 mod gcra;
 mod keep;
 mod ledger;
+mod lines;
 mod list;
 mod net;
 mod node;

@@ -226,7 +226,7 @@ fn a_repeat_is_found_at_the_end_of_200_000_connections(rt: HostRuntime) -> Resul
     Ok(())
 }
 
-// What is answered to 200,000 connections, the last of which has this channel.
+// The fault of a net of 200,000 connections, the last of them with this channel.
 fn fault_of_many(alloc: Global, last: u32) -> Result<Option<NetFault>, AllocError> {
     let mut conns = Vec::new(alloc);
     for number in 0..199999u32 {

@@ -124,6 +124,39 @@ fn a_flush_that_fails_is_told(rt: HostRuntime) -> Result<(), Fail> {
     Ok(())
 }
 
+// A writer that takes nothing more.
+#[derive(Drop)]
+struct Full;
+
+impl Write for Full {
+    fn write(&mut self, _buf: &[u8]) -> io::Result<usize> {
+        Err(Error::from(ErrorKind::StorageFull))
+    }
+
+    fn flush(&mut self) -> io::Result<()> {
+        Ok(())
+    }
+}
+
+// A line that stands goes before a write that fails, and stays gone; a flush draws none and takes none away.
+#[test]
+fn a_write_that_fails_is_told_and_a_flush_leaves_the_line(rt: HostRuntime) -> Result<(), Fail> {
+    let alloc = rt.alloc();
+    let input = Vec::from_elem(alloc, b'x', 300000)?;
+    let mut screen = Vec::new(alloc);
+    let progress = Progress::new(alloc, Some(&mut screen));
+    let mut reader = Watched::new(input.as_slice(), &progress);
+    same(&rt, &read_all(&mut reader)?, &300000);
+    let mut writer = Cleared::new(Full, &progress);
+    assert!(rt; writer.flush().is_ok());
+    assert!(rt; progress.clear());
+    progress.draw_again();
+    assert!(rt; writer.write(b"x\n").is_err());
+    assert!(rt; writer.flush().is_ok());
+    assert!(rt; !progress.clear());
+    Ok(())
+}
+
 #[test]
 fn a_line_is_drawn_in_a_terminal_of_a_known_kind(rt: HostRuntime) {
     assert!(rt; draws_line(true, true, Some("xterm")));

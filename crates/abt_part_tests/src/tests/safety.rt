@@ -1,4 +1,4 @@
-//! Values of no world that can be, so that what looks for them is seen to find them.
+//! Ports and rates that no world can have, on which the checks are seen to find violations.
 use super::{same, same_items};
 use abt_cell::{Request, Vc};
 use abt_index::Lookups;

@@ -88,7 +88,7 @@ fn a_read_that_fails_in_the_middle_is_told(rt: HostRuntime) {
     assert!(rt; matches!(answer, Err(TextFault::Read)));
 }
 
-// A reader and a writer of which every call but each third one is interrupted.
+// A reader and a writer, two of whose three calls in a row are interrupted.
 #[derive(Drop)]
 struct Interrupted<I> {
     inside: I,
@@ -164,7 +164,7 @@ fn of_a_text_that_breaks_off_the_beginning_went_out(rt: HostRuntime) -> Result<(
     Ok(())
 }
 
-// A writer that takes at most five octets a call, and none behind so many calls.
+// A writer that takes at most five octets a call, and nothing after so many calls.
 #[derive(Drop)]
 struct Stuck {
     calls: usize,

@@ -6,6 +6,7 @@ use super::fixture::{
     lone_cells, net, one_port, ran, request, scripts,
 };
 use abt_cell::{Answer, Request, Rm};
+use abt_history::NotKept;
 use abt_journal::PortReply;
 use abt_links::{AnswerBox, OpenGate, Router, access_worker};
 use abt_model::{Event, Heard, Outcome, Script, SourceEntry, SourceJournal};
@@ -21,7 +22,7 @@ use std::test::*;
 fn refuse<R: Wait>(rt: &R, post: &Router<'_>, request: &Request) {
     let no = Answer::of(request, false);
     let reply = PortReply::Requested(Onward::Refuse(no));
-    post.send_on(rt, 0, &Rm::Request(*request), &reply);
+    post.send_on(rt, 0, &Rm::Request(*request), &reply, NotKept);
 }
 
 // Demands that these answers lie in a box in this order, and no more.

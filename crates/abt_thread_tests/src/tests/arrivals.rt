@@ -26,6 +26,14 @@ fn emission(number: u64, jitter: u64) -> Command {
     }
 }
 
+// The cell of this number, from 0, which is lost on its way.
+fn lost(number: u64) -> Command {
+    Command::Emit {
+        now: FIRST.saturating_add(APART.saturating_mul(number)),
+        jitter: None,
+    }
+}
+
 // Demands that cells came to a port at these moments, in this order.
 fn came_at(rt: &impl Abort, entries: &[Entry], expected: &[u64]) {
     let mut left = expected.iter();
@@ -37,12 +45,12 @@ fn came_at(rt: &impl Abort, entries: &[Entry], expected: &[u64]) {
     assert_eq!(rt; left.next().copied(), None);
 }
 
-// Demands that cells which leave with these jitters, a spacing apart, come at these moments.
+// Demands that, of cells which leave with these jitters, a spacing apart, those that come do so at these moments.
 fn come_at<R: Threads + Wait + Sync + Abort>(
     rt: &R,
     alloc: Global,
     cells: &[Command; 4],
-    expected: &[u64; 4],
+    expected: &[u64],
 ) -> Result<(), Fail> {
     let net = net(alloc, 1, &[(&[0], DELAY, TAU)]).ok_or("no net")?;
     let [first, second, third, fourth] = *cells;
@@ -93,5 +101,18 @@ fn each_cell_is_behind_the_last_one_that_came(rt: HostRuntime) -> Result<(), Fai
         1_007_500_001_000,
         1_008_500_001_000,
     ];
+    come_at(&rt, rt.alloc(), &cells, &expected)
+}
+
+/// A lost cell never comes, and the next one isn't held up by it.
+#[test]
+fn a_lost_cell_never_comes(rt: HostRuntime) -> Result<(), Fail> {
+    let cells = [
+        emission(0, 1_000_000_000),
+        lost(1),
+        emission(2, 3_000_000_000),
+        lost(3),
+    ];
+    let expected = [1_001_000_001_000, 1_008_000_001_000];
     come_at(&rt, rt.alloc(), &cells, &expected)
 }

@@ -1,4 +1,4 @@
-//! That workers work side by side, and that answers are heard. A gate holds one call until it has seen another, and gives up
+//! Workers work side by side, and answers are heard. A gate holds one call until it has seen another, and gives up
 //! after a great number of turns, each of which leaves the processor to other threads.
 use super::fixture::{
     LONG, START, TURNS, ask, entries, faithful, is_told, listen, net, port, ran_at,

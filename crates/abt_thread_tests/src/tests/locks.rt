@@ -1,4 +1,4 @@
-//! That a port's lock is held from the moment at which a gate is passed inside it to the end of the step.
+//! A port's lock is held from the moment at which a gate is passed inside it to the end of the step.
 use super::fixture::{START, TURNS, ask, faithful, net, port, ran_at};
 use abt_journal::Entry;
 use abt_links::Gate;

@@ -25,7 +25,7 @@ enum End {
     Wrong,
 }
 
-// Demands of three calls, of which one may have been refused memory, that the others gave what they should.
+// Of three calls one may have been refused memory: demands that the others returned what they should.
 fn are_done(rt: &impl Abort, ends: &[End; 3]) {
     let mut refused = false;
     for end in ends {

@@ -5,9 +5,9 @@ use Rattle.abt_links.proofs.Tables.{IsOpening-port}
 use Rattle.abt_links.proofs.opening.opening_cells.Goals as goal
 
 pub new-requires : goal.new-requires
-new-requires c = subst IsOpening (sym c.in_ok-port.ensures) (IsOpening-port c.args.net.now c.loop-id.id)
+new-requires g c = subst IsOpening (sym c.in_ok-port.ensures) (IsOpening-port c.args.net.now c.loop-id.id)
 
 pub loop-id-preserved : goal.loop-id-preserved
-loop-id-preserved c =
-    let port : c.new-in-loop-id.result.port ≡ length c.loop-id.cells.items = search rules in
-    (search rules, places-push c.loop-id.cells.items c.push.new.self.items c.new-in-loop-id.result c.in_ok-push.ensures.items c.loop-id.invariant.1 port)
+loop-id-preserved g c =
+    let port : c.of.result.port ≡ length c.loop-id.cells.items = search rules in
+    (search rules, places-push c.loop-id.cells.items c.push.new.self.items c.of.result c.in_ok-push.ensures.items c.loop-id.invariant.1 port, search rules)

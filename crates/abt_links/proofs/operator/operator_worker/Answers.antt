@@ -11,7 +11,8 @@ loop-operation-preserved g c =
     let o : ℕ × ℕ = get_or c.args.operations.now i (0, 0) in
     let port = port_there c.args.net.now c.args.cells.now o.0 c.from.result c.index-cells-from.result c.requires.cells (c.requires.ports i (0, 0) c.loop-operation-test.true) c.from.ensures c.index-cells-from.is in
     let hand : ℕ → ℕ × PortInput = λ p. (p, Capacity o.1) in
-    let grown = c.in_ok-serve.ensures.receipt in (
+    let its = c.in_ok-set_capacity.ensures.receipt in
+    let grown = its.is in (
       ap (λ (s : Seated). s.caller) grown ∙ c.loop-operation.invariant.0,
-      handed-more c.args.operations.now i c.loop-operation.seat.receipts c.serve.new.seat.receipts _ c.loop-operation-test.true (ap (λ (s : Seated). s.receipts) grown) (ap hand port) c.loop-operation.invariant.1,
+      handed-more c.args.operations.now i c.loop-operation.seat.receipts c.set_capacity.new.seat.receipts _ c.loop-operation-test.true (ap (λ (s : Seated). s.receipts) grown) (ap hand port) c.loop-operation.invariant.1,
     )

@@ -1,20 +1,24 @@
-use Rattle.std.proofs.Common.{rules, ◌≡◌, ◌≤◌, ◌++◌, ◌∷◌, [], length, arith}
-use Rattle.abt_links.specs.Runs.{ScriptsFit}
-use Rattle.abt_links.proofs.Fitting.{fits_length}
-use Rattle.abt_links.proofs.Ended.{ended}
+use Rattle.std.proofs.Common.{rules}
+use Rattle.abt_links.specs.Operations.{AreForPorts}
+use Rattle.abt_links.specs.Runs.{HasWorkers, ScriptsFit}
+use Rattle.abt_links.specs.declared.fault.RunFault.TheVariants.{Workers, Scripts, Operator, Wound}
+use Rattle.abt_links.proofs.Promised.{late_at}
 use Rattle.abt_links.proofs.run.run_threads.Goals as goal
 
-pub run_workers-requires-clause-callers : goal.run_workers-requires-clause-callers
-run_workers-requires-clause-callers g c κs within =
-    let fit : ScriptsFit c.args.net.now.conns c.args.scripts.now = search rules in
-    let same : length c.args.scripts.now ≡ length c.args.net.now.conns = fits_length c.args.net.now.conns c.args.scripts.now fit in
-    let few : length c.args.net.now.conns ≤ 1024 = c.conns.ensures.rules.connections in
-    omega arith
+pub returns-clause-workers : goal.returns-clause-workers
+returns-clause-workers g c =
+    let has : HasWorkers c.args.plan = search rules in
+    (λ is. absurd (late_at c.run_over.result Workers c.run_over.ensures.late is), λ no. absurd (no has))
 
-pub returns-clause-ok : goal.returns-clause-ok
-returns-clause-ok g c =
+pub returns-clause-scripts : goal.returns-clause-scripts
+returns-clause-scripts g c =
     let fit : ScriptsFit c.args.net.now.conns c.args.scripts.now = search rules in
-    let worked = c.in_ok-accesses.field-0 in
-    let joined : c.in_ok-seats.seats.items ≡ (worked.accesses.items ++ worked.links.items) ++ worked.operator ∷ [] = search rules in
-    ended c.args.net.now c.args.scripts.now c.args.operations.now c.args.plan.workers c.in_ok-accesses.field-0 c.in_ok-seats.seats.items c.in_ok-journals.journals fit c.in_ok-accesses.ensures.worked joined
-    c.in_ok-journals.ensures.histories c.in_ok-journals.ensures.receipts
+    (λ is. absurd (late_at c.run_over.result Scripts c.run_over.ensures.late is), λ no. absurd (no.1 fit))
+
+pub returns-clause-operator : goal.returns-clause-operator
+returns-clause-operator g c =
+    let ports : AreForPorts c.args.net.now c.args.operations.now = search rules in
+    (λ is. absurd (late_at c.run_over.result Operator c.run_over.ensures.late is), λ no. absurd (no.2 ports))
+
+pub returns-clause-wound : goal.returns-clause-wound
+returns-clause-wound g c = λ seen found is. late_at c.run_over.result (Wound seen found) c.run_over.ensures.late is

@@ -2,4 +2,4 @@ use Rattle.std.proofs.Common.{◌≡◌, vec_len}
 use Rattle.abt_links.proofs.workers.pairs.Given as goal
 
 abbrev pub invariant-loop-made : goal.invariant-loop-made
-invariant-loop-made l = vec_len l.ends ≡ l._made
+invariant-loop-made g l = vec_len l.ends ≡ l._made
