@@ -11,7 +11,7 @@ mod port;
 mod rate;
 mod telling;
 
-pub use cell::{message_hex, message_of, message_text};
+pub use cell::{message_hex, message_of, push_message_text};
 pub use fault::Fault;
 pub use performing::perform;
 pub use plan::{Plan, WordsFault};

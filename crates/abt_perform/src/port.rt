@@ -46,7 +46,7 @@ fn push_line(
     let mut digits = Buffer::new();
     text.push_str(digits.format(number))?;
     text.push_str(" ")?;
-    match message_of(alloc, hex) {
+    match message_of(alloc, hex.as_bytes()) {
         Ok(rm) => push_served(alloc, text, port, &rm)?,
         Err(Fault::Memory) => return Err(AllocError),
         Err(fault) => push_fault(text, fault)?,

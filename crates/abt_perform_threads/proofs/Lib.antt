@@ -2,3 +2,5 @@ mod Lines
 mod Counts
 mod Ends
 mod Runs
+mod Woven
+mod Kept

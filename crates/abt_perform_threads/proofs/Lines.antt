@@ -58,7 +58,7 @@ pub untraced : (ran : Ran) (events : List Event) (a b c : Option (List ℕ)) →
 untraced ran events a b c woven first second =
     (record { events = events; are_woven = woven }, Appends-trans a b c gathered_line woven_line first second)
 
--- an error of which a fact is known
+-- an error that has a known property
 pub if_err-from : {T E : Type 0} (r : Result T E) (P Q : E → Type 0) → ((y : E) → P y → Q y) → IsErrAnd r P → IfErr r Q
 if_err-from (Ok x) P Q f p = absurd p
 if_err-from (Err y) P Q f p = f y p

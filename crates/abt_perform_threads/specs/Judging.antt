@@ -11,7 +11,7 @@ use Rattle.abt_perform_threads.specs.declared.judging.Judged.{Judged}
 abbrev pub journals_of : Gathered → RunJournals
 journals_of run = record { ports = run.journals; sources = run.sources.items }
 
--- These are the events, with their trace, which is safe.
+-- What was judged are these events, with their trace, which is safe.
 pub record IsVerdict (net : Topology) (events : List Event) (judged : Judged) : Type 0 where
   pub are_events : judged.events ≡ events
   pub is_trace : IsTrace net events judged.trace

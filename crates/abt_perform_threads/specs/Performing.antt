@@ -34,7 +34,7 @@ IsUnfit workers scenario Scripts = AreWorkers workers × ¬ ScriptsFit scenario.
 IsUnfit workers scenario Operator = AreWorkers workers × ScriptsFit scenario.net.conns scenario.scripts × ¬ AreForPorts scenario.net scenario.operator
 IsUnfit workers scenario other = ⊥
 
--- Nothing does.
+-- No reason makes it unfit.
 abbrev pub MayRun : (workers : ℕ) → declared.Scenario → Type 0
 MayRun workers scenario = (reason : Fault) → ¬ IsUnfit workers scenario reason
 

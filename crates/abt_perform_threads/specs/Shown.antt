@@ -7,18 +7,19 @@ use Rattle.abt_model.specs.declared.event.Event.{Event}
 use Rattle.abt_scenario.specs.declared.scenario.Scenario.{Scenario}
 use Rattle.abt_links.specs.Runs.{IsRun}
 use Rattle.abt_weave.specs.Woven.{IsWoven}
-use Rattle.abt_weave.specs.Faults.{IsWeaveFault, SaysNoneIsWoven}
-use Rattle.abt_weave.specs.declared.fault.WeaveFault.{WeaveFault}
-use Rattle.abt_perform_threads.specs.Judging.{IsJudged, journals_of}
+use Rattle.abt_weave.specs.declared.fault.WeaveFault.TheVariants.{Memory}
+use Rattle.abt_history.specs.Ended.{CanBeWoven}
+use Rattle.abt_perform_threads.specs.Judging.{IsJudged}
 use Rattle.abt_perform_threads.specs.declared.judging.Judged.{Judged}
 use Rattle.abt_perform_threads.specs.declared.ran.Ran.{Ran}
 use Rattle.abt_perform_threads.specs.declared.showing.ShowFault.{ShowFault}
 use Rattle.abt_perform_threads.specs.declared.showing.ShowFault.TheVariants.{Weave, Trace, Write}
 
--- The scenario's scripts and its operator's list ran in its net, with so many link workers, and left this.
+-- The scenario's scripts and its operator's list ran in its net, with so many link workers, and left this, which is one list of events.
 pub record IsRanFrom (scenario : Scenario) (workers : ℕ) (ran : Ran) : Type 0 where
   pub net_is : ran.net ≡ scenario.net
   pub is_run : IsRun scenario.net scenario.scripts scenario.operator workers ran.gathered
+  pub woven : CanBeWoven scenario.net ran.gathered.journals ran.gathered.sources.items
 
 -- a line for each step that is done; the last one is the trace's own word
 abbrev pub gathered_line : Text
@@ -39,11 +40,6 @@ pub record ShowsAll (ran : Ran) (judged : Judged) (old new : Option Text) : Type
   pub is_judged : IsJudged ran.net ran.gathered judged
   pub lines : Appends old new (lines_of judged)
 
--- This is why what the run left isn't woven.
-pub record IsUnwoven (ran : Ran) (reason : WeaveFault) : Type 0 where
-  pub is_reason : IsWeaveFault ran.net (journals_of ran.gathered) reason
-  pub none : SaysNoneIsWoven ran.net (journals_of ran.gathered) reason
-
 -- What the run left is woven.
 pub record IsWovenRun (ran : Ran) : Type 0 where
   pub events : List Event
@@ -61,9 +57,9 @@ pub record BreaksOffJudged (ran : Ran) (old new : Option Text) : Type 0 where
   pub part : BreaksOff (gathered_line ⋅ woven_line) (safe_line judged.trace.safe) old new
 
 -- what each fault says of this run, and what went out before it: the lines of the steps that were done, and of the one that couldn't
--- be written a part
+-- be written a part; only want of memory keeps what the run left from being woven
 abbrev pub ShowsUntil : Ran → ShowFault → (old new : Option Text) → Type 0
-ShowsUntil ran (Weave reason) old new = IsUnwoven ran reason × Appends old new gathered_line
+ShowsUntil ran (Weave reason) old new = (reason ≡ Memory) × Appends old new gathered_line
 ShowsUntil ran Trace old new = IsWovenRun ran × Appends old new (gathered_line ⋅ woven_line)
 ShowsUntil ran Write old new =
     BreaksOff [] gathered_line old new

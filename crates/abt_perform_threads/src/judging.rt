@@ -1,6 +1,8 @@
 //! What a run left, judged.
 ghost use Rattle.std.specs.Prelude.{◌≡◌, length, IfOk, IfErr};
 ghost use Rattle.abt_weave.specs.Faults.{IsWeaveFault, SaysNoneIsWoven};
+ghost use Rattle.abt_weave.specs.declared.fault.WeaveFault.{WeaveFault};
+ghost use Rattle.abt_history.specs.Ended.{CanBeWoven};
 ghost use Rattle.abt_perform_threads.specs.Judging.{IsJudged, IsVerdict, journals_of};
 
 use abt_links::Gathered;
@@ -29,6 +31,8 @@ pub fn judge(alloc: Global, net: &Net, gathered: &Gathered) -> Result<Judged, We
     ensures ok { IfOk result (IsJudged net.now gathered.now) }
     ensures err { IfErr result (IsWeaveFault net.now (journals_of gathered.now)) }
     ensures none { IfErr result (SaysNoneIsWoven net.now (journals_of gathered.now)) }
+    ensures memory { CanBeWoven net.now gathered.now.journals gathered.now.sources.items →
+        IfErr result (λ fault. fault ≡ WeaveFault.Memory) }
 {
     let events = weave(alloc, net, &gathered.journals, gathered.sources.as_slice())?;
     Ok(judge_events(alloc, net, events)?)

@@ -1,13 +1,15 @@
-//! A run whose journals are kept: written as a text.
+//! A run whose journals are kept: written as a text, whether they are woven or not.
 ghost use Rattle.std.specs.Prelude.{◌≡◌, ◌⊎◌, length, IfErr, OnOk};
 ghost use Rattle.std.specs.Io.KnownBytes.{Keeps};
 ghost use Rattle.abt_journal_text.specs.Lines.{Writes};
 ghost use Rattle.abt_perform.specs.Plans.{Tells};
-ghost use Rattle.abt_perform_threads.specs.Kept.{EndsKeepingBy, IsKept, IsUnkept, keep_line, lines_left, unwritten_line};
+ghost use Rattle.abt_perform_threads.specs.Kept.{EndsKeepingBy, IsKept, IsTold, IsUnkept, lines_left, unwritten_line};
+ghost use Rattle.abt_perform_threads.specs.Kept as spec;
 
 use crate::faults::{fault_of_run, fault_of_show};
+use crate::judging::Judged;
 use crate::ran::{Ran, Unrun};
-use crate::showing::{Shown, show_run};
+use crate::showing::{ShowFault, Shown, show_run};
 use abt_journal_text::{WriteFault, write_journals};
 use abt_links::OpenGate;
 use abt_perform::{Fault, tell_fault, tell_text};
@@ -27,21 +29,26 @@ pub struct KeepPlan {
     pub journals: String,
 }
 
-/// Why the journals of a run aren't kept.
+/// Why a run isn't both shown and kept.
 #[derive(Clone, Copy, Debug, PartialEq, Eq)]
 pub enum KeepFault {
-    /// There is no run, or not all its lines went out.
+    /// There is no run.
+    Unrun(Fault),
+    /// Not all lines of the run went out. The text of its journals is written whole.
     Unshown(Fault),
-    /// The text of its journals isn't written whole.
+    /// All lines went out, and the text of the journals isn't written whole.
     Unwritten(WriteFault),
+    /// Not all lines went out, and the text isn't written whole.
+    Neither(Fault, WriteFault),
 }
 
 /// The line of a text of journals that can't be written.
 const JOURNALS_LINE: &str = "fault: journals\n";
 
-/// Runs a scenario's scripts in threads and shows the run line by line to `writer`. Once it is shown to be woven and safe, writes the text
-/// of its net and of its journals to `journals`. Gives the exit status: 0 if all lines and the whole text went out, and 1 if a line
-/// on `errors` tells why not. A line that can't be written there changes no status.
+/// Runs a scenario's scripts in threads, shows the run line by line to `writer`, and writes the text of its net and of its journals to
+/// `journals`, also of a run that isn't shown whole: if memory is refused, or a line can't be written. Gives the exit status: 0 if all
+/// lines and the whole text went out, and 1 if lines on `errors` tell why not, first of the run and then of its journals. A line that
+/// can't be written there changes no status.
 pub fn keep_run<T: Threads + Wait + Sync, W: Write, J: Write, E: Write>(
     rt: &T,
     alloc: Global,
@@ -67,8 +74,11 @@ pub fn keep_run<T: Threads + Wait + Sync, W: Write, J: Write, E: Write>(
     }
 }
 
-// Runs a scenario, shows the run, and keeps its journals.
-fn keep_all<T: Threads + Wait + Sync, W: Write, J: Write>(
+/// The same as [`keep_run`], which tells nothing.
+///
+/// # Errors
+/// Why the run isn't both shown and kept. The text of the journals is whole also at [`KeepFault::Unshown`].
+pub fn keep_all<T: Threads + Wait + Sync, W: Write, J: Write>(
     rt: &T,
     alloc: Global,
     workers: u16,
@@ -84,15 +94,25 @@ fn keep_all<T: Threads + Wait + Sync, W: Write, J: Write>(
 {
     let shown = match show_run(rt, alloc, workers, unrun, &OpenGate, writer) {
         Ok(shown) => shown,
-        Err(fault) => return Err(KeepFault::Unshown(fault_of_run(fault))),
+        Err(fault) => return Err(KeepFault::Unrun(fault_of_run(fault))),
     };
     let Shown { ran, judged } = shown;
-    if let Err(fault) = judged {
-        return Err(KeepFault::Unshown(fault_of_show(&fault)));
-    }
-    match keep(alloc, &ran, journals) {
-        Ok(()) => Ok(()),
-        Err(fault) => Err(KeepFault::Unwritten(fault)),
+    let written = keep(alloc, &ran, journals);
+    end_of(&judged, written)
+}
+
+// How a run ends, by what became of showing it and of writing its journals.
+fn end_of(
+    judged: &Result<Judged, ShowFault>,
+    written: Result<(), WriteFault>,
+) -> Result<(), KeepFault>
+    ensures { result ≡ spec.end_of judged.now written }
+{
+    match (judged, written) {
+        (Ok(_), Ok(())) => Ok(()),
+        (Ok(_), Err(why)) => Err(KeepFault::Unwritten(why)),
+        (Err(fault), Ok(())) => Err(KeepFault::Unshown(fault_of_show(fault))),
+        (Err(fault), Err(why)) => Err(KeepFault::Neither(fault_of_show(fault), why)),
     }
 }
 
@@ -112,13 +132,17 @@ fn keep<J: Write>(alloc: Global, ran: &Ran, journals: &mut J) -> Result<(), Writ
     )
 }
 
-// Tells why the journals of a run aren't kept, as far as the writer takes it.
-fn tell_unkept<E: Write>(fault: KeepFault, errors: &mut E)
-    ensures { Tells (keep_line fault) (E.contents errors.old) (E.contents errors.new) }
+/// Tells why a run isn't both shown and kept, as far as the writer takes it: a line of the run, one of its journals, or both.
+pub fn tell_unkept<E: Write>(fault: KeepFault, errors: &mut E)
+    ensures { IsTold fault (E.contents errors.old) (E.contents errors.new) }
 {
     match fault {
-        KeepFault::Unshown(fault) => tell_fault(fault, errors),
+        KeepFault::Unrun(fault) | KeepFault::Unshown(fault) => tell_fault(fault, errors),
         KeepFault::Unwritten(why) => tell_unwritten(why, errors),
+        KeepFault::Neither(fault, why) => {
+            tell_fault(fault, errors);
+            tell_unwritten(why, errors)
+        }
     }
 }
 

@@ -4,6 +4,7 @@ ghost use Rattle.abt_text.specs.Streams.{ConsumesAtMost, text_max};
 ghost use Rattle.abt_scenario.specs.Engine.{Explains};
 ghost use Rattle.abt_scenario.specs.Scenarios.{Reads};
 ghost use Rattle.abt_links.specs.declared.fault.RunFault.{RunFault};
+ghost use Rattle.abt_history.specs.Ended.{CanBeWoven};
 ghost use Rattle.abt_links.specs.Runs.{IsRun, ScriptsFit};
 ghost use Rattle.abt_links.specs.Operations.{AreForPorts};
 ghost use Rattle.abt_perform_threads.specs.Shown.{IsRanFrom};
@@ -87,6 +88,7 @@ fn run_scripts<T: Threads + Wait + Sync, G: Gate + Sync>(
     gate: &G,
 ) -> Result<Gathered, RunFault>
     ensures ok { IfOk result (IsRun scenario.now.net scenario.now.scripts scenario.now.operator workers) }
+    ensures woven { IfOk result (λ run. CanBeWoven scenario.now.net run.journals run.sources.items) }
     ensures workers { IsErrOf result RunFault.Workers ↔ ¬ AreWorkers workers }
     ensures scripts { IsErrOf result RunFault.Scripts
         ↔ (AreWorkers workers × ¬ ScriptsFit scenario.now.net.conns scenario.now.scripts) }

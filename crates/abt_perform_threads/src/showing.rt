@@ -3,6 +3,7 @@ ghost use Rattle.std.specs.Prelude.{◌≡◌, ◌<◌, ◌↔◌, ℕ, length, 
 ghost use Rattle.std.specs.Io.KnownBytes.{Appends, Keeps};
 ghost use Rattle.abt_rate.specs.Limits.{AreWorkers};
 ghost use Rattle.abt_text.specs.Streams.{AppendsPrefix};
+ghost use Rattle.abt_history.specs.Ended.{CanBeWoven};
 ghost use Rattle.abt_links.specs.Runs.{ScriptsFit};
 ghost use Rattle.abt_links.specs.Operations.{AreForPorts};
 ghost use Rattle.abt_perform_threads.specs.Shown.{IsRanFrom, ShowsAll, ShowsUntil};
@@ -31,7 +32,7 @@ pub struct Shown {
 /// Why not all lines of a run went out.
 #[derive(Debug, Drop, Error)]
 pub enum ShowFault {
-    /// What the run left isn't woven.
+    /// What the run left isn't woven. Of a run of its own that is want of memory, as the clauses of [`show_run`] say.
     #[error("{0}")]
     Weave(WeaveFault),
     /// Memory was refused for the trace of the events.
@@ -76,7 +77,7 @@ impl From<Unwritten> for ShowFault {
 /// the one run that is handed out, whether its events were found or not.
 ///
 /// # Errors
-/// Those of the run; then nothing went out. Why a run isn't shown is a part of the result.
+/// The faults of the run; then nothing went out. Why a run isn't shown is a part of the result.
 pub fn show_run<T: Threads + Wait + Sync, G: Gate + Sync, W: Write>(
     rt: &T,
     alloc: Global,
@@ -107,6 +108,7 @@ pub fn show_run<T: Threads + Wait + Sync, G: Gate + Sync, W: Write>(
 fn show<W: Write>(alloc: Global, ran: &Ran, writer: &mut W) -> Result<Judged, ShowFault>
     requires ports { length ran.now.gathered.journals ≡ length ran.now.net.capacities }
     requires sources { length ran.now.gathered.sources.items ≡ length ran.now.net.conns }
+    requires woven { CanBeWoven ran.now.net ran.now.gathered.journals ran.now.gathered.sources.items }
     ensures ok { IfOk result
         (λ judged. ShowsAll ran.now judged (W.contents writer.old) (W.contents writer.new)) }
     ensures err { IfErr result

@@ -1,5 +1,7 @@
 -- What each step leaves is what is said of the run that was given.
 use Rattle.std.proofs.Common.{◌∙◌}
+use Rattle.abt_perform_threads.specs.Judging.{journals_of}
+use Rattle.abt_perform_threads.proofs.Woven.{only_memory}
 use Rattle.abt_perform_threads.proofs.Lines.{all_lines, cut_verdict, is_judged, untraced, if_err-from}
 use Rattle.abt_perform_threads.proofs.showing.show.Goals as goal
 
@@ -26,3 +28,10 @@ returns-clause-ok g c =
     let judged = c.in_ok-judged.judged in
     let is = is_judged ran.net ran.gathered c.in_ok-events.events judged woven c.in_ok-judged.ensures in
     all_lines ran judged _ _ _ _ _ is (c.as_bytes.ensures.value ∙ c.safe_line.ensures) c.in_ok-put.ensures.ok c.in_ok-put-2.ensures.ok c.in_ok-put-3.ensures.ok
+
+pub returns-in_err-events-clause-err : goal.returns-in_err-events-clause-err
+returns-in_err-events-clause-err g c =
+    let ran = c.args.ran.now in
+    let journals = journals_of ran.gathered in
+    let only = only_memory ran.net journals c.in_err-events.field-0.0 c.requires.woven (rw c.as_slice.ensures.value at c.in_err-events.ensures.none) in
+    if_err-from c.from_residual-in_err-events.result _ _ (λ fault is. rw is (only, c.in_ok-put.ensures.ok)) c.from_residual-in_err-events.ensures.1
