@@ -4,6 +4,7 @@ use Rattle.json.specs.Json.{Json, document}
 use Rattle.json.specs.Find.{as_bool}
 use Rattle.json.specs.Strict.{HasUniqueKeys}
 use Rattle.abt_text.specs.Text.{Text}
+use Rattle.abt_journal.specs.declared.entry.Entry.{Entry}
 use Rattle.abt_model.specs.declared.entry.SourceEntry.{SourceEntry}
 use Rattle.abt_entry.specs.declared.fault.LineFault.{LineFault}
 use Rattle.abt_entry.specs.declared.fault.LineFault.TheVariants as fault
@@ -12,20 +13,25 @@ use Rattle.abt_text.specs.FirstFault.{◌>>=◌}
 use Rattle.abt_entry.specs.Reading.{Read}
 use Rattle.abt_entry.specs.Values.{find, whole_of, if_there}
 use Rattle.abt_entry.specs.declared.line.Line.{Line}
-use Rattle.abt_entry.specs.declared.line.Line.TheVariants.{Net, Port, Source, Open, End}
+use Rattle.abt_entry.specs.declared.line.Line.TheVariants.{Net, Port, Unplaced, Source, Open, End}
 use Rattle.abt_entry.specs.NetLines.{net_in}
 use Rattle.abt_entry.specs.PortLines.{step_in}
-use Rattle.abt_entry.specs.SourceLines.{entry_in, is_open_in}
+use Rattle.abt_entry.specs.SourceLines.{entry_in, is_open_in, unstored}
+
+-- the line of a step, which may say its place or not
+abbrev pub port_line : Option Json → ℕ → Entry → Line
+port_line None port entry = Unplaced port entry
+port_line (Some place) port entry = Port port entry
 
 abbrev pub port_in : Json → Json → Read Line
 port_in json at_port = do
   port ← whole_of (2 ^ 16) of.Port at_port
   entry ← step_in json
-  Ok (Port port entry)
+  Ok (port_line (find of.Place json) port entry)
 
 -- the line of an entry, which may leave open whether a write that failed was stored
 abbrev pub source_line : (is_open : Bool) → ℕ → SourceEntry → Line
-source_line true source entry = Open source entry
+source_line true source entry = Open source (unstored entry)
 source_line false source entry = Source source entry
 
 abbrev pub source_in : Json → Json → Read Line

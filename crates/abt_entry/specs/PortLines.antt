@@ -87,10 +87,15 @@ abbrev pub caller_in : Option Json → Read ℕ
 caller_in None = Ok 0
 caller_in (Some json) = whole_of (2 ^ 16) of.Caller json
 
+-- its place: 0 if that isn't said
+abbrev pub place_in : Option Json → Read ℕ
+place_in None = Ok 0
+place_in (Some json) = whole_of (2 ^ 64) of.Place json
+
 -- a step of a port
 abbrev pub step_in : Json → Read Entry
 step_in json = do
-  place ← whole_at (2 ^ 64) of.Place json
+  place ← place_in (find of.Place json)
   caller ← caller_in (find of.Caller json)
   at_input ← member_at of.Input json
   came ← input_in at_input

@@ -1,10 +1,10 @@
 -- What a line says of a source (docs/JOURNALS.md, "Sources").
-use Rattle.std.specs.Prelude.{ℕ, ◌^◌, Bool, false, if◌then◌else◌, codes, Option, None, Some, option_and_then, Ok, Err}
+use Rattle.std.specs.Prelude.{ℕ, ◌^◌, Bool, true, false, if◌then◌else◌, codes, Option, None, Some, option_and_then, Ok, Err}
 use Rattle.std.specs.Str.{bytes_eq}
 use Rattle.json.specs.Json.{Json}
 use Rattle.json.specs.Find.{as_str}
 use Rattle.abt_keep.specs.declared.plan.StorePlan.{StorePlan}
-use Rattle.abt_keep.specs.declared.plan.StorePlan.TheVariants.{Works}
+use Rattle.abt_keep.specs.declared.plan.StorePlan.TheVariants.{Works, FailsBefore}
 use Rattle.abt_model.specs.declared.event.Event.{Event}
 use Rattle.abt_model.specs.declared.event.Event.TheVariants as event
 use Rattle.abt_model.specs.declared.outcome.Outcome.{Outcome}
@@ -13,6 +13,7 @@ use Rattle.abt_shaper.specs.declared.fault.ShapeFault.{ShapeFault}
 use Rattle.abt_shaper.specs.declared.fault.ShapeFault.TheVariants as shape
 use Rattle.abt_model.specs.declared.entry.SourceEntry.{SourceEntry}
 use Rattle.abt_model.specs.declared.entry.SourceEntry.TheVariants as entry
+use Rattle.abt_source.specs.declared.fault.AskFault.TheVariants as ask
 use Rattle.abt_text.specs.Text.{Text}
 use Rattle.abt_entry.specs.declared.fault.LineFault.TheVariants as fault
 use Rattle.abt_entry.specs.declared.member.Member.{Member}
@@ -48,10 +49,25 @@ if_word conn (Some word) other =
     else Err (fault.Member of.Did)
 if_word conn None other = other
 
--- whether what a source was to do leaves open whether a write that failed was stored
-abbrev pub leaves_open : Event → Json → Bool
-leaves_open (event.Ask conn rate plan) json = is_failed (option_and_then as_str (find of.Store json))
-leaves_open other json = false
+-- whether the source refused since its record isn't stored
+abbrev pub lacks_record : Outcome → Bool
+lacks_record (outcome.AskRefused ask.Keep) = true
+lacks_record other = false
+
+-- whether a write failed of which it isn't said whether it was stored
+abbrev pub is_untold : Outcome → Option Json → Bool
+is_untold came (Some store) = is_failed (as_str store)
+is_untold came None = lacks_record came
+
+-- whether what a source did leaves open whether a write that failed was stored
+abbrev pub leaves_open : Event → Outcome → Json → Bool
+leaves_open (event.Ask conn rate plan) came json = is_untold came (find of.Store json)
+leaves_open other came json = false
+
+-- an entry, its ask under the plan that nothing was stored
+abbrev pub unstored : SourceEntry → SourceEntry
+unstored (entry.Did (event.Ask conn rate plan) came) = entry.Did (event.Ask conn rate FailsBefore) came
+unstored other = other
 
 -- the deed of the source of a connection: one of `again`, `crash`, `start`, `ask`, `emit` and `told`
 abbrev pub did_in : ℕ → Json → Read Event
@@ -123,7 +139,7 @@ arrived_in json = do
 
 -- whether an entry leaves that open whose `did` has this value
 abbrev pub is_open_in : SourceEntry → Option Json → Bool
-is_open_in (entry.Did deed came) (Some json) = leaves_open deed json
+is_open_in (entry.Did deed came) (Some json) = leaves_open deed came json
 is_open_in (entry.Did deed came) None = false
 is_open_in (entry.Sent place) found = false
 is_open_in (entry.Arrived cell place) found = false

@@ -16,7 +16,7 @@ pub enum LineFault {
     /// A member comes twice in one object.
     #[error("a member comes twice in one object")]
     Twice,
-    /// It is of no kind that a journal has.
+    /// The line is of no kind that a journal has.
     #[error("no line of a journal is of this kind")]
     Kind,
     /// A member is missing, of another type, or out of its range.

@@ -28,10 +28,12 @@ pub enum Line {
     Net(NetDraft),
     /// A step of the port of this number.
     Port { port: u16, entry: Entry },
+    /// Such a step that doesn't say its place, which is that behind the port's steps so far. Its entry has 0 there.
+    Unplaced { port: u16, entry: Entry },
     /// An entry of the source of the connection of this number.
     Source { source: u16, entry: SourceEntry },
     /// Such an entry, of an ask whose write failed, that leaves open whether the record was stored. Its plan is that it wasn't.
     Open { source: u16, entry: SourceEntry },
-    /// That nothing follows.
+    /// The end: nothing follows.
     End,
 }

@@ -79,7 +79,7 @@ pub enum Member {
     Cell,
     /// When the next cell may leave.
     Next,
-    /// That a cell is too soon, and when it may leave.
+    /// A cell is too soon, and may leave at this moment.
     TooSoon,
     /// Why something could not happen.
     NotEnabled,

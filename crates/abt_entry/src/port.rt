@@ -125,11 +125,21 @@ fn caller_in(value: Option<&Value<'_>>) -> Result<u16, LineFault>
     }
 }
 
+// The place of the step, 0 if that isn't said.
+fn place_in(value: Option<&Value<'_>>) -> Result<u64, LineFault>
+    ensures { result ≡ lines.place_in (option_map (λ found. value_view found.now) value.entry) }
+{
+    match value {
+        Some(value) => number_of(value, Member::Place),
+        None => Ok(0),
+    }
+}
+
 /// A step of a port.
 pub(crate) fn step_in(value: &Value<'_>) -> Result<Entry, LineFault>
     ensures { result ≡ lines.step_in (value_view value.now) }
 {
-    let place = number_at(value, Member::Place)?;
+    let place = place_in(find(value, Member::Place))?;
     let caller = caller_in(find(value, Member::Caller))?;
     let input = input_in(member_at(value, Member::Input)?)?;
     let reply = reply_in(&input, member_at(value, Member::Reply)?)?;

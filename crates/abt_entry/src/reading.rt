@@ -10,7 +10,7 @@ ghost use Rattle.abt_entry.specs.declared.fault.LineFault.TheVariants as fault;
 use crate::line::Line;
 use crate::net::net_in;
 use crate::port::step_in;
-use crate::source::{entry_in, is_open_in};
+use crate::source::{entry_in, is_open_in, leave_unstored};
 use crate::{LineFault, Member, find, short_of};
 use json::{Error, Scratch, Value};
 use std::alloc::Global;
@@ -20,6 +20,9 @@ fn port_in(value: &Value<'_>, number: &Value<'_>) -> Result<Line, LineFault>
 {
     let port = short_of(number, Member::Port, 65536)?;
     let entry = step_in(value)?;
+    if find(value, Member::Place).is_none() {
+        return Ok(Line::Unplaced { port, entry });
+    }
     Ok(Line::Port { port, entry })
 }
 
@@ -27,8 +30,9 @@ fn source_in(value: &Value<'_>, number: &Value<'_>) -> Result<Line, LineFault>
     ensures { result ≡ lines.source_in (value_view value.now) (value_view number.now) }
 {
     let source = short_of(number, Member::Source, 65536)?;
-    let entry = entry_in(source, value)?;
+    let mut entry = entry_in(source, value)?;
     if is_open_in(value, &entry) {
+        leave_unstored(&mut entry);
         return Ok(Line::Open { source, entry });
     }
     Ok(Line::Source { source, entry })
@@ -62,7 +66,7 @@ fn line_in(alloc: Global, value: &Value<'_>) -> Result<Line, LineFault>
     Err(LineFault::Kind)
 }
 
-/// Reads a line. Members that its kind doesn't have are passed over.
+/// Reads a line. Members that its kind doesn't have are ignored.
 ///
 /// # Errors
 /// The first that is found (docs/JOURNALS.md, "Faults"): the text isn't JSON; an object has a member twice; what the line's

@@ -14,6 +14,7 @@ use crate::{
 use abt_keep::StorePlan;
 use abt_model::{Event, Outcome, SourceEntry};
 use abt_shaper::ShapeFault;
+use abt_source::AskFault;
 use json::Value;
 
 // How the store does at an ask.
@@ -154,12 +155,29 @@ fn arrived_in(value: &Value<'_>) -> Result<SourceEntry, LineFault>
     Ok(SourceEntry::Arrived { cell, place })
 }
 
-// Whether what a source was to do leaves open whether a write that failed was stored.
-fn leaves_open(event: &Event, did: &Value<'_>) -> bool
-    ensures { result ≡ lines.leaves_open event.now (value_view did.now) }
+// Whether the source refused since its record isn't stored.
+fn lacks_record(outcome: &Outcome) -> bool
+    ensures { result ≡ lines.lacks_record outcome.now }
+{
+    matches!(outcome, Outcome::AskRefused(AskFault::Keep))
+}
+
+// Whether a write failed of which it isn't said whether it was stored.
+fn is_untold(store: Option<&Value<'_>>, outcome: &Outcome) -> bool
+    ensures { result ≡ lines.is_untold outcome.now (option_map (λ found. value_view found.now) store.entry) }
+{
+    match store {
+        Some(_) => is_failed_in(store),
+        None => lacks_record(outcome),
+    }
+}
+
+// Whether what a source did leaves open whether a write that failed was stored.
+fn leaves_open(event: &Event, outcome: &Outcome, did: &Value<'_>) -> bool
+    ensures { result ≡ lines.leaves_open event.now outcome.now (value_view did.now) }
 {
     match event {
-        Event::Ask { .. } => is_failed_in(find(did, Member::Store)),
+        Event::Ask { .. } => is_untold(find(did, Member::Store), outcome),
         _ => false,
     }
 }
@@ -168,12 +186,21 @@ fn leaves_open(event: &Event, did: &Value<'_>) -> bool
 pub(crate) fn is_open_in(value: &Value<'_>, entry: &SourceEntry) -> bool
     ensures { result ≡ lines.is_open_in entry.now (find_in of.Did (value_view value.now)) }
 {
-    let SourceEntry::Did(event, _) = entry else {
+    let SourceEntry::Did(event, outcome) = entry else {
         return false;
     };
     match find(value, Member::Did) {
-        Some(did) => leaves_open(event, did),
+        Some(did) => leaves_open(event, outcome, did),
         None => false,
+    }
+}
+
+// Puts an ask under the plan that nothing was stored.
+pub(crate) fn leave_unstored(entry: &mut SourceEntry)
+    ensures { entry.new ≡ lines.unstored entry.old }
+{
+    if let SourceEntry::Did(Event::Ask { plan, .. }, _) = entry {
+        *plan = StorePlan::FailsBefore;
     }
 }
 

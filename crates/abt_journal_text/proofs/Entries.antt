@@ -143,27 +143,27 @@ outcome_back deed outcome.CapacitySet is = absurd is
 outcome_back deed (outcome.CapacityRefused f) is = absurd is
 
 -- what is written leaves nothing open
-never_open : (deed : Event) → leaves_open deed (did_json deed) ≡ false
-never_open (event.Start c now) = refl
-never_open (event.Ask c rate plan.Works) = refl
-never_open (event.Ask c rate plan.FailsBefore) = refl
-never_open (event.Ask c rate plan.FailsAfter) = refl
-never_open (event.Again c) = refl
-never_open (event.Crash c) = refl
-never_open (event.Emit c now) = refl
-never_open (event.Arrive c cell at) = refl
-never_open (event.Request c hop seq) = refl
-never_open (event.Turn c seq) = refl
-never_open (event.Answer c hop seq granted) = refl
-never_open (event.Told c seq granted) = refl
-never_open (event.Capacity p units) = refl
+never_open : (deed : Event) (came : Outcome) → leaves_open deed came (did_json deed) ≡ false
+never_open (event.Start c now) came = refl
+never_open (event.Ask c rate plan.Works) came = refl
+never_open (event.Ask c rate plan.FailsBefore) came = refl
+never_open (event.Ask c rate plan.FailsAfter) came = refl
+never_open (event.Again c) came = refl
+never_open (event.Crash c) came = refl
+never_open (event.Emit c now) came = refl
+never_open (event.Arrive c cell at) came = refl
+never_open (event.Request c hop seq) came = refl
+never_open (event.Turn c seq) came = refl
+never_open (event.Answer c hop seq granted) came = refl
+never_open (event.Told c seq granted) came = refl
+never_open (event.Capacity p units) came = refl
 
 entry_back : (conn : ℕ) (one : SourceEntry) → conn < 2 ^ 16 → IsEntry conn one → line_in (entry_json conn one) ≡ Ok (line.Source conn one)
 entry_back conn (entry.Did deed came) low is =
     then_read _ conn _ _ (whole_back (2 ^ 16) conn of.Source low (omega arith))
     (then_read _ (entry.Did deed came) _ _
     (then_read _ deed _ _ (did_back conn deed is.0) (then_read _ came _ _ (outcome_back deed came is.1) refl))
-    (ap (λ (b : Bool). Ok (source_line b conn (entry.Did deed came))) (never_open deed)))
+    (ap (λ (b : Bool). Ok (source_line b conn (entry.Did deed came))) (never_open deed came)))
 entry_back conn (entry.Sent place) low is =
     then_read _ conn _ _ (whole_back (2 ^ 16) conn of.Source low (omega arith))
     (then_read _ (entry.Sent place) _ _ (then_read _ place _ _ (whole_back (2 ^ 64) place of.Sent is (omega arith)) refl) refl)

@@ -4,9 +4,9 @@ use Rattle.std.proofs.lemmas.List.{take_more, take_all}
 use Rattle.std.specs.Prelude.{slice_index}
 use Rattle.abt_text.specs.Text.{Text}
 use Rattle.abt_text.specs.Words.{Lacks}
-use Rattle.abt_journal_text.specs.Books.{Told}
+use Rattle.abt_journal_text.specs.Books.{Told, with_cut}
 use Rattle.abt_journal_text.specs.Entering.{TakesLine, RefusesLine, IsOwn}
-use Rattle.abt_journal_text.specs.Texts.{below, line_max, text_of, IsLine, TakesAll, Reads, Fails, IsWrong, GoesOn}
+use Rattle.abt_journal_text.specs.Texts.{below, line_max, text_of, IsLine, TakesAll, EndsWith, Reads, Fails, IsWrong, GoesOn}
 use Rattle.abt_journal_text.specs.declared.spot.Spot.{Spot}
 use Rattle.abt_journal_text.specs.declared.fault.Cause.{Cause}
 use Rattle.abt_journal_text.specs.declared.fault.Cause.TheVariants as cause
@@ -33,10 +33,10 @@ octet_goes_on spot next told begun more octet is same = record {
       (subst (λ (s : Spot). Fails s told (more ++ rest) fault) same r);
 }
 
-text_more : (line : Text) (lines : List Text) (rest : Text) → text_of (line ∷ lines) ++ rest ≡ line ++ (10 ∷ (text_of lines ++ rest))
+pub text_more : (line : Text) (lines : List Text) (rest : Text) → text_of (line ∷ lines) ++ rest ≡ line ++ (10 ∷ (text_of lines ++ rest))
 text_more line lines rest = append_assoc line (10 ∷ text_of lines) rest
 
-further : (spot : Spot) (lines : List Text) (line : Text) → below (below spot 1) (length lines) ≡ below spot (length (line ∷ lines))
+pub further : (spot : Spot) (lines : List Text) (line : Text) → below (below spot 1) (length lines) ≡ below spot (length (line ∷ lines))
 further spot lines line =
     let more : spot.line + 1 + length lines ≡ spot.line + suc (length lines) = omega arith in ap (λ (n : ℕ). record { text = spot.text; line = n }) more
 
@@ -44,9 +44,11 @@ reads_line : (spot : Spot) (told then : Told) (line rest : Text) (after : Told) 
     → Reads (below spot 1) then rest after → Reads spot told (line ++ 10 ∷ rest) after
 reads_line spot told then line rest after takes whole r = record {
   lines = line ∷ r.lines;
-  are = ap (λ (t : Text). line ++ 10 ∷ t) r.are;
+  rest = r.rest;
+  are = ap (λ (t : Text). line ++ 10 ∷ t) r.are ∙ sym (text_more line r.lines r.rest);
+  before = r.before;
   taken = (then, whole, takes, r.taken);
-  ended = r.ended;
+  ends = subst (λ (s : Spot). EndsWith s r.before r.rest after) (further spot r.lines line) r.ends;
 }
 
 fails_line : (spot : Spot) (told then : Told) (line rest : Text) (fault : TextFault) → TakesLine spot told line then → IsLine line
@@ -90,7 +92,7 @@ fails_here spot told text fault here why = record {
 pub refused_here : (spot : Spot) (told : Told) (line rest : Text) (fault : TextFault) → fault.spot ≡ spot → RefusesLine told line fault.cause → IsLine line
     → Fails spot told (line ++ 10 ∷ rest) fault
 refused_here spot told line rest fault here why whole =
-    fails_here spot told (line ++ 10 ∷ rest) fault here (inr (inr (inr (record { line = line; more = rest; is = refl; whole = whole; refused = why }))))
+    fails_here spot told (line ++ 10 ∷ rest) fault here (inr (record { line = line; more = rest; is = refl; whole = whole; refused = why }))
 
 lacks_one : (octet : ℕ) → octet ≢ 10 → (i : ℕ) → i < 1 → slice_index (octet ∷ []) i ≢ 10
 lacks_one octet other zero l = other
@@ -119,16 +121,19 @@ long_here spot told begun rest octet fault here is len free other = fails_here s
     (inl (is, longer line_max begun rest octet len, subst (Lacks 10) (sym (front_of_line line_max begun rest octet len)) (lacks_more begun octet free other)))
 
 -- the text ends here
-pub reads_end : (spot : Spot) (told : Told) (begun : Text) → begun ≡ [] → told.ended ≡ true → Reads spot told begun told
-reads_end spot told begun empty ended = record { lines = []; are = empty; taken = refl; ended = ended }
+pub reads_end : (spot : Spot) (told : Told) (begun : Text) → begun ≡ [] → Reads spot told begun told
+reads_end spot told begun empty = record { lines = []; rest = []; are = empty; before = told; taken = refl; ends = inl (refl, refl) }
 
-pub cut_here : (spot : Spot) (told : Told) (begun : Text) (fault : TextFault) → fault.spot ≡ spot → fault.cause ≡ cause.Cut → begun ≢ [] → IsLine begun
-    → Fails spot told begun fault
-cut_here spot told begun fault here is some whole = fails_here spot told begun fault here (inr (inl (is, some, whole)))
-
-pub unended_here : (spot : Spot) (told : Told) (begun : Text) (fault : TextFault) → fault.spot ≡ spot → fault.cause ≡ cause.NoEnd → begun ≡ []
-    → told.ended ≡ false → Fails spot told begun fault
-unended_here spot told begun fault here is empty more = fails_here spot told begun fault here (inr (inr (inl (is, empty, more))))
+-- the text ends in the middle of a line
+pub reads_cut : (spot : Spot) (told after : Told) (begun : Text) → begun ≢ [] → IsLine begun → after ≡ with_cut spot told → Reads spot told begun after
+reads_cut spot told after begun some whole is = record {
+  lines = [];
+  rest = begun;
+  are = refl;
+  before = told;
+  taken = refl;
+  ends = inr (some, whole, is ∙ ap (λ (s : Spot). with_cut s told) (here_still spot));
+}
 
 -- a piece, up to an octet of it, that octet, and what comes behind it
 split : (piece : Text) (i : ℕ) → i < length piece → piece ≡ take i piece ++ (get_or piece i 0 ∷ drop (suc i) piece)

@@ -65,15 +65,6 @@ read_whole number first after left0 left1 left2 spot told begun p took ended r =
   reads = p.on.reads [] after (subst (λ (t : Text). Reads spot told t after) (sym (append-nil begun)) r);
 }
 
-pub unread_at_end : (number : ℕ) (first : Told) (fault : TextFault) (left0 left1 left2 : Option Text) (spot : Spot) (told : Told) (begun : Text)
-    → IsUnderWay number first left0 left1 spot told begun → Consumes left1 left2 [] → IsAtEnd left2 → Fails spot told begun fault
-    → IsUnread number first fault left0
-unread_at_end number first fault left0 left1 left2 spot told begun p took ended r = record {
-  text = p.front ++ [];
-  is = all_is left0 left2 (p.front ++ []) (Consumes-trans left0 left1 left2 p.front [] p.took took) ended;
-  fails = p.on.fails [] fault (subst (λ (t : Text). Fails spot told t fault) (sym (append-nil begun)) r);
-}
-
 pub unread_in_piece : (number : ℕ) (first : Told) (fault : TextFault) (left0 left1 left2 : Option Text) (spot : Spot) (told : Told) (begun piece : Text)
     → IsUnderWay number first left0 left1 spot told begun → Consumes left1 left2 piece
     → (IsOwn fault.cause ⊎ ((rest : Text) → Fails spot told (begun ++ (piece ++ rest)) fault)) → IsOwn fault.cause ⊎ IsUnread number first fault left0

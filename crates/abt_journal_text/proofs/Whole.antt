@@ -1,5 +1,5 @@
 -- The lines of whole journals are taken in one after the other, and tell just these.
-use Rattle.std.proofs.Common.{◌≡◌, ◌≢◌, ℕ, suc, ◌+◌, ◌<◌, ◌≤◌, ◌^◌, ◌++◌, ◌∙◌, List, [], ◌∷◌, length, map, replicate, refl, sym, ap, subst, arith, append_assoc, append-nil, length-append, false, None, Some}
+use Rattle.std.proofs.Common.{◌≡◌, ◌≢◌, inl, ℕ, suc, ◌+◌, ◌<◌, ◌≤◌, ◌^◌, ◌++◌, ◌∙◌, List, [], ◌∷◌, length, map, replicate, refl, sym, ap, subst, arith, append_assoc, append-nil, length-append, false, None, Some}
 use Rattle.std.specs.Prelude.{All, slice_get, slice_index_or, slice_set}
 use Rattle.std.proofs.lemmas.List.Elements.{All-cons, All-head, All-tail, All-weaker}
 use Rattle.json.specs.Json.{Json}
@@ -16,7 +16,7 @@ use Rattle.abt_entry.specs.declared.line.Line.TheVariants as line
 use Rattle.abt_entry.specs.EntryWritten.{step_json, entry_json}
 use Rattle.abt_journal_text.specs.Books.{Told, blank, journal_of, with_text, with_net, with_step, with_entry, with_end, appended_at, steps_at}
 use Rattle.abt_journal_text.specs.Entering.{Takes}
-use Rattle.abt_journal_text.specs.Texts.{below, top, TakesAll}
+use Rattle.abt_journal_text.specs.Texts.{below, top, text_of, TakesAll}
 use Rattle.abt_journal_text.specs.declared.spot.Spot.{Spot}
 use Rattle.abt_journal_text.specs.Fits.{IsChannel}
 use Rattle.abt_journal_text.specs.Lines.{IsShort, step_lines, ports_lines, entry_lines, sources_lines, journal_lines}
@@ -28,7 +28,7 @@ use Rattle.abt_journal_text.proofs.Entries.{entry_says, entry_plain}
 use Rattle.abt_journal_text.proofs.NetSays.{IsConn, IsNet, net_says, net_plain, end_says, end_plain}
 use Rattle.abt_journal_text.proofs.Steps.{step_says, step_plain}
 
--- These lines are taken in behind what was told, and leave something told of which this holds.
+-- These lines are taken in behind what was told, and leave something told that has the property P.
 record Taken (spot : Spot) (told : Told) (lines : List Text) (P : Told → Type 0) : Type 0 where
   after : Told
   taken : TakesAll spot told lines after
@@ -66,6 +66,7 @@ record At (net : Topology) (ports : List (List Entry)) (sources : List (List Sou
   ports_are : told.ports ≡ ports
   sources_are : told.sources ≡ sources
   settled : told.open_writes ≡ []
+  uncut : told.cuts ≡ []
   unended : told.ended ≡ false
 
 some_net : (net : Topology) (told : Told) → told.net ≡ Some net → told.net ≢ None
@@ -124,7 +125,7 @@ steps_taken spot told net before here after sources (step ∷ steps) low from sh
     let first = one_taken spot told (with_step spot port step told) json (line.Port port step) (At net (before ++ (here ++ step ∷ []) ∷ after) sources)
     (step_plain port step low from.1) (All-head IsShort (line_of json) (step_lines port steps) short) (step_says port step low from.1) now.unended
     (some_net net told now.net_is, within, from.0 ∙ sym known, refl)
-    (record { net_is = now.net_is; ports_are = grown; sources_are = now.sources_are; settled = now.settled; unended = now.unended }) in
+    (record { net_is = now.net_is; ports_are = grown; sources_are = now.sources_are; settled = now.settled; uncut = now.uncut; unended = now.unended }) in
     let longer : length here + 1 ≡ length (here ++ step ∷ []) = let sum = length-append here (step ∷ []) in omega arith in
     then_taken spot told (line_of json ∷ []) (step_lines port steps) (At net (before ++ (here ++ step ∷ []) ∷ after) sources)
     (At net (before ++ (here ++ step ∷ steps) ∷ after) sources) first
@@ -179,7 +180,7 @@ entries_taken spot told net ports before here after (one ∷ entries) low are sh
     let first = one_taken spot told (with_entry spot conn one told) json (line.Source conn one) (At net ports (before ++ (here ++ one ∷ []) ∷ after))
     (entry_plain conn one low fits) (All-head IsShort (line_of json) (entry_lines conn entries) short) (entry_says conn one low fits) now.unended
     (some_net net told now.net_is, within, refl)
-    (record { net_is = now.net_is; ports_are = now.ports_are; sources_are = grown; settled = now.settled; unended = now.unended }) in
+    (record { net_is = now.net_is; ports_are = now.ports_are; sources_are = grown; settled = now.settled; uncut = now.uncut; unended = now.unended }) in
     then_taken spot told (line_of json ∷ []) (entry_lines conn entries) (At net ports (before ++ (here ++ one ∷ []) ∷ after))
     (At net ports (before ++ (here ++ one ∷ entries) ∷ after)) first
     (λ s t so. subst (λ (list : List SourceEntry). Taken s t (entry_lines conn entries) (At net ports (before ++ list ∷ after))) (append_assoc here (one ∷ []) entries)
@@ -250,7 +251,7 @@ round_trip net ports sources are short number =
     let rest_short = all_second bodies (others ++ end) tail_short in
     let first = one_taken (top number) start (with_net net start) (net_json net) (line.Net net) (At net empty_ports empty_sources) (net_plain net fits)
     (All-head IsShort (line_of (net_json net)) (bodies ++ (others ++ end)) short) (net_says net fits) refl (refl, are.rules, refl)
-    (record { net_is = refl; ports_are = refl; sources_are = refl; settled = refl; unended = refl }) in
+    (record { net_is = refl; ports_are = refl; sources_are = refl; settled = refl; uncut = refl; unended = refl }) in
     let all = then_taken (top number) start (line_of (net_json net) ∷ []) (bodies ++ (others ++ end)) (At net empty_ports empty_sources) (TellsJust net ports sources) first
     (λ s t so. then_taken s t bodies (others ++ end) (At net ports empty_sources) (TellsJust net ports sources)
     (ports_taken s t net [] ports empty_sources 0 refl few_ports are.steps (all_first bodies (others ++ end) tail_short)
@@ -266,10 +267,18 @@ round_trip net ports sources are short number =
       ports_are = so3.ports_are;
       sources_are = ap (map journal_of) so3.sources_are ∙ journals_again sources;
       settled = so3.settled;
+      uncut = so3.uncut;
       ended = refl;
     })))) in
     record {
       told = all.after;
-      reads = record { lines = journal_lines net ports sources; are = refl; taken = all.taken; ended = all.so.ended };
+      reads = record {
+        lines = journal_lines net ports sources;
+        rest = [];
+        are = sym (append-nil (text_of (journal_lines net ports sources)));
+        before = all.after;
+        taken = all.taken;
+        ends = inl (refl, refl);
+      };
       just = all.so;
     }

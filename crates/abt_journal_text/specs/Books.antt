@@ -10,7 +10,8 @@ use Rattle.abt_journal_text.specs.declared.run.Run.{Run}
 use Rattle.abt_journal_text.specs.declared.spot.Spot.{Spot}
 
 -- The net, the journals of its ports and of its sources by their numbers, where each of their entries stands, which entries leave open
--- whether a write that failed was stored, in the order in which they were read, and whether the end of the text was read.
+-- whether a write that failed was stored, in the order in which they were read, the lines in whose middle texts ended, and whether the end of
+-- the text was read.
 pub record Told : Type 0 where
   pub net : Option Topology
   pub ports : List (List Entry)
@@ -18,6 +19,7 @@ pub record Told : Type 0 where
   pub port_spots : List (List Spot)
   pub source_spots : List (List Spot)
   pub open_writes : List OpenWrite
+  pub cuts : List Spot
   pub ended : Bool
 
 -- There is a journal for each port and each source of the net.
@@ -29,7 +31,7 @@ pub record IsSized (told : Told) : Type 0 where
 
 -- nothing was told, and no text was begun
 abbrev pub blank : Told
-blank = record { net = None; ports = []; sources = []; port_spots = []; source_spots = []; open_writes = []; ended = true }
+blank = record { net = None; ports = []; sources = []; port_spots = []; source_spots = []; open_writes = []; cuts = []; ended = true }
 
 -- the next text is begun
 abbrev pub with_text : Told → Told
@@ -40,6 +42,7 @@ with_text told = record {
   port_spots = told.port_spots;
   source_spots = told.source_spots;
   open_writes = told.open_writes;
+  cuts = told.cuts;
   ended = false;
 }
 
@@ -55,6 +58,10 @@ appended_at lists n item = slice_set lists n (slice_index_or lists n [] ++ item 
 abbrev pub steps_at : Told → ℕ → List Entry
 steps_at told p = slice_index_or told.ports p []
 
+-- a step at another place
+abbrev pub placed : (place : ℕ) → Entry → Entry
+placed place entry = record { place = place; caller = entry.caller; input = entry.input; reply = entry.reply }
+
 -- the entries of a source so far
 abbrev pub entries_at : Told → ℕ → List SourceEntry
 entries_at told c = slice_index_or told.sources c []
@@ -68,6 +75,7 @@ with_net net told = record {
   port_spots = replicate (length net.capacities) [];
   source_spots = replicate (length net.conns) [];
   open_writes = told.open_writes;
+  cuts = told.cuts;
   ended = told.ended;
 }
 
@@ -80,6 +88,7 @@ with_step spot p entry told = record {
   port_spots = appended_at told.port_spots p spot;
   source_spots = told.source_spots;
   open_writes = told.open_writes;
+  cuts = told.cuts;
   ended = told.ended;
 }
 
@@ -92,6 +101,7 @@ with_entry spot c entry told = record {
   port_spots = told.port_spots;
   source_spots = appended_at told.source_spots c spot;
   open_writes = told.open_writes;
+  cuts = told.cuts;
   ended = told.ended;
 }
 
@@ -104,6 +114,7 @@ with_open spot c entry told = record {
   port_spots = told.port_spots;
   source_spots = appended_at told.source_spots c spot;
   open_writes = told.open_writes ++ record { source = c; place = length (entries_at told c) } ∷ [];
+  cuts = told.cuts;
   ended = told.ended;
 }
 
@@ -116,7 +127,21 @@ with_end told = record {
   port_spots = told.port_spots;
   source_spots = told.source_spots;
   open_writes = told.open_writes;
+  cuts = told.cuts;
   ended = true;
+}
+
+-- a line in whose middle the text ends
+abbrev pub with_cut : Spot → Told → Told
+with_cut spot told = record {
+  net = told.net;
+  ports = told.ports;
+  sources = told.sources;
+  port_spots = told.port_spots;
+  source_spots = told.source_spots;
+  open_writes = told.open_writes;
+  cuts = told.cuts ++ spot ∷ [];
+  ended = told.ended;
 }
 
 -- the journal of a source with these entries
@@ -131,6 +156,7 @@ pub record IsToldRun (told : Told) (run : Run) : Type 0 where
   pub port_spots : lists_of run.port_spots ≡ told.port_spots
   pub source_spots : lists_of run.source_spots ≡ told.source_spots
   pub open_writes : run.open_writes.items ≡ told.open_writes
+  pub cuts : run.cuts.items ≡ told.cuts
   pub port_count : length run.journals ≡ length run.net.capacities
   pub source_count : length run.sources.items ≡ length run.net.conns
 

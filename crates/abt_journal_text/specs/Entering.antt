@@ -13,7 +13,7 @@ use Rattle.abt_entry.specs.declared.line.Line.TheVariants as line
 use Rattle.abt_journal_text.specs.declared.spot.Spot.{Spot}
 use Rattle.abt_journal_text.specs.declared.fault.Cause.{Cause}
 use Rattle.abt_journal_text.specs.declared.fault.Cause.TheVariants as cause
-use Rattle.abt_journal_text.specs.Books.{Told, steps_at, with_net, with_step, with_entry, with_open, with_end}
+use Rattle.abt_journal_text.specs.Books.{Told, steps_at, placed, with_net, with_step, with_entry, with_open, with_end}
 
 -- the net comes first, and once
 abbrev pub TakesNet : Told → Topology → Told → Type 0
@@ -22,11 +22,13 @@ TakesNet told net after = (told.net ≡ None) × IsWithinRules net × (after ≡
 abbrev pub TakesEnd : Told → Told → Type 0
 TakesEnd told after = (told.net ≢ None) × (after ≡ with_end told)
 
--- What is told once a line of this kind is taken in. A step of a port has the next place there.
+-- What is told once a line of this kind is taken in. A step of a port has the next place there, also if it doesn't say its place.
 abbrev pub Takes : Spot → Told → declared.Line → Told → Type 0
 Takes spot told (line.Net net) after = TakesNet told net after
 Takes spot told (line.Port p entry) after =
     (told.net ≢ None) × (p < length told.ports) × (entry.place ≡ length (steps_at told p)) × (after ≡ with_step spot p entry told)
+Takes spot told (line.Unplaced p entry) after =
+    (told.net ≢ None) × (p < length told.ports) × (after ≡ with_step spot p (placed (length (steps_at told p)) entry) told)
 Takes spot told (line.Source c entry) after = (told.net ≢ None) × (c < length told.sources) × (after ≡ with_entry spot c entry told)
 Takes spot told (line.Open c entry) after = (told.net ≢ None) × (c < length told.sources) × (after ≡ with_open spot c entry told)
 Takes spot told line.End after = TakesEnd told after
@@ -41,6 +43,8 @@ Refuses told (line.Net net) why = ((why ≡ cause.SecondNet) × (told.net ≢ No
 Refuses told (line.Port p entry) cause.NoNet = told.net ≡ None
 Refuses told (line.Port p entry) cause.NoPort = (told.net ≢ None) × (length told.ports ≤ p)
 Refuses told (line.Port p entry) cause.Place = (told.net ≢ None) × (p < length told.ports) × (entry.place ≢ length (steps_at told p))
+Refuses told (line.Unplaced p entry) cause.NoNet = told.net ≡ None
+Refuses told (line.Unplaced p entry) cause.NoPort = (told.net ≢ None) × (length told.ports ≤ p)
 Refuses told (line.Source c entry) cause.NoNet = told.net ≡ None
 Refuses told (line.Source c entry) cause.NoSource = (told.net ≢ None) × (length told.sources ≤ c)
 Refuses told (line.Open c entry) cause.NoNet = told.net ≡ None

@@ -1,4 +1,4 @@
--- That a text tells one thing.
+-- A text tells one thing.
 use Rattle.std.specs.Prelude.{◌≡◌}
 use Rattle.abt_text.specs.Text.{Text}
 use Rattle.abt_journal_text.specs.Books.{Told}

@@ -1,4 +1,4 @@
--- That the text of a net and its journals is read as just these.
+-- The text of a net and its journals is read as just these.
 use Rattle.std.specs.Prelude.{◌≡◌, ℕ, ◌+◌, ⊤, true, List, [], ◌∷◌, length, map, All, Some, slice_get}
 use Rattle.abt_text.specs.Text.{Text}
 use Rattle.abt_net.specs.Topology.{Topology, IsWithinRules}
@@ -29,12 +29,13 @@ pub record AreTellable (net : Topology) (ports : List (List Entry)) (sources : L
   pub steps : All IsPortJournal ports
   pub entries : AreOfSources 0 sources
 
--- Just these were told, and nothing is left open.
+-- Just these were told, and nothing is left open or cut.
 pub record TellsJust (net : Topology) (ports : List (List Entry)) (sources : List SourceJournal) (told : Told) : Type 0 where
   pub net_is : told.net ≡ Some net
   pub ports_are : told.ports ≡ ports
   pub sources_are : map journal_of told.sources ≡ sources
   pub settled : told.open_writes ≡ []
+  pub uncut : told.cuts ≡ []
   pub ended : told.ended ≡ true
 
 -- As the first text, whatever its number, it is read, and tells just these.

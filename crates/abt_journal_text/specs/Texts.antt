@@ -1,8 +1,8 @@
 -- What the texts of journals say (docs/JOURNALS.md, "Texts").
-use Rattle.std.specs.Prelude.{◌≡◌, ◌≢◌, ℕ, ◌+◌, ◌<◌, ◌≤◌, ◌⊎◌, true, false, List, [], ◌∷◌, length, take, Option, IfSome}
+use Rattle.std.specs.Prelude.{◌≡◌, ◌≢◌, ℕ, ◌+◌, ◌<◌, ◌≤◌, ◌⊎◌, List, [], ◌∷◌, length, take, Option, IfSome}
 use Rattle.abt_text.specs.Text.{Text, ◌⋅◌, line_feed}
 use Rattle.abt_text.specs.Words.{Lacks}
-use Rattle.abt_journal_text.specs.Books.{Told, with_text}
+use Rattle.abt_journal_text.specs.Books.{Told, with_text, with_cut}
 use Rattle.abt_journal_text.specs.Entering.{TakesLine, RefusesLine}
 use Rattle.abt_journal_text.specs.declared.spot.Spot.{Spot}
 use Rattle.abt_journal_text.specs.declared.fault.Cause.{Cause}
@@ -32,12 +32,19 @@ TakesAll spot told [] after = after ≡ told
 TakesAll spot told (line ∷ lines) after =
     (next : Told) × IsLine line × TakesLine spot told line next × TakesAll (below spot 1) next lines after
 
--- The rest of a text, from this line on, is read: each of its lines is taken in, and the last one is its end.
+-- what is left of a text behind its lines: nothing, or octets of a line that is cut, which is left out
+abbrev pub EndsWith : Spot → (before : Told) → (rest : Text) → (after : Told) → Type 0
+EndsWith spot before rest after =
+    ((rest ≡ []) × (after ≡ before)) ⊎ ((rest ≢ []) × IsLine rest × (after ≡ with_cut spot before))
+
+-- The rest of a text, from this line on, is read: each of its lines is taken in, and what is behind them is noted as cut.
 pub record Reads (spot : Spot) (told : Told) (text : Text) (after : Told) : Type 0 where
   pub lines : List Text
-  pub are : text ≡ text_of lines
-  pub taken : TakesAll spot told lines after
-  pub ended : after.ended ≡ true
+  pub rest : Text
+  pub are : text ≡ text_of lines ⋅ rest
+  pub before : Told
+  pub taken : TakesAll spot told lines before
+  pub ends : EndsWith (below spot (length lines)) before rest after
 
 -- Some line comes next, and isn't taken in.
 pub record IsRefusedLine (told : Told) (text : Text) (why : Cause) : Type 0 where
@@ -47,14 +54,10 @@ pub record IsRefusedLine (told : Told) (text : Text) (why : Cause) : Type 0 wher
   pub whole : IsLine line
   pub refused : RefusesLine told line why
 
--- why no line is taken in here: the line is too long, as many of its octets show; it has no line feed; or else it is refused. Or the text
--- ends without its end.
+-- why no line is taken in here: the line is too long, as many of its octets show; or else it is refused
 abbrev pub IsWrong : Told → Text → Cause → Type 0
 IsWrong told text why =
-    ((why ≡ cause.TooLong) × (line_max < length text) × Lacks line_feed (take (line_max + 1) text))
-    ⊎ ((why ≡ cause.Cut) × (text ≢ []) × IsLine text)
-    ⊎ ((why ≡ cause.NoEnd) × (text ≡ []) × (told.ended ≡ false))
-    ⊎ IsRefusedLine told text why
+    ((why ≡ cause.TooLong) × (line_max < length text) × Lacks line_feed (take (line_max + 1) text)) ⊎ IsRefusedLine told text why
 
 -- Reading the rest of a text, from this line on, fails: some lines are taken in, and then there is a fault.
 pub record Fails (spot : Spot) (told : Told) (text : Text) (fault : TextFault) : Type 0 where

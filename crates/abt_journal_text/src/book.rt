@@ -27,6 +27,8 @@ pub struct Book {
     pub(crate) port_spots: Vec<Vec<Spot>>,
     pub(crate) source_spots: Vec<Vec<Spot>>,
     pub(crate) open_writes: Vec<OpenWrite>,
+    // The lines in whose middle texts ended.
+    pub(crate) cuts: Vec<Spot>,
     // Whether the end of the text was read that was begun last.
     pub(crate) ended: bool,
 }
@@ -43,6 +45,7 @@ impl Model for Book {
       port_spots = lists_of b.port_spots;
       source_spots = lists_of b.source_spots;
       open_writes = b.open_writes.items;
+      cuts = b.cuts.items;
       ended = b.ended;
     } };
 
@@ -53,6 +56,7 @@ impl Model for Book {
       port_spots = lists_of b.port_spots;
       source_spots = lists_of b.source_spots;
       open_writes = b.open_writes.items;
+      cuts = b.cuts.items;
       ended = b.ended;
     }) };
 }
@@ -71,6 +75,7 @@ impl Book {
             port_spots: Vec::new(alloc),
             source_spots: Vec::new(alloc),
             open_writes: Vec::new(alloc),
+            cuts: Vec::new(alloc),
             ended: true,
         }
     }
@@ -126,6 +131,25 @@ impl Book {
         Ok(())
     }
 
+    fn take_unplaced(&mut self, spot: Spot, port: u16, said: Entry) -> Result<(), Cause>
+        ensures ok { OnOk result (Takes spot self.old (line.Unplaced port said) self.new) }
+        ensures err { IfErr result (λ why. IsOwn why ⊎ Refuses self.old (line.Unplaced port said) why) }
+    {
+        if self.net.is_none() {
+            return Err(Cause::NoNet);
+        }
+        // Name types within an entry, without which the checker can't follow one.
+        let _ = PortInput::Capacity(0);
+        let _ = PortReply::Answered(Back::Pass);
+        let _ = Onward::Pass;
+        let Some(steps) = self.journals.ports.get(usize::from(port)) else {
+            return Err(Cause::NoPort);
+        };
+        let entry = placed(steps.len() as u64, said);
+        push_at(&mut self.journals.ports, port, entry)?;
+        Ok(push_at(&mut self.port_spots, port, spot)?)
+    }
+
     fn take_entry(&mut self, spot: Spot, source: u16, entry: SourceEntry) -> Result<(), Cause>
         ensures ok { OnOk result (Takes spot self.old (line.Source source entry) self.new) }
         ensures err { IfErr result (λ why. IsOwn why ⊎ Refuses self.old (line.Source source entry) why) }
@@ -177,6 +201,14 @@ impl Book {
         Ok(())
     }
 
+    // Leaves out the line in whose middle the text ends, which stands here.
+    pub(crate) fn note_cut(&mut self, spot: Spot) -> Result<(), Cause>
+        ensures ok { OnOk result (self.new ≡ books.with_cut spot self.old) }
+        ensures err { IfErr result IsOwn }
+    {
+        Ok(self.cuts.push(spot)?)
+    }
+
     // Takes in what a line says.
     fn take(&mut self, alloc: Global, spot: Spot, said: Line) -> Result<(), Cause>
         ensures ok { OnOk result (Takes spot self.old said self.new) }
@@ -185,6 +217,7 @@ impl Book {
         match said {
             Line::Net(draft) => self.take_net(alloc, draft),
             Line::Port { port, entry } => self.take_step(spot, port, entry),
+            Line::Unplaced { port, entry } => self.take_unplaced(spot, port, entry),
             Line::Source { source, entry } => self.take_entry(spot, source, entry),
             Line::Open { source, entry } => self.take_open(spot, source, entry),
             Line::End => self.take_end(),
@@ -212,5 +245,23 @@ impl Book {
             Ok(said) => self.take(alloc, spot, said),
             Err(fault) => Err(cause_of_line(fault)),
         }
+    }
+}
+
+// The step at another place.
+fn placed(place: u64, entry: Entry) -> Entry
+    ensures { result ≡ books.placed place entry }
+{
+    let Entry {
+        place: _,
+        caller,
+        input,
+        reply,
+    } = entry;
+    Entry {
+        place,
+        caller,
+        input,
+        reply,
     }
 }

@@ -20,12 +20,6 @@ pub enum Cause {
     /// The line has more octets than a line may have.
     #[error("the line is too long")]
     TooLong,
-    /// The text ends in the middle of the line.
-    #[error("the text ends in the middle of this line")]
-    Cut,
-    /// The text ends here, and had no end.
-    #[error("the text has no end")]
-    NoEnd,
     /// The end of the text comes before the line.
     #[error("the line stands behind the end of its text")]
     Behind,

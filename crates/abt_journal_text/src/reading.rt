@@ -124,17 +124,17 @@ fn end_line(
     Ok(())
 }
 
-#[tactic(auto, using(crate::proofs::Lines::reads_end, crate::proofs::Lines::cut_here, crate::proofs::Lines::unended_here))]
-// Looks whether a text may end here.
-fn end_text(book: &Book, begun: &Begun) -> Result<(), TextFault>
-    ensures ok { OnOk result (Reads begun.now.spot book.now begun.now.octets.items book.now) }
-    ensures err { IfErr result (Fails begun.now.spot book.now begun.now.octets.items) }
+#[tactic(auto, using(crate::proofs::Lines::reads_end, crate::proofs::Lines::reads_cut))]
+// Ends a text here. A line in whose middle it ends is left out.
+fn end_text(book: &mut Book, begun: &Begun) -> Result<(), TextFault>
+    ensures ok { OnOk result (Reads begun.now.spot book.old begun.now.octets.items book.new) }
+    ensures err { IfErr result (λ fault. IsOwn fault.cause) }
 {
-    if !begun.octets.is_empty() {
-        return Err(fault_at(begun, Cause::Cut));
+    if begun.octets.is_empty() {
+        return Ok(());
     }
-    if !book.ended {
-        return Err(fault_at(begun, Cause::NoEnd));
+    match book.note_cut(begun.spot) {
+        Ok(()) => Ok(()),
+        Err(cause) => Err(fault_at(begun, cause)),
     }
-    Ok(())
 }

@@ -25,6 +25,8 @@ pub struct Run {
     pub source_spots: Vec<Vec<Spot>>,
     /// The entries of sources that leave open whether a write that failed was stored. Their plans are that it wasn't.
     pub open_writes: Vec<OpenWrite>,
+    /// The lines in whose middle texts ended. What they have isn't in the journals.
+    pub cuts: Vec<Spot>,
 }
 
 impl Book {
@@ -39,6 +41,7 @@ impl Book {
             port_spots,
             source_spots,
             open_writes,
+            cuts,
             ended: _,
         } = self;
         let Some(net) = net else {
@@ -52,6 +55,7 @@ impl Book {
             port_spots,
             source_spots,
             open_writes,
+            cuts,
         }))
     }
 }

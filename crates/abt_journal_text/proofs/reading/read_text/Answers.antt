@@ -1,8 +1,7 @@
 -- Each read goes on.
 use Rattle.std.proofs.Common.{take}
-use Rattle.abt_journal_text.proofs.Readers.{under_way_first, under_way_more, read_whole, unread_at_end, unread_in_piece, on_ok, if_err}
-use Rattle.abt_journal_text.specs.Entering.{IsOwn}
-use Rattle.std.proofs.Common.{◌⊎◌, inr}
+use Rattle.abt_journal_text.proofs.Readers.{under_way_first, under_way_more, read_whole, unread_in_piece, on_ok, if_err}
+use Rattle.std.proofs.Common.{inl}
 use Rattle.abt_journal_text.proofs.reading.read_text.Goals as goal
 
 pub loop-read-init : goal.loop-read-init
@@ -19,9 +18,7 @@ returns-then-count-eq0-clause-ok g c =
     (c.in-Ok.ensures.end c.if-count-eq0.true) r)
 
 pub returns-then-count-eq0-clause-err : goal.returns-then-count-eq0-clause-err
-returns-then-count-eq0-clause-err g c =
-    if_err _ _ _ c.end_text.ensures.err (λ fault f. inr (unread_at_end _ _ fault _ _ _ _ _ _ c.loop-read.invariant (rw c.if-count-eq0.true at c.in-Ok.ensures.ok)
-    (c.in-Ok.ensures.end c.if-count-eq0.true) f))
+returns-then-count-eq0-clause-err g c = if_err _ _ _ c.end_text.ensures.err (λ fault own. inl own)
 
 pub returns-in-Err-feed-clause-err : goal.returns-in-Err-feed-clause-err
 returns-in-Err-feed-clause-err g c =
