@@ -1,84 +1,82 @@
 -- What an audit shows of what was told, or doesn't.
-use Rattle.std.proofs.Common.{◌≡◌, ◌⊎◌, ◌∙◌, inl, inr, List, length, map, Option, Some, refl, sym, ap, subst}
+use Rattle.std.proofs.Common.{◌≡◌, ◌⊎◌, ◌∙◌, inl, inr, List, length, Option, refl, sym, ap, subst}
 use Rattle.std.specs.Prelude.{String, IfSome}
 use Rattle.std.specs.declared.alloc.Global.{Global}
 use Rattle.std.specs.Io.KnownBytes.{Appends, Keeps}
-use Rattle.abt_text.specs.Text.{Text}
+use Rattle.abt_text.specs.Text.{Text, ◌⋅◌}
 use Rattle.abt_text.specs.Streams.{AppendsPrefix}
 use Rattle.abt_net.specs.Topology.{Topology}
-use Rattle.abt_journal.specs.declared.entry.Entry.{Entry}
-use Rattle.abt_model.specs.declared.journal.SourceJournal.{SourceJournal}
 use Rattle.abt_weave.specs.Faults.{IsWeaveFault, SaysNoneIsWoven}
 use Rattle.abt_weave.specs.declared.fault.WeaveFault.{WeaveFault}
-use Rattle.abt_weave.specs.Stuck.{RunJournals}
-use Rattle.abt_journal_text.specs.Books.{Told, IsToldRun, blank, journal_of}
+use Rattle.abt_journal_text.specs.Books.{Told, IsToldRun, blank, lists_of}
 use Rattle.abt_journal_text.specs.Entering.{IsOwn}
 use Rattle.abt_journal_text.specs.declared.fault.TextFault.{TextFault}
-use Rattle.abt_journal_text.specs.declared.open_write.OpenWrite.{OpenWrite}
 use Rattle.abt_journal_text.specs.declared.run.Run.{Run}
-use Rattle.abt_audit.specs.Audits.{AreRead, IsUnreadAmong, IsAudited, IsToldAs, IsSafelyTold, IsReadAs, journals_with}
-use Rattle.abt_audit.specs.Parts.{IsSizedRun}
+use Rattle.abt_journal_text.specs.declared.spot.Spot.{Spot}
+use Rattle.abt_derive.specs.Derives.{IsDerived}
+use Rattle.abt_derive.specs.Restarts.{IsRestarted}
+use Rattle.abt_derive.proofs.Crashing.{as_many_restarted}
+use Rattle.abt_derive.proofs.Growing.{as_many as as_many_derived}
+use Rattle.abt_audit.specs.Audits.{AreRead, IsUnreadAmong, IsWholeRun, IsToldAs, IsSafelyTold, IsReadAs}
+use Rattle.abt_audit.specs.Names.{note_lines}
+use Rattle.abt_audit.specs.Parts.{IsSizedRun, run_journals}
 use Rattle.abt_audit.specs.Performing.{IsStuckRun, IsNoRun, EndsBy, IsShownAs, IsShownWhole, run_in, shown_text}
-use Rattle.abt_audit.specs.Protocol.{fault_lines}
-use Rattle.abt_audit.specs.Settling.{AreSettled, IsSettledRun}
+use Rattle.abt_audit.specs.Why.{IsFaultText}
+use Rattle.abt_audit.specs.Settling.{IsSettledRun}
 use Rattle.abt_audit.proofs.SettledRuns.{as_many}
-use Rattle.abt_audit.specs.declared.auditing.Audited.{Audited}
 use Rattle.abt_audit.specs.declared.auditing.AuditedRun.{AuditedRun}
 use Rattle.abt_audit.specs.declared.fault.AuditFault.{AuditFault}
 use Rattle.abt_audit.specs.declared.fault.AuditFault.TheVariants as fault
 
--- what is said of the journals of a run is said of those that were told, what they leave open settled
-as_told : (P : RunJournals → Type 0) (told : Told) (read run : Run) → IsToldRun told read → IsSettledRun read run
-    → P (record { ports = run.journals; sources = run.sources.items }) → P (journals_with told run.sources.items)
-as_told P told read run r s p =
-    subst (λ (ports : List (List Entry)). P (record { ports = ports; sources = run.sources.items })) (ap (λ (one : Run). one.journals) s.same ∙ r.ports) p
+net_stays : (told : Told) (run : Run) (w : IsWholeRun told run) → run.net ≡ w.read.net
+net_stays told run w =
+    ap (λ (one : Run). one.net) w.is_derived.same ∙ ap (λ (one : Run). one.net) w.is_settled.same ∙ ap (λ (one : Run). one.net) w.is_restarted.same
 
-settled_as : (told : Told) (read run : Run) → IsToldRun told read → IsSettledRun read run
-    → AreSettled run.net told.open_writes (map journal_of told.sources) run.sources.items
-settled_as told read run r s =
-    subst (λ (net : Topology). AreSettled net told.open_writes (map journal_of told.sources) run.sources.items) (sym (ap (λ (one : Run). one.net) s.same))
-    (subst (λ (writes : List OpenWrite). AreSettled read.net writes (map journal_of told.sources) run.sources.items) r.open_writes
-    (subst (λ (sources : List SourceJournal). AreSettled read.net read.open_writes.items sources run.sources.items) r.sources s.settled))
+-- the lines that are cut are those that were told
+cuts_stay : (told : Told) (run : Run) → IsWholeRun told run → run.cuts.items ≡ told.cuts
+cuts_stay told run w =
+    ap (λ (one : Run). one.cuts.items) w.is_derived.same ∙ ap (λ (one : Run). one.cuts.items) w.is_settled.same
+    ∙ ap (λ (one : Run). one.cuts.items) w.is_restarted.same ∙ w.is_read.cuts
 
-pub told_as : (told : Told) (read run : Run) (audited : Audited) → IsToldRun told read → IsSettledRun read run
-    → IsAudited run.net (record { ports = run.journals; sources = run.sources.items }) audited → IsToldAs told (record { net = run.net; audited = audited })
-told_as told read run audited r s p = record {
-  net_told = r.net ∙ ap (λ (net : Topology). Some net) (sym (ap (λ (one : Run). one.net) s.same));
-  sources = run.sources.items;
-  settled = settled_as told read run r s;
-  is_audited = as_told (λ (journals : RunJournals). IsAudited run.net journals audited) told read run r s p;
-}
+-- there are as many journals of sources as the net has connections, and as many of ports as it has ports
+pub sources_stay : (told : Told) (run : Run) → IsWholeRun told run → length run.sources.items ≡ length run.net.conns
+sources_stay told run w =
+    as_many_derived w.settled.net w.settled.journals (lists_of w.settled.port_spots) (lists_of w.settled.source_spots) 0 w.settled.sources.items run.sources.items
+    (lists_of run.source_spots) w.is_derived.completed
+    ∙ as_many w.restarted.net w.restarted.open_writes.items w.restarted.sources.items w.settled.sources.items w.is_settled.settled
+    ∙ ap length w.is_restarted.sources ∙ as_many_restarted (lists_of w.read.source_spots) 0 w.read.sources.items ∙ w.is_read.source_count
+    ∙ sym (ap (λ (net : Topology). length net.conns) (net_stays told run w))
 
-pub stuck_so : (names : List (String Global)) (told : Told) (read run : Run) (why : WeaveFault) (lines : Text) → IsToldRun told read → IsSettledRun read run
-    → IsWeaveFault run.net (record { ports = run.journals; sources = run.sources.items }) why
-    → SaysNoneIsWoven run.net (record { ports = run.journals; sources = run.sources.items }) why → lines ≡ fault_lines names run why
-    → IsStuckRun names told why lines run
-stuck_so names told read run why lines r s p q is = record {
-  read = read;
-  is_run = r;
-  settled = s;
-  is_fault = as_told (λ (journals : RunJournals). IsWeaveFault run.net journals why) told read run r s p;
-  none = as_told (λ (journals : RunJournals). SaysNoneIsWoven run.net journals why) told read run r s q;
-  are = is;
-}
+pub ports_stay : (told : Told) (run : Run) → IsWholeRun told run → length run.journals ≡ length run.net.capacities
+ports_stay told run w =
+    ap (λ (one : Run). length one.journals) w.is_derived.same ∙ ap (λ (one : Run). length one.journals) w.is_settled.same
+    ∙ ap (λ (one : Run). length one.journals) w.is_restarted.same ∙ w.is_read.port_count
+    ∙ sym (ap (λ (net : Topology). length net.capacities) (net_stays told run w))
 
--- there are as many journals of sources as the net has connections
-pub sources_stay : (told : Told) (read run : Run) → IsToldRun told read → IsSettledRun read run → length run.sources.items ≡ length run.net.conns
-sources_stay told read run r s =
-    as_many read.net read.open_writes.items read.sources.items run.sources.items s.settled ∙ r.source_count
-    ∙ sym (ap (λ (one : Run). length one.net.conns) s.same)
+pub sized : (told : Told) (run : Run) → IsWholeRun told run → IsSizedRun run
+sized told run w = record { ports = ports_stay told run w; conns = sources_stay told run w }
+
+pub whole : (told : Told) (read restarted settled run : Run) → IsToldRun told read → IsRestarted read restarted → IsSettledRun restarted settled
+    → IsDerived settled run → IsWholeRun told run
+whole told read restarted settled run r t s d =
+    record { read = read; is_read = r; restarted = restarted; is_restarted = t; settled = settled; is_settled = s; is_derived = d }
+
+-- what goes out, of the lines that are cut
+pub shown_so : (told : Told) (run : Run) (front text : Text) → IsWholeRun told run → text ≡ front ⋅ note_lines run.cuts.items
+    → text ≡ front ⋅ note_lines told.cuts
+shown_so told run front text w is = is ∙ ap (λ (cuts : List Spot). front ⋅ note_lines cuts) (cuts_stay told run w)
+
+pub stuck_so : (names : List (String Global)) (told : Told) (run : Run) (why : WeaveFault) (text lines : Text) → IsWholeRun told run
+    → IsWeaveFault run.net (run_journals run) why → SaysNoneIsWoven run.net (run_journals run) why → IsFaultText names run why text
+    → lines ≡ text ⋅ note_lines run.cuts.items → IsStuckRun names told why lines run
+stuck_so names told run why text lines w p q so is =
+    record { whole = w; is_fault = p; none = q; text = text; is_text = so; are = shown_so told run text lines w is }
 
 -- a run that is handed out has a journal for each port and each source
 pub sized_left : (names : List (String Global)) (lefts : List (Option Text)) (why : AuditFault) (old new : Option Text) → EndsBy names lefts why old new
     → IfSome (run_in why) IsSizedRun
 sized_left names lefts (fault.Stuck why lines run) old new (inl read) = (let other = read.0.1 in absurd (cc))
-sized_left names lefts (fault.Stuck why lines run) old new (inr (inl judged)) =
-    let s = judged.0.is in
-    let same = s.settled.same in
-    record {
-      ports = ap (λ (one : Run). length one.journals) same ∙ s.is_run.port_count ∙ sym (ap (λ (one : Run). length one.net.capacities) same);
-      conns = sources_stay judged.0.told s.read run s.is_run s.settled;
-    }
+sized_left names lefts (fault.Stuck why lines run) old new (inr (inl judged)) = sized judged.0.told run judged.0.is.whole
 sized_left names lefts (fault.Stuck why lines run) old new (inr (inr (inl refused))) = (let other = refused.0 in absurd (cc))
 sized_left names lefts (fault.Stuck why lines run) old new (inr (inr (inr wrote))) = (let other = wrote.0 in absurd (cc))
 sized_left names lefts (fault.Text why) old new ends = tt
@@ -98,17 +96,25 @@ pub ends_judging : (names : List (String Global)) (lefts : List (Option Text)) (
     → AreRead 1 blank lefts told → IsNoRun names told why → EndsBy names lefts why old old
 ends_judging names lefts told why old keeps read none = inr (inl (read_as lefts told (λ t. IsNoRun names t why) read none, keeps))
 
-pub ends_writing : (names : List (String Global)) (lefts : List (Option Text)) (told : Told) (run : AuditedRun) (old new : Option Text)
-    → AreRead 1 blank lefts told → IsToldAs told run → AppendsPrefix old new shown_text → EndsBy names lefts fault.Write old new
-ends_writing names lefts told run old new read is part =
-    inr (inr (inr (refl, read_as lefts told IsSafelyTold read (record { run = run; is = is }), part)))
+pub ends_writing : (names : List (String Global)) (lefts : List (Option Text)) (told : Told) (run : AuditedRun) (text : Text) (old new : Option Text)
+    → AreRead 1 blank lefts told → IsToldAs told run → text ≡ shown_text told → AppendsPrefix old new text → EndsBy names lefts fault.Write old new
+ends_writing names lefts told run text old new read is same part =
+    inr (inr (inr (
+      refl,
+      read_as lefts told (λ t. IsSafelyTold t × AppendsPrefix old new (shown_text t)) read
+          (record { run = run; is = is }, subst (λ (t : Text). AppendsPrefix old new t) same part),
+    )))
 
-pub shown_as : (lefts : List (Option Text)) (told : Told) (run : AuditedRun) (old new : Option Text)
-    → AreRead 1 blank lefts told → IsToldAs told run → Appends old new shown_text → IsShownAs lefts old new run
-shown_as lefts told run old new read is written =
-    record { shown = read_as lefts told (λ t. IsToldAs t run) read is; written = written }
+pub shown_as : (lefts : List (Option Text)) (told : Told) (run : AuditedRun) (text : Text) (old new : Option Text)
+    → AreRead 1 blank lefts told → IsToldAs told run → text ≡ shown_text told → Appends old new text → IsShownAs lefts old new run
+unfolding read_as
+shown_as lefts told run text old new read is same written = record {
+  shown = read_as lefts told (λ t. IsToldAs t run) read is;
+  written = subst (λ (t : Text). Appends old new t) same written;
+}
 
 -- what is shown of some net and events is shown whole
 pub shown_whole : (lefts : List (Option Text)) (run : AuditedRun) (old new : Option Text) → IsShownAs lefts old new run → IsShownWhole lefts old new
+unfolding read_as
 shown_whole lefts run old new s =
     record { shown = read_as lefts s.shown.told IsSafelyTold s.shown.read (record { run = run; is = s.shown.is }); written = s.written }

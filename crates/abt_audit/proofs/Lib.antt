@@ -11,3 +11,4 @@ pub mod SettledRuns
 pub mod SourcesContradicted
 pub mod Texts
 pub mod Tried
+pub mod Whys

@@ -1,16 +1,19 @@
 -- What an audit shows (docs/JOURNALS.md, "Audits").
-use Rattle.std.specs.Prelude.{◌≡◌, ◌⊎◌, ℕ, ◌+◌, true, List, [], ◌∷◌, map, Option, Some}
+use Rattle.std.specs.Prelude.{◌≡◌, ◌⊎◌, ℕ, ◌+◌, true, List, [], ◌∷◌, Option}
 use Rattle.abt_text.specs.Text.{Text}
 use Rattle.abt_net.specs.Topology.{Topology}
 use Rattle.abt_model.specs.declared.event.Event.{Event}
 use Rattle.abt_model.specs.Traces.{IsTrace}
-use Rattle.abt_model.specs.declared.journal.SourceJournal.{SourceJournal}
 use Rattle.abt_weave.specs.Stuck.{RunJournals}
 use Rattle.abt_weave.specs.Woven.{IsWoven}
-use Rattle.abt_journal_text.specs.Books.{Told, blank, journal_of}
+use Rattle.abt_journal_text.specs.Books.{Told, IsToldRun, blank}
 use Rattle.abt_journal_text.specs.Texts.{IsRead, IsUnread}
 use Rattle.abt_journal_text.specs.declared.fault.TextFault.{TextFault}
-use Rattle.abt_audit.specs.Settling.{AreSettled}
+use Rattle.abt_journal_text.specs.declared.run.Run.{Run}
+use Rattle.abt_derive.specs.Derives.{IsDerived}
+use Rattle.abt_derive.specs.Restarts.{IsRestarted}
+use Rattle.abt_audit.specs.Parts.{run_journals}
+use Rattle.abt_audit.specs.Settling.{IsSettledRun}
 use Rattle.abt_audit.specs.declared.auditing.Audited.{Audited}
 use Rattle.abt_audit.specs.declared.auditing.AuditedRun.{AuditedRun}
 
@@ -25,14 +28,7 @@ IsUnreadAmong number told [] fault = ⊥
 IsUnreadAmong number told (left ∷ more) fault =
     IsUnread number told fault left ⊎ ((next : Told) × IsRead number told next left × IsUnreadAmong (number + 1) next more fault)
 
--- the journals that were told, and over the same ports those of these sources
-abbrev pub journals_of : Told → RunJournals
-journals_of told = record { ports = told.ports; sources = map journal_of told.sources }
-
-abbrev pub journals_with : Told → List SourceJournal → RunJournals
-journals_with told sources = record { ports = told.ports; sources = sources }
-
--- These are the events, with their trace, which is safe.
+-- What was audited are these events, with their trace, which is safe.
 pub record IsVerdict (net : Topology) (events : List Event) (audited : Audited) : Type 0 where
   pub are_events : audited.events ≡ events
   pub is_trace : IsTrace net events audited.trace
@@ -44,12 +40,23 @@ pub record IsAudited (net : Topology) (journals : RunJournals) (audited : Audite
   pub is_trace : IsTrace net audited.events audited.trace
   pub is_safe : audited.trace.safe ≡ true
 
--- What was told is this net, and journals over it that are audited so once what they leave open is settled.
-pub record IsToldAs (told : Told) (run : AuditedRun) : Type 0 where
-  pub net_told : told.net ≡ Some run.net
-  pub sources : List SourceJournal
-  pub settled : AreSettled run.net told.open_writes (journals_of told).sources sources
-  pub is_audited : IsAudited run.net (journals_with told sources) run.audited
+-- A run of what was told: its sources have crashed before they start again, what it leaves open is settled, and the journals of its sources
+-- are completed.
+pub record IsWholeRun (told : Told) (run : Run) : Type 0 where
+  pub read : Run
+  pub is_read : IsToldRun told read
+  pub restarted : Run
+  pub is_restarted : IsRestarted read restarted
+  pub settled : Run
+  pub is_settled : IsSettledRun restarted settled
+  pub is_derived : IsDerived settled run
+
+-- What was told is this net, and journals over it that are audited so once they are whole.
+pub record IsToldAs (told : Told) (audited : AuditedRun) : Type 0 where
+  pub run : Run
+  pub whole : IsWholeRun told run
+  pub net_is : audited.net ≡ run.net
+  pub is_audited : IsAudited run.net (run_journals run) audited.audited
 
 -- What was told is a net and journals that are audited.
 pub record IsSafelyTold (told : Told) : Type 0 where

@@ -7,4 +7,4 @@ pub mod Parts
 pub mod Protocol
 pub mod Contradicted
 pub mod Performing
-pub mod Plans
+pub mod Why

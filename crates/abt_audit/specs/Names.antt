@@ -1,5 +1,5 @@
 -- The names of what is wrong with a line (docs/JOURNALS.md, "Faults").
-use Rattle.std.specs.Prelude.{◌-◌, List, codes, slice_get, string_bytes, Option, Some, None, String}
+use Rattle.std.specs.Prelude.{◌-◌, List, [], ◌∷◌, codes, slice_get, string_bytes, Option, Some, None, String}
 use Rattle.std.specs.declared.alloc.Global.{Global}
 use Rattle.abt_text.specs.Text.{Text, ◌⋅◌, decimal, newline}
 use Rattle.abt_entry.specs.Members.{member_name}
@@ -23,8 +23,6 @@ line_name line.Memory = codes "memory"
 
 abbrev pub cause_name : Cause → Text
 cause_name cause.TooLong = codes "TooLong"
-cause_name cause.Cut = codes "Cut"
-cause_name cause.NoEnd = codes "NoEnd"
 cause_name cause.Behind = codes "Behind"
 cause_name (cause.Line fault) = line_name fault
 cause_name cause.NoNet = codes "NoNet"
@@ -49,3 +47,11 @@ spot_head names spot = name_in (slice_get names (spot.text - 1)) ⋅ codes ":" �
 -- what is told of a fault of a text
 abbrev pub text_fault_line : List (String Global) → TextFault → Text
 text_fault_line names fault = codes "fault: " ⋅ spot_head names fault.spot ⋅ cause_name fault.cause ⋅ newline
+
+-- what is told of a line that is cut, and left out
+abbrev pub note_line : Spot → Text
+note_line spot = codes "note: text " ⋅ decimal spot.text ⋅ codes " ends in the middle of line " ⋅ decimal spot.line ⋅ newline
+
+abbrev pub note_lines : List Spot → Text
+note_lines [] = []
+note_lines (spot ∷ more) = note_line spot ⋅ note_lines more

@@ -7,7 +7,7 @@ use Rattle.abt_text.specs.Text.{Text, ◌⋅◌, newline}
 use Rattle.abt_text.specs.Streams.{AppendsPrefix}
 use Rattle.abt_weave.specs.declared.fault.WeaveFault.{WeaveFault}
 use Rattle.abt_weave.specs.declared.fault.WeaveFault.TheVariants as weave
-use Rattle.abt_journal_text.specs.Books.{Told, IsToldRun, blank}
+use Rattle.abt_journal_text.specs.Books.{Told, blank}
 use Rattle.abt_journal_text.specs.Entering.{IsOwn}
 use Rattle.abt_journal_text.specs.declared.fault.Cause.{Cause}
 use Rattle.abt_journal_text.specs.declared.fault.Cause.TheVariants as cause
@@ -17,26 +17,26 @@ use Rattle.abt_perform.specs.Names.{fault_line}
 use Rattle.abt_perform.specs.Plans.{Tells}
 use Rattle.abt_perform.specs.declared.fault.Fault as program
 use Rattle.abt_perform.specs.declared.fault.Fault.TheVariants as program_fault
-use Rattle.abt_audit.specs.Audits.{IsReadAs, IsToldAs, IsUnreadAmong, IsShown, journals_with}
-use Rattle.abt_audit.specs.Names.{text_fault_line}
-use Rattle.abt_audit.specs.Protocol.{fault_lines}
-use Rattle.abt_audit.specs.Settling.{IsSettledRun}
+use Rattle.abt_audit.specs.Audits.{IsReadAs, IsToldAs, IsUnreadAmong, IsSafelyTold, IsShown, IsWholeRun}
+use Rattle.abt_audit.specs.Names.{note_lines, text_fault_line}
+use Rattle.abt_audit.specs.Why.{IsFaultText}
+use Rattle.abt_audit.specs.Parts.{run_journals}
 use Rattle.abt_audit.specs.declared.auditing.AuditedRun.{AuditedRun}
 use Rattle.abt_audit.specs.declared.fault.AuditFault.{AuditFault}
 use Rattle.abt_audit.specs.declared.fault.AuditFault.TheVariants as fault
 
--- what goes out if an audit shows all
-abbrev pub shown_text : Text
-shown_text = codes "woven" ⋅ newline ⋅ codes "safe" ⋅ newline
+-- what goes out if an audit shows all that was told
+abbrev pub shown_text : Told → Text
+shown_text told = codes "woven" ⋅ newline ⋅ codes "safe" ⋅ newline ⋅ note_lines told.cuts
 
--- What was told is this run once what it leaves open is settled; its journals aren't woven, and these are the lines of the fault.
+-- What was told is this run once it is whole; its journals aren't woven, and these are the lines of the fault, and why it is one.
 pub record IsStuckRun (names : List (String Global)) (told : Told) (why : WeaveFault) (lines : Text) (run : Run) : Type 0 where
-  pub read : Run
-  pub is_run : IsToldRun told read
-  pub settled : IsSettledRun read run
-  pub is_fault : IsWeaveFault run.net (journals_with told run.sources.items) why
-  pub none : SaysNoneIsWoven run.net (journals_with told run.sources.items) why
-  pub are : lines ≡ fault_lines names run why
+  pub whole : IsWholeRun told run
+  pub is_fault : IsWeaveFault run.net (run_journals run) why
+  pub none : SaysNoneIsWoven run.net (run_journals run) why
+  pub text : Text
+  pub is_text : IsFaultText names run why text
+  pub are : lines ≡ text ⋅ note_lines told.cuts
 
 -- why what was told isn't audited
 abbrev pub IsNoRun : List (String Global) → Told → AuditFault → Type 0
@@ -56,7 +56,7 @@ EndsBy names lefts why old new =
     (EndsReading lefts why × Keeps old new)
     ⊎ (IsReadAs lefts (λ told. IsNoRun names told why) × Keeps old new)
     ⊎ ((why ≡ fault.Memory) × Keeps old new)
-    ⊎ ((why ≡ fault.Write) × IsShown lefts × AppendsPrefix old new shown_text)
+    ⊎ ((why ≡ fault.Write) × IsReadAs lefts (λ told. IsSafelyTold told × AppendsPrefix old new (shown_text told)))
 
 -- the fault of an audit for a fault of a text, by its cause
 abbrev pub fault_by : TextFault → Cause → AuditFault
@@ -111,9 +111,9 @@ pub record IsNotShownLeaving (names : List (String Global)) (lefts : List (Optio
 -- An audit that shows all of this net and these events.
 pub record IsShownAs (lefts : List (Option Text)) (old new : Option Text) (run : AuditedRun) : Type 0 where
   pub shown : IsReadAs lefts (λ told. IsToldAs told run)
-  pub written : Appends old new shown_text
+  pub written : Appends old new (shown_text shown.told)
 
 -- An audit that shows all.
 pub record IsShownWhole (lefts : List (Option Text)) (old new : Option Text) : Type 0 where
   pub shown : IsShown lefts
-  pub written : Appends old new shown_text
+  pub written : Appends old new (shown_text shown.told)

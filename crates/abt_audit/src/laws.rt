@@ -6,7 +6,7 @@ ghost use Rattle.abt_model.specs.declared.journal.SourceJournal.{SourceJournal};
 ghost use Rattle.abt_net.specs.Topology.{Topology, IsWithinRules};
 ghost use Rattle.abt_weave.specs.Stuck.{RunJournals};
 ghost use Rattle.abt_audit.specs.Contradicted.{PortsAreContradicted, SourcesAreContradicted};
-ghost use Rattle.abt_audit.specs.Ways.{EachWayIsTried};
+ghost use Rattle.abt_audit.specs.Ways.{EachWayIsTried, EachCompletionIsTried};
 
 /// If the entry of a port or of a source is named as a mismatch, what is told as the protocol's answer isn't the one that the entry has.
 ///
@@ -18,10 +18,12 @@ pub fn mismatches_are_contradicted()
 {}
 
 /// If a source has few open writes, and not all entries of its settled journal have the outcomes that the source
-/// gives, no list of events is woven from the journals in whatever way they are settled.
+/// gives, no list of events is woven from the journals in whatever way they are settled, and completed.
 ///
 /// This is a law and does nothing.
 pub fn each_way_is_tried()
-    ensures { (net : Topology) (writes : List OpenWrite) (ports : List (List Entry))
+    ensures settled { (net : Topology) (writes : List OpenWrite) (ports : List (List Entry))
         (sources settled : List SourceJournal) → EachWayIsTried net writes ports sources settled }
+    ensures completed { (net : Topology) (writes : List OpenWrite) (ports : List (List Entry))
+        (sources settled : List SourceJournal) → EachCompletionIsTried net writes ports sources settled }
 {}

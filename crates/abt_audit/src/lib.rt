@@ -2,7 +2,6 @@
 #![tactic(auto)]
 
 mod auditing;
-mod command;
 mod fault;
 mod gathering;
 mod laws;
@@ -11,17 +10,15 @@ mod naming;
 mod obeying;
 mod parting;
 mod performing;
-mod plan;
 mod protocol;
 mod settling;
 mod stuck;
+mod why;
 
 pub use auditing::{Audited, AuditedRun, audit};
-pub use command::{DRAW, add_commands, plan_of, sample_plan_of};
 pub use fault::AuditFault;
 pub use gathering::read_all;
 pub use laws::{each_way_is_tried, mismatches_are_contradicted};
 pub use marks::{Mark, marks_of};
 pub use parting::{WovenPart, weave_part};
 pub use performing::{perform_audit, show_audit};
-pub use plan::{AuditPlan, SamplePlan};

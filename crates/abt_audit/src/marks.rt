@@ -10,7 +10,7 @@ use std::alloc::{AllocError, Global};
 /// An entry at which a journal is stuck.
 #[derive(Debug, Drop)]
 pub struct Mark {
-    /// Whose journal it is.
+    /// The source or port whose journal it is.
     pub actor: Actor,
     /// What an audit tells of the entry: its text, its line there, and the entry, and a line feed.
     pub line: Vec<u8>,

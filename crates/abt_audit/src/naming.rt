@@ -1,9 +1,10 @@
 //! The names of the faults of lines.
-ghost use Rattle.std.specs.Prelude.{◌≡◌, IfOk, string_bytes};
-ghost use Rattle.abt_audit.specs.Names.{cause_name, line_name};
+ghost use Rattle.std.specs.Prelude.{◌≡◌, IfOk, OnOk, string_bytes};
+ghost use Rattle.abt_text.specs.Text.{◌⋅◌};
+ghost use Rattle.abt_audit.specs.Names.{cause_name, line_name, note_line, note_lines};
 ghost use Rattle.abt_perform.specs.Names.{fault_name};
 
-use abt_journal_text::{Cause, LineFault};
+use abt_journal_text::{Cause, LineFault, Spot};
 use abt_perform::Fault;
 use abt_scenario::ScenarioFault;
 use std::alloc::{AllocError, Global};
@@ -14,8 +15,6 @@ pub(crate) fn cause_text(alloc: Global, cause: Cause) -> Result<String, AllocErr
 {
     match cause {
         Cause::TooLong => String::from_str(alloc, "TooLong"),
-        Cause::Cut => String::from_str(alloc, "Cut"),
-        Cause::NoEnd => String::from_str(alloc, "NoEnd"),
         Cause::Behind => String::from_str(alloc, "Behind"),
         Cause::Line(fault) => line_text(alloc, fault),
         Cause::NoNet => String::from_str(alloc, "NoNet"),
@@ -54,4 +53,34 @@ fn fault_text(alloc: Global, fault: Fault) -> Result<String, AllocError>
     ensures { IfOk result (λ text. string_bytes text ≡ fault_name fault) }
 {
     format!(in alloc; "{fault}")
+}
+
+// Adds what is told of a line that is cut, and left out.
+fn add_note(alloc: Global, text: &mut Vec<u8>, spot: Spot) -> Result<(), AllocError>
+    ensures { OnOk result (text.new.items ≡ text.old.items ⋅ note_line spot) }
+{
+    let number = spot.text;
+    let line = spot.line;
+    let note = format!(in alloc; "note: text {number} ends in the middle of line {line}\n")?;
+    Ok(text.extend_from_slice(note.as_bytes())?)
+}
+
+// Adds what is told of lines that are cut.
+fn add_notes(alloc: Global, text: &mut Vec<u8>, cuts: &[Spot]) -> Result<(), AllocError>
+    ensures { OnOk result (text.new.items ≡ text.old.items ⋅ note_lines cuts.now) }
+{
+    for spot in cuts {
+        add_note(alloc, text, *spot)?;
+    }
+    Ok(())
+}
+
+// A text, and behind it what is told of lines that are cut.
+pub(crate) fn with_notes(alloc: Global, text: &[u8], cuts: &[Spot]) -> Result<Vec<u8>, AllocError>
+    ensures { IfOk result (λ made. made.items ≡ text.now ⋅ note_lines cuts.now) }
+{
+    let mut made = Vec::new(alloc);
+    made.extend_from_slice(text)?;
+    add_notes(alloc, &mut made, cuts)?;
+    Ok(made)
 }

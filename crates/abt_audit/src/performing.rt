@@ -8,16 +8,18 @@ ghost use Rattle.abt_text.specs.Text.{◌⋅◌};
 ghost use Rattle.abt_audit.specs.Audits.{IsToldAs};
 ghost use Rattle.abt_audit.specs.Names.{text_fault_line};
 ghost use Rattle.abt_audit.specs.declared.fault.AuditFault.TheVariants as audit_fault;
-ghost use Rattle.abt_audit.specs.Performing.{EndsBy, IsNotShown, IsNotShownLeaving, IsNoRun, IsShownAs, IsShownWhole, TellsFault, run_in, weave_fault};
+ghost use Rattle.abt_audit.specs.Performing.{EndsBy, IsNotShown, IsNotShownLeaving, IsNoRun, IsShownAs, IsShownWhole, TellsFault, run_in, shown_text, weave_fault};
 ghost use Rattle.abt_audit.specs.Parts.{IsSizedRun};
 ghost use Rattle.abt_audit.specs.Performing as spec;
 
 use crate::auditing::{AuditedRun, audit};
 use crate::fault::AuditFault;
 use crate::gathering::read_all;
-use crate::naming::cause_text;
+use crate::naming::{cause_text, with_notes};
 use crate::settling::settled_run;
-use crate::stuck::{head_of, stuck_text};
+use crate::stuck::head_of;
+use crate::why::fault_text;
+use abt_derive::{derive, restart};
 use abt_journal_text::{Book, Cause, Run, TextFault};
 use abt_perform::{Fault, MEMORY_LINE, WRITE_LINE, tell_text};
 use abt_text::put;
@@ -109,11 +111,11 @@ fn audit_texts<R: Read + Drop, W: Write>(
         Ok(book) => book,
         Err(fault) => return Err(fault_of_text(fault)),
     };
-    let run = match judge_book(alloc, names, book) {
-        Ok(run) => run,
+    let (run, shown) = match judge_book(alloc, names, book) {
+        Ok(judged) => judged,
         Err(fault) => return Err(fault),
     };
-    match put(writer, b"woven\nsafe\n") {
+    match put(writer, shown.as_slice()) {
         Ok(()) => Ok(run),
         Err(_) => Err(AuditFault::Write),
     }
@@ -130,23 +132,33 @@ fn fault_of_text(fault: TextFault) -> AuditFault
     }
 }
 
-// Audits what was told.
-fn judge_book(alloc: Global, names: &[String], book: Book) -> Result<AuditedRun, AuditFault>
-    ensures ok { IfOk result (IsToldAs book) }
+// Audits what was told, and gives what goes out of that.
+fn judge_book(
+    alloc: Global,
+    names: &[String],
+    book: Book,
+) -> Result<(AuditedRun, Vec<u8>), AuditFault>
+    ensures ok { IfOk result (λ judged. IsToldAs book judged.0 × (judged.1.items ≡ shown_text book)) }
     ensures err { IfErr result (IsNoRun names.now book) }
 {
     let Some(told) = book.into_run(alloc)? else {
         return Err(AuditFault::Nothing);
     };
-    let run = settled_run(alloc, told)?;
+    let restarted = restart(alloc, told)?;
+    let settled = settled_run(alloc, restarted)?;
+    let run = derive(alloc, settled)?;
     match audit(alloc, &run) {
         Ok(audited) => {
+            let shown = with_notes(alloc, b"woven\nsafe\n", run.cuts.as_slice())?;
             let Run { net, .. } = run;
-            Ok(AuditedRun { net, audited })
+            Ok((AuditedRun { net, audited }, shown))
         }
         Err(WeaveFault::Memory) => Err(AuditFault::Memory),
         Err(fault) => {
-            let Ok(lines) = stuck_text(alloc, names, &run, &fault) else {
+            let Ok(lines) = fault_text(alloc, names, &run, &fault) else {
+                return Err(AuditFault::Memory);
+            };
+            let Ok(lines) = with_notes(alloc, lines.as_slice(), run.cuts.as_slice()) else {
                 return Err(AuditFault::Memory);
             };
             Err(AuditFault::Stuck { fault, lines, run })

@@ -19,7 +19,7 @@ use abt_world::opening_port;
 use std::alloc::{AllocError, Global};
 
 // Hands an input to a port.
-fn serve(port: &mut Port, input: &PortInput) -> PortReply
+pub(crate) fn serve(port: &mut Port, input: &PortInput) -> PortReply
     ensures value { result ≡ reply_by port.old input.now }
     ensures table { port.new ≡ table_after port.old input.now }
 {
@@ -44,7 +44,7 @@ fn port_after(alloc: Global, net: &Net, id: u16, entries: &[Entry]) -> Result<Po
 }
 
 // The reply of a port to the input of the entry of a place, after the inputs of the entries before.
-fn port_answer(
+pub(crate) fn port_answer(
     alloc: Global,
     net: &Net,
     id: u16,

@@ -228,6 +228,7 @@ pub(crate) fn settled_run(alloc: Global, told: Run) -> Result<Run, AllocError>
         port_spots,
         source_spots,
         open_writes,
+        cuts,
     } = told;
     let sources = settled_sources(alloc, &net, open_writes.as_slice(), sources)?;
     Ok(Run {
@@ -237,5 +238,6 @@ pub(crate) fn settled_run(alloc: Global, told: Run) -> Result<Run, AllocError>
         port_spots,
         source_spots,
         open_writes,
+        cuts,
     })
 }

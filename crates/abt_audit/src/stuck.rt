@@ -16,7 +16,7 @@ use std::alloc::{AllocError, Global};
 
 #[tactic(auto, using(crate::proofs::Lists::got_map))]
 // The item of a place in the list of a number.
-fn item_at<T>(lists: &[Vec<T>], number: u16, place: u64) -> Option<&T>
+pub(crate) fn item_at<T>(lists: &[Vec<T>], number: u16, place: u64) -> Option<&T>
     ensures { option_map
         (λ item. item.now) result ≡
         item_at (map (λ (items : Vec T GlobalSpec). items.items) lists.now) number place }
@@ -64,7 +64,7 @@ pub(crate) fn head_of(alloc: Global, names: &[String], spot: Spot) -> Result<Str
 }
 
 // The name of the text of a number, which counts from 1.
-fn name_of(names: &[String], number: u64) -> &str
+pub(crate) fn name_of(names: &[String], number: u64) -> &str
     ensures { result.now ≡ name_in (slice_get names.now (number - 1)) }
 {
     match names.get(number.saturating_sub(1) as usize) {

@@ -52,7 +52,7 @@ fn line_of(alloc: Global, text: &str) -> Result<Line, LineFault> {
     }
 }
 
-/// The step that a line says, and of which port.
+/// The port and the step that a line says.
 fn step_in(alloc: Global, text: &str) -> Result<Option<(u16, Entry)>, Fail> {
     let line = line_of(alloc, text)?;
     Ok(step_of(&line))
@@ -65,7 +65,7 @@ fn step_of(line: &Line) -> Option<(u16, Entry)> {
     }
 }
 
-/// The entry of a source that a line says, and of which source.
+/// The source and its entry that a line says.
 fn entry_in(alloc: Global, text: &str) -> Result<Option<(u16, SourceEntry)>, Fail> {
     let line = line_of(alloc, text)?;
     Ok(entry_of(&line))
@@ -101,7 +101,7 @@ fn answer(granted: bool) -> Result<Answer, Fail> {
     Ok(Answer::of(&request()?, granted))
 }
 
-/// That request, as a line has it.
+/// The request, as a line has it.
 const REQUEST: &str = r#"{"vpi":1,"vci":100,"seq":3,"floor":"5120","ask":"5258"}"#;
 
 /// The no to it, and the yes.

@@ -1,3 +1,4 @@
+pub mod Sightings
 pub mod Grounds
 pub mod Reasons
 pub mod Explanation

@@ -1,5 +1,5 @@
 -- The texts of reasons, by the numbers that decide and by the outcome of an event (docs/EXPLAIN.md).
-use Rattle.std.specs.Prelude.{ℕ, ◌-◌, ◌==◌, [], codes, if◌then◌else◌, Option, None, Some}
+use Rattle.std.specs.Prelude.{ℕ, ◌-◌, ◌==◌, Bool, true, false, [], codes, if◌then◌else◌, Option, None, Some}
 use Rattle.abt_cell.specs.Message.{Terms}
 use Rattle.abt_text.specs.Text.{Text, ◌⋅◌, decimal}
 use Rattle.abt_format.specs.Measures.{cells_text, seconds_text}
@@ -22,8 +22,14 @@ use Rattle.abt_source.specs.declared.fault.AskFault.{AskFault}
 use Rattle.abt_source.specs.declared.fault.AskFault.TheVariants as ask_fault
 use Rattle.abt_source.specs.declared.fault.StartFault.{StartFault}
 use Rattle.abt_source.specs.declared.fault.StartFault.TheVariants as start_fault
+use Rattle.abt_format.specs.EventText.{event_text}
+use Rattle.abt_model.specs.declared.event.Event.{Event}
+use Rattle.abt_model.specs.declared.event.Event.TheVariants as event
 use Rattle.abt_reason.specs.declared.grounds.Grounds.{Grounds}
-use Rattle.abt_reason.specs.declared.grounds.Grounds.TheVariants.{Nothing, NoConnection, NoPort, NoHop, Moment, Cell, AtHop, Newest, Waits, Reserved}
+use Rattle.abt_reason.specs.declared.grounds.Numbers.{Numbers}
+use Rattle.abt_reason.specs.declared.sighting.Sighting.{Sighting}
+use Rattle.abt_reason.specs.declared.sighting.Sought.{Sought}
+use Rattle.abt_reason.specs.declared.grounds.Numbers.TheVariants.{Nothing, NoConnection, NoPort, NoHop, Moment, Cell, AtHop, Newest, Waits, Reserved}
 
 -- a refusal: the number was refused there before, or the asked rate doesn't fit beside the others
 abbrev pub refusal_text : (seq newest asks holds total capacity : ℕ) → Text
@@ -35,22 +41,22 @@ refusal_text seq newest asks holds total capacity =
 abbrev pub newest_text : ℕ → Text
 newest_text newest = codes ": " ⋅ decimal newest ⋅ codes " is the newest here"
 
-abbrev pub onward_reason : Grounds → Onward → Text
+abbrev pub onward_reason : Numbers → Onward → Text
 onward_reason (AtHop seq newest asks holds total capacity) (onward.Refuse answer) = refusal_text seq newest asks holds total capacity
 onward_reason (AtHop seq newest asks holds total capacity) (onward.Drop Stale) = newest_text newest
-onward_reason grounds reply = []
+onward_reason numbers reply = []
 
-abbrev pub back_reason : Grounds → Back → Text
+abbrev pub back_reason : Numbers → Back → Text
 back_reason (Newest newest) (back.Drop Stale) = newest_text newest
-back_reason grounds reply = []
+back_reason numbers reply = []
 
 abbrev pub waits_text : Option ℕ → Text
 waits_text None = codes ": waits for none"
 waits_text (Some seq) = codes ": waits for " ⋅ decimal seq
 
-abbrev pub heard_reason : Grounds → Heard → Text
+abbrev pub heard_reason : Numbers → Heard → Text
 heard_reason (Waits awaited) Ignored = waits_text awaited
-heard_reason grounds heard = []
+heard_reason numbers heard = []
 
 -- a moment before the one that may not be undercut
 abbrev pub before_text : (now last : ℕ) → Text
@@ -72,6 +78,10 @@ cell_reason cell at emitted fence moment delay tau last Delay = delay_text cell 
 cell_reason cell at emitted fence moment delay tau last ClockBack = before_text at last
 cell_reason cell at emitted fence moment delay tau last cause = []
 
+abbrev pub cell_text : Numbers → Cause → Text
+cell_text (Cell cell at emitted fence moment delay tau last) cause = cell_reason cell at emitted fence moment delay tau last cause
+cell_text numbers cause = []
+
 -- a cause that has no numbers
 abbrev pub plain_reason : Cause → Text
 plain_reason Down = codes ": the source is down"
@@ -80,13 +90,40 @@ plain_reason NotSent = codes ": no such message lies there"
 plain_reason NotAsking = codes ": the source waits for no answer"
 plain_reason cause = []
 
-abbrev pub cause_reason : Grounds → Cause → Text
-cause_reason (NoConnection count) cause = codes ": the net has " ⋅ decimal count ⋅ codes " connections"
-cause_reason (NoPort count) cause = codes ": the net has " ⋅ decimal count ⋅ codes " ports"
-cause_reason (NoHop count) cause = codes ": the path has " ⋅ decimal count ⋅ codes " hops, counted from 1"
-cause_reason (Moment now clock) ClockBack = before_text now clock
-cause_reason (Cell cell at emitted fence moment delay tau last) cause = cell_reason cell at emitted fence moment delay tau last cause
-cause_reason grounds cause = plain_reason cause
+-- what an answer says
+abbrev pub verdict_text : Bool → Text
+verdict_text true = codes "yes "
+verdict_text false = codes "no "
+
+-- the message that an event takes on, and where it lies
+abbrev pub lies_text : Event → Text
+lies_text (event.Request c hop seq) = codes "request " ⋅ decimal seq ⋅ codes " lies at hop " ⋅ decimal hop
+lies_text (event.Turn c seq) = codes "request " ⋅ decimal seq ⋅ codes " lies at the end of the path"
+lies_text (event.Answer c hop seq granted) = verdict_text granted ⋅ decimal seq ⋅ codes " lies at hop " ⋅ decimal hop
+lies_text (event.Told c seq granted) = verdict_text granted ⋅ decimal seq ⋅ codes " lies at its source"
+lies_text other = []
+
+-- where it lies, and that this event comes next of it
+abbrev pub seen_text : Event → Text
+seen_text next = codes ": " ⋅ lies_text next ⋅ codes ": `" ⋅ event_text next ⋅ codes "` comes next"
+
+-- a message that was never sent
+abbrev pub unseen_text : (seq : ℕ) → Text
+unseen_text seq = codes ": no message with number " ⋅ decimal seq ⋅ codes " lies at any hop"
+
+-- where the message lies that isn't where an event looks for it
+abbrev pub sighting_text : (seq : ℕ) → Option Sighting → Text
+sighting_text seq None = unseen_text seq
+sighting_text seq (Some sighting) = seen_text sighting.next
+
+abbrev pub cause_reason : Numbers → Option Sought → Cause → Text
+cause_reason (NoConnection count) sought cause = codes ": the net has " ⋅ decimal count ⋅ codes " connections"
+cause_reason (NoPort count) sought cause = codes ": the net has " ⋅ decimal count ⋅ codes " ports"
+cause_reason (NoHop count) sought cause = codes ": the path has " ⋅ decimal count ⋅ codes " hops, counted from 1"
+cause_reason (Moment now clock) sought ClockBack = before_text now clock
+cause_reason (Cell cell at emitted fence moment delay tau last) sought cause = cell_text (Cell cell at emitted fence moment delay tau last) cause
+cause_reason numbers (Some sought) NotSent = sighting_text sought.seq sought.sighting
+cause_reason numbers sought cause = plain_reason cause
 
 -- the moment from which the next cell may leave, behind some words
 abbrev pub next_text : Text → ℕ → Text
@@ -111,10 +148,10 @@ abbrev pub ask_reason : AskFault → Text
 ask_reason ask_fault.SeqExhausted = codes ": 4294967295 was the last number"
 ask_reason ask_fault.Keep = codes ": the store failed"
 
-abbrev pub capacity_reason : Grounds → CapacityFault → Text
+abbrev pub capacity_reason : Numbers → CapacityFault → Text
 capacity_reason (Reserved total) BelowSum = codes ": " ⋅ decimal total ⋅ codes " are held there"
-capacity_reason grounds AboveLimit = codes ": the limit is 1152921504606846976"
-capacity_reason grounds fault = []
+capacity_reason numbers AboveLimit = codes ": the limit is 1152921504606846976"
+capacity_reason numbers fault = []
 
 -- what a request asks for, in cells per second
 abbrev pub request_reason : Terms → Text
@@ -129,9 +166,9 @@ reason_text grounds (AskRefused fault) = ask_reason fault
 reason_text grounds (Repeated request) = request_reason request
 reason_text grounds (Emitted cell next) = next_text (codes ": the next not before ") next
 reason_text grounds (EmitRefused fault) = shape_reason fault
-reason_text grounds (Requested reply) = onward_reason grounds reply
-reason_text grounds (Answered reply) = back_reason grounds reply
-reason_text grounds (Told heard) = heard_reason grounds heard
-reason_text grounds (CapacityRefused fault) = capacity_reason grounds fault
-reason_text grounds (NotEnabled cause) = cause_reason grounds cause
+reason_text grounds (Requested reply) = onward_reason grounds.numbers reply
+reason_text grounds (Answered reply) = back_reason grounds.numbers reply
+reason_text grounds (Told heard) = heard_reason grounds.numbers heard
+reason_text grounds (CapacityRefused fault) = capacity_reason grounds.numbers fault
+reason_text grounds (NotEnabled cause) = cause_reason grounds.numbers grounds.sought cause
 reason_text grounds outcome = []

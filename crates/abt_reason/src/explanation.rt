@@ -5,6 +5,7 @@ ghost use Rattle.abt_reason.specs.Explanation as spec;
 use crate::ending::push_ending;
 use crate::grounds::{Grounds, grounds_of};
 use crate::reason::push_reason;
+use crate::sightings::Sightings;
 use abt_format::{push_event, push_outcome};
 use abt_model::Sequence;
 use abt_net::Net;
@@ -29,11 +30,13 @@ pub fn explanation_of(
     // Names a type within an outcome, without which the checker can't follow one round the loop.
     let _ = Onward::Pass;
     let mut world = World::new(alloc, net)?;
+    let mut sightings = Sightings::new(alloc);
     let mut outcomes = Sequence::with_room(alloc, events.len())?;
     let mut text = String::new(alloc);
     for (index, event) in events.iter().enumerate() {
-        let grounds = grounds_of(&world, net, event);
+        let grounds = grounds_of(&world, &sightings, net, event);
         let outcome = world.step(event)?;
+        sightings.note(net, event, &outcome)?;
         push_told(
             alloc,
             &mut text,

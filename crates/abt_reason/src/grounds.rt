@@ -7,14 +7,17 @@ ghost use Rattle.abt_world.specs.Standing.{StandsFor};
 ghost use Rattle.abt_world.specs.Readings.{held_in, total_in, asked_for, moment_in, progress_in};
 ghost use Rattle.abt_world.specs.Steps as steps;
 ghost use Rattle.abt_reason.specs.Grounds as spec;
+ghost use Rattle.abt_reason.specs.Sightings.{AreSightings};
 
+use crate::sighting::Sought;
+use crate::sightings::Sightings;
 use abt_net::{Conn, Net};
 use abt_world::{Event, Progress, World};
 
 /// The numbers by which an event is decided, as the past before it gives them. Rates and capacities are units of 1/512 cell/s, moments
 /// picoseconds.
 #[derive(Clone, Copy, Debug, PartialEq, Eq)]
-pub enum Grounds {
+pub enum Numbers {
     /// No number.
     Nothing,
     /// The net has only so many connections.
@@ -70,58 +73,79 @@ pub enum Grounds {
     },
 }
 
-/// The numbers by which an event is decided after what happened to a world.
-pub fn grounds_of(world: &World<'_>, net: &Net, event: &Event) -> Grounds
+/// All by which the outcome of an event can be told.
+#[derive(Clone, Copy, Debug, PartialEq, Eq)]
+pub struct Grounds {
+    /// The numbers by which it is decided.
+    pub numbers: Numbers,
+    /// The message that it is to deliver, if it is to deliver one.
+    pub sought: Option<Sought>,
+}
+
+/// All by which the outcome of an event can be told after what happened to a world, and where the messages lie then.
+pub fn grounds_of(world: &World<'_>, sightings: &Sightings, net: &Net, event: &Event) -> Grounds
     ensures { (events : List EventSpec) → StandsFor net.now events world.now →
+        AreSightings net.now (facts_after net.now events) sightings.now →
         result ≡ spec.grounds_of net.now (facts_after net.now events) event.now }
 {
+    Grounds {
+        numbers: numbers_of(world, net, event),
+        sought: sightings.sought(event),
+    }
+}
+
+// The numbers by which an event is decided after what happened to a world.
+fn numbers_of(world: &World<'_>, net: &Net, event: &Event) -> Numbers
+    ensures { (events : List EventSpec) → StandsFor net.now events world.now →
+        result ≡ spec.numbers_of net.now (facts_after net.now events) event.now }
+{
     match event.conn() {
-        Some(conn) => grounds_by(world, net, conn, event),
-        None => grounds_alone(world, net, event),
+        Some(conn) => numbers_by(world, net, conn, event),
+        None => numbers_alone(world, net, event),
     }
 }
 
 // An event of a connection, if the net has it.
-fn grounds_by(world: &World<'_>, net: &Net, conn: u16, event: &Event) -> Grounds
+fn numbers_by(world: &World<'_>, net: &Net, conn: u16, event: &Event) -> Numbers
     ensures { (events : List EventSpec) → StandsFor net.now events world.now →
-        result ≡ spec.grounds_by net.now (facts_after net.now events) conn (conn_at net.now conn) event.now }
+        result ≡ spec.numbers_by net.now (facts_after net.now events) conn (conn_at net.now conn) event.now }
 {
     let conns = net.conns();
     match conns.get(usize::from(conn)) {
-        Some(known) => grounds_at(world, conn, known, event),
-        None => Grounds::NoConnection {
+        Some(known) => numbers_at(world, conn, known, event),
+        None => Numbers::NoConnection {
             connections: conns.len() as u64,
         },
     }
 }
 
 // An event of a port alone.
-fn grounds_alone(world: &World<'_>, net: &Net, event: &Event) -> Grounds
+fn numbers_alone(world: &World<'_>, net: &Net, event: &Event) -> Numbers
     ensures { (events : List EventSpec) → StandsFor net.now events world.now →
-        result ≡ spec.grounds_alone net.now (facts_after net.now events) event.now }
+        result ≡ spec.numbers_alone net.now (facts_after net.now events) event.now }
 {
     match *event {
-        Event::Capacity { port, .. } => port_grounds(world, net, port),
-        _ => Grounds::Nothing,
+        Event::Capacity { port, .. } => port_numbers(world, net, port),
+        _ => Numbers::Nothing,
     }
 }
 
 // An event of a connection that the net has.
-fn grounds_at(world: &World<'_>, place: u16, conn: &Conn, event: &Event) -> Grounds
+fn numbers_at(world: &World<'_>, place: u16, conn: &Conn, event: &Event) -> Numbers
     ensures { (net : Topology) (events : List EventSpec) → StandsFor net events world.now →
-        result ≡ spec.grounds_at net (facts_after net events) place conn.now event.now }
+        result ≡ spec.numbers_at net (facts_after net events) place conn.now event.now }
 {
     match *event {
-        Event::Start { now, .. } | Event::Emit { now, .. } => moment_grounds(world, place, now),
-        Event::Arrive { cell, at, .. } => cell_grounds(world, place, conn, cell, at),
-        Event::Request { hop, seq, .. } => hop_grounds(world, place, conn, hop, seq),
-        Event::Answer { hop, .. } => answer_grounds(world, place, conn, hop),
-        Event::Told { .. } => waiting_grounds(world, place),
+        Event::Start { now, .. } | Event::Emit { now, .. } => moment_numbers(world, place, now),
+        Event::Arrive { cell, at, .. } => cell_numbers(world, place, conn, cell, at),
+        Event::Request { hop, seq, .. } => hop_numbers(world, place, conn, hop, seq),
+        Event::Answer { hop, .. } => answer_numbers(world, place, conn, hop),
+        Event::Told { .. } => waiting_numbers(world, place),
         Event::Ask { .. }
         | Event::Again { .. }
         | Event::Crash { .. }
         | Event::Turn { .. }
-        | Event::Capacity { .. } => Grounds::Nothing,
+        | Event::Capacity { .. } => Numbers::Nothing,
     }
 }
 
@@ -133,25 +157,25 @@ fn port_at(conn: &Conn, hop: u16) -> Option<u16>
     conn.path.as_slice().get(usize::from(place)).copied()
 }
 
-fn moment_grounds(world: &World<'_>, conn: u16, now: u64) -> Grounds
+fn moment_numbers(world: &World<'_>, conn: u16, now: u64) -> Numbers
     ensures { (net : Topology) (events : List EventSpec) → StandsFor net events world.now →
-        result ≡ spec.moment_grounds now (progress_in net (facts_after net events) conn) }
+        result ≡ spec.moment_numbers now (progress_in net (facts_after net events) conn) }
 {
     match world.progress(conn) {
-        Some(Progress { clock, .. }) => Grounds::Moment { now, clock },
-        None => Grounds::Nothing,
+        Some(Progress { clock, .. }) => Numbers::Moment { now, clock },
+        None => Numbers::Nothing,
     }
 }
 
-fn cell_grounds(world: &World<'_>, place: u16, conn: &Conn, cell: u64, at: u64) -> Grounds
+fn cell_numbers(world: &World<'_>, place: u16, conn: &Conn, cell: u64, at: u64) -> Numbers
     ensures { (net : Topology) (events : List EventSpec) → StandsFor net events world.now →
-        result ≡ spec.cell_grounds conn.now cell at
+        result ≡ spec.cell_numbers conn.now cell at
         (spec.number (moment_in net (facts_after net events) place cell))
         (progress_in net (facts_after net events) place) }
 {
     let moment = world.moment(place, cell).unwrap_or(0);
     match world.progress(place) {
-        Some(progress) => Grounds::Cell {
+        Some(progress) => Numbers::Cell {
             cell,
             at,
             emitted: progress.emitted,
@@ -161,17 +185,17 @@ fn cell_grounds(world: &World<'_>, place: u16, conn: &Conn, cell: u64, at: u64) 
             tau: conn.tau,
             last: progress.last_arrival,
         },
-        None => Grounds::Nothing,
+        None => Numbers::Nothing,
     }
 }
 
-fn hop_grounds(world: &World<'_>, place: u16, conn: &Conn, hop: u16, seq: u32) -> Grounds
+fn hop_numbers(world: &World<'_>, place: u16, conn: &Conn, hop: u16, seq: u32) -> Numbers
     ensures { (net : Topology) (events : List EventSpec) → StandsFor net events world.now →
-        result ≡ spec.hop_grounds net (facts_after net events) place (length conn.now.path) hop seq
+        result ≡ spec.hop_numbers net (facts_after net events) place (length conn.now.path) hop seq
         (steps.port_at conn.now.path hop) }
 {
     match port_at(conn, hop) {
-        Some(port) => Grounds::AtHop {
+        Some(port) => Numbers::AtHop {
             seq,
             newest: world.newest(place, hop).unwrap_or(0),
             asks: asked_units(world, place, seq),
@@ -179,7 +203,7 @@ fn hop_grounds(world: &World<'_>, place: u16, conn: &Conn, hop: u16, seq: u32) -
             total: world.total(port).unwrap_or(0),
             capacity: world.capacity(port).unwrap_or(0),
         },
-        None => Grounds::NoHop {
+        None => Numbers::NoHop {
             hops: conn.path.len() as u64,
         },
     }
@@ -208,38 +232,38 @@ fn held_units(world: &World<'_>, place: u16, hop: u16) -> u64
     }
 }
 
-fn answer_grounds(world: &World<'_>, place: u16, conn: &Conn, hop: u16) -> Grounds
+fn answer_numbers(world: &World<'_>, place: u16, conn: &Conn, hop: u16) -> Numbers
     ensures { (net : Topology) (events : List EventSpec) → StandsFor net events world.now →
-        result ≡ spec.answer_grounds net (facts_after net events) place (length conn.now.path) hop
+        result ≡ spec.answer_numbers net (facts_after net events) place (length conn.now.path) hop
         (steps.port_at conn.now.path hop) }
 {
     match port_at(conn, hop) {
-        Some(_) => Grounds::Newest {
+        Some(_) => Numbers::Newest {
             newest: world.newest(place, hop).unwrap_or(0),
         },
-        None => Grounds::NoHop {
+        None => Numbers::NoHop {
             hops: conn.path.len() as u64,
         },
     }
 }
 
-fn waiting_grounds(world: &World<'_>, place: u16) -> Grounds
+fn waiting_numbers(world: &World<'_>, place: u16) -> Numbers
     ensures { (net : Topology) (events : List EventSpec) → StandsFor net events world.now →
-        result ≡ spec.waiting_grounds (progress_in net (facts_after net events) place) }
+        result ≡ spec.waiting_numbers (progress_in net (facts_after net events) place) }
 {
     match world.progress(place) {
-        Some(Progress { awaited, .. }) => Grounds::Waits { awaited },
-        None => Grounds::Nothing,
+        Some(Progress { awaited, .. }) => Numbers::Waits { awaited },
+        None => Numbers::Nothing,
     }
 }
 
-fn port_grounds(world: &World<'_>, net: &Net, port: u16) -> Grounds
+fn port_numbers(world: &World<'_>, net: &Net, port: u16) -> Numbers
     ensures { (events : List EventSpec) → StandsFor net.now events world.now →
-        result ≡ spec.port_grounds net.now (total_in net.now (facts_after net.now events) port) }
+        result ≡ spec.port_numbers net.now (total_in net.now (facts_after net.now events) port) }
 {
     match world.total(port) {
-        Some(total) => Grounds::Reserved { total },
-        None => Grounds::NoPort {
+        Some(total) => Numbers::Reserved { total },
+        None => Numbers::NoPort {
             ports: net.capacities().len() as u64,
         },
     }

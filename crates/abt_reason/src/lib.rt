@@ -6,7 +6,12 @@ mod explanation;
 mod grounds;
 mod reason;
 mod refusal;
+mod seen;
+mod sighting;
+mod sightings;
 
 pub use explanation::explanation_of;
-pub use grounds::{Grounds, grounds_of};
+pub use grounds::{Grounds, Numbers, grounds_of};
 pub use reason::push_reason;
+pub use sighting::{Sighting, Sought};
+pub use sightings::Sightings;

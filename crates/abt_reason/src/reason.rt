@@ -2,11 +2,13 @@
 ghost use Rattle.std.specs.Prelude.{◌≡◌, ◌++◌, OnOk, string_bytes};
 ghost use Rattle.abt_reason.specs.Reasons as spec;
 
-use crate::grounds::Grounds;
+use crate::grounds::{Grounds, Numbers};
 use crate::refusal::{
     ask_reason, push_back, push_capacity, push_heard, push_next, push_onward, push_shape,
     start_reason,
 };
+use crate::seen::push_sighting;
+use crate::sighting::Sought;
 use abt_cell::Request;
 use abt_format::{cells_text, seconds_text};
 use abt_model::{Cause, Outcome};
@@ -31,11 +33,17 @@ pub fn push_reason(
         Outcome::AskRefused(fault) => text.push_str(ask_reason(fault)),
         Outcome::Emitted { next, .. } => push_next(alloc, text, ": the next not before ", next),
         Outcome::EmitRefused(fault) => push_shape(alloc, text, fault),
-        Outcome::Requested(reply) => push_onward(text, grounds, reply),
-        Outcome::Answered(reply) => push_back(text, grounds, reply),
-        Outcome::Told(heard) => push_heard(text, grounds, heard),
-        Outcome::CapacityRefused(fault) => push_capacity(text, grounds, fault),
-        Outcome::NotEnabled(cause) => push_cause(alloc, text, grounds, cause),
+        Outcome::Requested(reply) => push_onward(text, &grounds.numbers, reply),
+        Outcome::Answered(reply) => push_back(text, &grounds.numbers, reply),
+        Outcome::Told(heard) => push_heard(text, &grounds.numbers, heard),
+        Outcome::CapacityRefused(fault) => push_capacity(text, &grounds.numbers, fault),
+        Outcome::NotEnabled(cause) => push_cause(
+            alloc,
+            text,
+            &grounds.numbers,
+            grounds.sought,
+            cause,
+        ),
         Outcome::Started
         | Outcome::Crashed
         | Outcome::Arrived(_)
@@ -57,46 +65,67 @@ fn push_request(alloc: Global, text: &mut String, request: &Request) -> Result<(
 fn push_cause(
     alloc: Global,
     text: &mut String,
-    grounds: &Grounds,
+    numbers: &Numbers,
+    sought: Option<Sought>,
     cause: Cause,
 ) -> Result<(), AllocError>
     ensures { OnOk result (string_bytes text.new ≡ string_bytes text.old ++
-        spec.cause_reason grounds.now cause) }
+        spec.cause_reason numbers.now sought cause) }
 {
-    match (*grounds, cause) {
-        (Grounds::NoConnection { connections }, _) => {
+    match (*numbers, sought, cause) {
+        (Numbers::NoConnection { connections }, _, _) => {
             write!(text, ": the net has {connections} connections")
         }
-        (Grounds::NoPort { ports }, _) => write!(text, ": the net has {ports} ports"),
-        (Grounds::NoHop { hops }, _) => write!(text, ": the path has {hops} hops, counted from 1"),
-        (Grounds::Moment { now, clock }, Cause::ClockBack) => push_before(alloc, text, now, clock),
-        (
-            Grounds::Cell {
-                cell,
-                at,
-                emitted,
-                fence,
-                moment,
-                delay,
-                tau,
-                last,
-            },
-            _,
-        ) => {
-            let coming = Coming {
-                cell,
-                at,
-                emitted,
-                fence,
-                moment,
-                delay,
-                tau,
-                last,
-            };
-            push_cell_cause(alloc, text, &coming, cause)
-        }
+        (Numbers::NoPort { ports }, _, _) => write!(text, ": the net has {ports} ports"),
+        (Numbers::NoHop { hops }, _, _) => write!(
+            text,
+            ": the path has {hops} hops, counted from 1"
+        ),
+        (Numbers::Moment { now, clock }, _, Cause::ClockBack) => push_before(
+            alloc, text, now, clock,
+        ),
+        (Numbers::Cell { .. }, _, _) => push_cell(alloc, text, numbers, cause),
+        (_, Some(Sought { seq, sighting }), Cause::NotSent) => push_sighting(
+            alloc, text, seq, sighting,
+        ),
         _ => text.push_str(plain_reason(cause)),
     }
+}
+
+// Why a cell couldn't arrive; nothing for other numbers.
+fn push_cell(
+    alloc: Global,
+    text: &mut String,
+    numbers: &Numbers,
+    cause: Cause,
+) -> Result<(), AllocError>
+    ensures { OnOk result (string_bytes text.new ≡ string_bytes text.old ++
+        spec.cell_text numbers.now cause) }
+{
+    let Numbers::Cell {
+        cell,
+        at,
+        emitted,
+        fence,
+        moment,
+        delay,
+        tau,
+        last,
+    } = *numbers
+    else {
+        return Ok(());
+    };
+    let coming = Coming {
+        cell,
+        at,
+        emitted,
+        fence,
+        moment,
+        delay,
+        tau,
+        last,
+    };
+    push_cell_cause(alloc, text, &coming, cause)
 }
 
 // A moment before the one that may not be undercut.

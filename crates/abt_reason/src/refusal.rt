@@ -2,7 +2,7 @@
 ghost use Rattle.std.specs.Prelude.{◌≡◌, ◌++◌, OnOk, string_bytes};
 ghost use Rattle.abt_reason.specs.Reasons as spec;
 
-use crate::grounds::Grounds;
+use crate::grounds::Numbers;
 use abt_format::seconds_text;
 use abt_model::Heard;
 use abt_node::{Back, CapacityFault, DropCause, Onward};
@@ -12,20 +12,20 @@ use std::alloc::{AllocError, Global};
 
 pub(crate) fn push_onward(
     text: &mut String,
-    grounds: &Grounds,
+    numbers: &Numbers,
     reply: Onward,
 ) -> Result<(), AllocError>
     ensures { OnOk result (string_bytes text.new ≡ string_bytes text.old ++
-        spec.onward_reason grounds.now reply) }
+        spec.onward_reason numbers.now reply) }
 {
-    let Grounds::AtHop {
+    let Numbers::AtHop {
         seq,
         newest,
         asks,
         holds,
         total,
         capacity,
-    } = *grounds
+    } = *numbers
     else {
         return Ok(());
     };
@@ -49,30 +49,30 @@ fn push_newest(text: &mut String, newest: u32) -> Result<(), AllocError>
     write!(text, ": {newest} is the newest here")
 }
 
-pub(crate) fn push_back(text: &mut String, grounds: &Grounds, reply: Back) -> Result<(), AllocError>
+pub(crate) fn push_back(text: &mut String, numbers: &Numbers, reply: Back) -> Result<(), AllocError>
     ensures { OnOk result (string_bytes text.new ≡ string_bytes text.old ++
-        spec.back_reason grounds.now reply) }
+        spec.back_reason numbers.now reply) }
 {
-    match (*grounds, reply) {
-        (Grounds::Newest { newest }, Back::Drop(DropCause::Stale)) => push_newest(text, newest),
+    match (*numbers, reply) {
+        (Numbers::Newest { newest }, Back::Drop(DropCause::Stale)) => push_newest(text, newest),
         _ => Ok(()),
     }
 }
 
 pub(crate) fn push_heard(
     text: &mut String,
-    grounds: &Grounds,
+    numbers: &Numbers,
     heard: Heard,
 ) -> Result<(), AllocError>
     ensures { OnOk result (string_bytes text.new ≡ string_bytes text.old ++
-        spec.heard_reason grounds.now heard) }
+        spec.heard_reason numbers.now heard) }
 {
-    match (*grounds, heard) {
-        (Grounds::Waits { awaited: Some(seq) }, Heard::Ignored) => write!(
+    match (*numbers, heard) {
+        (Numbers::Waits { awaited: Some(seq) }, Heard::Ignored) => write!(
             text,
             ": waits for {seq}"
         ),
-        (Grounds::Waits { awaited: None }, Heard::Ignored) => text.push_str(": waits for none"),
+        (Numbers::Waits { awaited: None }, Heard::Ignored) => text.push_str(": waits for none"),
         _ => Ok(()),
     }
 }
@@ -136,14 +136,14 @@ pub(crate) fn ask_reason(fault: AskFault) -> &'static str
 
 pub(crate) fn push_capacity(
     text: &mut String,
-    grounds: &Grounds,
+    numbers: &Numbers,
     fault: CapacityFault,
 ) -> Result<(), AllocError>
     ensures { OnOk result (string_bytes text.new ≡ string_bytes text.old ++
-        spec.capacity_reason grounds.now fault) }
+        spec.capacity_reason numbers.now fault) }
 {
-    match (*grounds, fault) {
-        (Grounds::Reserved { total }, CapacityFault::BelowSum) => write!(
+    match (*numbers, fault) {
+        (Numbers::Reserved { total }, CapacityFault::BelowSum) => write!(
             text,
             ": {total} are held there"
         ),

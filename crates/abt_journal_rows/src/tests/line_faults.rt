@@ -87,7 +87,7 @@ fn numbers_are_whole_and_within_their_ranges(rt: HostRuntime) {
         Member::Sent,
     );
     lacks(&rt, alloc, r#"{"port":65536,"place":0}"#, Member::Port);
-    lacks(&rt, alloc, r#"{"port":0}"#, Member::Place);
+    lacks(&rt, alloc, r#"{"port":0,"place":-1}"#, Member::Place);
     lacks(
         &rt,
         alloc,

@@ -246,7 +246,8 @@ fn an_entry_that_settles_a_write_neither_way_is_named(rt: HostRuntime) -> Result
     same(&rt, &plans.len(), &0);
     let expected = "fault: Mismatch\n\
         -:6: {\"source\":0,\"did\":{\"ask\":\"5120\",\"store\":\"works\"},\"outcome\":{\"asked\":{\"vpi\":1,\"vci\":100,\"seq\":2,\"floor\":\"0000\",\"ask\":\"5120\"}}}\n\
-        protocol: {\"asked\":{\"vpi\":1,\"vci\":100,\"seq\":1,\"floor\":\"0000\",\"ask\":\"5120\"}}\n";
+        protocol: {\"asked\":{\"vpi\":1,\"vci\":100,\"seq\":1,\"floor\":\"0000\",\"ask\":\"5120\"}}\n\
+        why: asks for 400 cells/s, keeps 0\n";
     same(&rt, &told.as_slice(), &expected.as_bytes());
     Ok(())
 }

@@ -178,16 +178,8 @@ fn a_later_text_goes_on_where_the_one_before_ended(rt: HostRuntime) -> Result<()
         &second_fault(alloc, &first, &[NET, END])?,
         &Some((2, 1, Cause::SecondNet)),
     );
-    same(
-        &rt,
-        &second_fault(alloc, &first, &[one.as_str()])?,
-        &Some((2, 2, Cause::NoEnd)),
-    );
-    same(
-        &rt,
-        &second_fault(alloc, &first, &[])?,
-        &Some((2, 1, Cause::NoEnd)),
-    );
+    same(&rt, &second_fault(alloc, &first, &[one.as_str()])?, &None);
+    same(&rt, &second_fault(alloc, &first, &[])?, &None);
     same(
         &rt,
         &second_fault(alloc, &first, &[END, END])?,

@@ -78,6 +78,13 @@ fn spot_in(spots: &[Vec<Spot>], place: usize) -> Option<(u64, u64)> {
     }
 }
 
+fn cut_in(cuts: &[Spot], number: usize) -> Option<(u64, u64)> {
+    match cuts.get(number) {
+        Some(spot) => Some((spot.text, spot.line)),
+        None => None,
+    }
+}
+
 #[test]
 fn entries_of_actors_may_be_mixed_over_texts(rt: HostRuntime) -> Result<(), Fail> {
     let alloc = rt.alloc();
@@ -90,16 +97,26 @@ fn entries_of_actors_may_be_mixed_over_texts(rt: HostRuntime) -> Result<(), Fail
 }
 
 #[test]
-fn a_text_begins_with_the_net_and_ends_with_its_end(rt: HostRuntime) -> Result<(), Fail> {
+fn a_text_begins_with_the_net_and_nothing_follows_its_end(rt: HostRuntime) -> Result<(), Fail> {
     let alloc = rt.alloc();
-    wants(alloc, &[], 1, Cause::NoEnd)?;
-    wants(alloc, &[NET], 2, Cause::NoEnd)?;
     wants(alloc, &[START], 1, Cause::NoNet)?;
     wants(alloc, &[END], 1, Cause::NoNet)?;
     wants(alloc, &[NET, NET], 2, Cause::SecondNet)?;
-    wants(alloc, &[NET, END, START], 3, Cause::Behind)?;
-    wants(alloc, &[NET, r#"{"end":true}"#], 2, Cause::Cut)?;
-    wants(alloc, &[NET, START, "{\"source\":0,"], 3, Cause::Cut)
+    wants(alloc, &[NET, END, START], 3, Cause::Behind)
+}
+
+#[test]
+fn a_line_that_is_cut_is_left_out(rt: HostRuntime) -> Result<(), Fail> {
+    let alloc = rt.alloc();
+    let run = run_of(
+        alloc,
+        &[NET, START, r#"{"end":true}"#],
+        &[STEP, "{\"source\":0,"],
+    )?;
+    assert_eq!(rt; cut_in(run.cuts.as_slice(), 0), Some((1, 3)));
+    assert_eq!(rt; cut_in(run.cuts.as_slice(), 1), Some((2, 2)));
+    assert_eq!(rt; cut_in(run.cuts.as_slice(), 2), None);
+    Ok(())
 }
 
 #[test]

@@ -1,4 +1,5 @@
 -- The texts are read, and what they tell is judged.
+use Rattle.std.proofs.Common.{◌∙◌}
 use Rattle.std.proofs.KnownBytes.{Keeps-refl}
 use Rattle.abt_audit.proofs.Judged.{ends_reading, ends_judging, ends_writing, shown_as}
 use Rattle.abt_audit.proofs.performing.audit_texts.Goals as goal
@@ -12,8 +13,8 @@ returns-in-Err-judge_book-clause-err g c =
 
 pub returns-in-Ok-put-clause-ok : goal.returns-in-Ok-put-clause-ok
 returns-in-Ok-put-clause-ok g c =
-    shown_as _ c.in-Ok.book c.in-Ok-judge_book.run' _ _ c.in-Ok.ensures.ok c.in-Ok-judge_book.ensures.ok c.in-Ok-put.ensures.ok
+    shown_as _ c.in-Ok.book c.in-Ok-judge_book.judged.0 _ _ _ c.in-Ok.ensures.ok c.in-Ok-judge_book.ensures.ok.0 (c.as_slice.ensures.value ∙ c.in-Ok-judge_book.ensures.ok.1) c.in-Ok-put.ensures.ok
 
 pub returns-in-Err-put-clause-err : goal.returns-in-Err-put-clause-err
 returns-in-Err-put-clause-err g c =
-    ends_writing c.args.names.now _ c.in-Ok.book c.in-Ok-judge_book.run' _ _ c.in-Ok.ensures.ok c.in-Ok-judge_book.ensures.ok c.in-Err-put.ensures.err
+    ends_writing c.args.names.now _ c.in-Ok.book c.in-Ok-judge_book.judged.0 _ _ _ c.in-Ok.ensures.ok c.in-Ok-judge_book.ensures.ok.0 (c.as_slice.ensures.value ∙ c.in-Ok-judge_book.ensures.ok.1) c.in-Err-put.ensures.err

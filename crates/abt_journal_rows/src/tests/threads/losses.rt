@@ -64,8 +64,8 @@ fn one_link_worker_loses_and_repeats(rt: HostRuntime) -> Result<(), Fail> {
 }
 
 #[test]
-fn two_link_workers_lose_and_repeat(rt: HostRuntime) -> Result<(), Fail> {
-    are_safe(&rt, rt.alloc(), 2)
+fn four_link_workers_lose_and_repeat(rt: HostRuntime) -> Result<(), Fail> {
+    are_safe(&rt, rt.alloc(), 4)
 }
 
 #[test]

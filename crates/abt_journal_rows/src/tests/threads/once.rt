@@ -1,4 +1,4 @@
-//! That there is one run of a scenario, of which all is that is handed out.
+//! A scenario is run once, and all that is handed out is of that run.
 use super::{ALL, CROSSING, Narrow};
 use abt_links::Gate;
 use abt_perform_threads::{Shown, Unrun, judge, show_run};

@@ -1,4 +1,4 @@
-//! That parcels are neither lost nor repeated, which the three lines don't show.
+//! Parcels are neither lost nor repeated, which the three lines don't show.
 use super::on_one_port;
 use abt_links::OpenGate;
 use abt_perform_threads::Unrun;

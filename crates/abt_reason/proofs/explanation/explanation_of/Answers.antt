@@ -14,6 +14,7 @@ use Rattle.abt_world.specs.Standing.{StandsFor}
 use Rattle.abt_reason.specs.Ending.{ending_text}
 use Rattle.abt_reason.specs.Explanation.{told_text, event_line, event_lines, IsExplanation}
 use Rattle.abt_reason.specs.Grounds.{grounds_of}
+use Rattle.abt_reason.specs.Sightings.{AreSightings}
 use Rattle.abt_reason.proofs.explanation.explanation_of.Goals as goal
 
 -- a line goes from the front of what is left to the end of the text
@@ -41,13 +42,14 @@ loop-index-preserved c =
     let outcome = c.in_ok-outcome.outcome in
     let line : told_text (i + 1) c.place_at.result e c.grounds_of-grounds.result outcome ≡ event_line net past places i e =
     ap (λ p. told_text (i + 1) p e c.grounds_of-grounds.result outcome) c.place_at.ensures
-    ∙ ap (λ g. told_text (i + 1) (slice_get places i) e g outcome) (c.grounds_of-grounds.ensures events stands.0)
+    ∙ ap (λ g. told_text (i + 1) (slice_get places i) e g outcome) (c.grounds_of-grounds.ensures events stands.0 stands.1)
     ∙ ap (told_text (i + 1) (slice_get places i) e (grounds_of net past e)) step.0 in
     let past_is : facts_after net (take (i + 1) all) ≡ after_event net past e = ap (facts_after net) more ∙ facts_from_push net [] events e in
     let left = next_lines net past places i all e low c.index-events-index.is in
-    let grown = text_grows _ _ _ _ _ _ (c.in_ok-push_told.ensures ∙ ap (λ (l : List ℕ). string_bytes c.loop-index.text ++ l) line) left stands.2 in (
+    let grown = text_grows _ _ _ _ _ _ (c.in_ok-push_told.ensures ∙ ap (λ (l : List ℕ). string_bytes c.loop-index.text ++ l) line) left stands.3 in (
       subst (λ es. StandsFor net es c.step.new.self) (sym more) step.1,
-      c.in_ok-push.ensures.ok ∙ ap (λ os. os ++ outcome ∷ []) stands.1 ∙ ap (λ (o : Outcome). outcomes_of net events ++ o ∷ []) step.0
+      subst (λ (p : Past). AreSightings net p c.note.new.self) (sym past_is) (c.in_ok-note.ensures past stands.1 step.0),
+      c.in_ok-push.ensures.ok ∙ ap (λ os. os ++ outcome ∷ []) stands.2 ∙ ap (λ (o : Outcome). outcomes_of net events ++ o ∷ []) step.0
           ∙ sym (outcomes_from_push net [] events e) ∙ ap (outcomes_of net) (sym more),
       ap (λ (v : Past). string_bytes c.push_told.new.text ++ event_lines net v places (i + 1) (drop (i + 1) all)) past_is ∙ grown,
     )
@@ -72,9 +74,9 @@ returns c =
     let said = c.loop-index.invariant in
     let trace = c.in_ok-trace.trace in
     let lines : string_bytes c.loop-index.text ≡ event_lines net [] places 0 all =
-    sym (append-nil _) ∙ ap (λ (l : List Event). string_bytes c.loop-index.text ++ event_lines net (facts_after net (take i all)) places i l) (sym none) ∙ said.2 in
+    sym (append-nil _) ∙ ap (λ (l : List Event). string_bytes c.loop-index.text ++ event_lines net (facts_after net (take i all)) places i l) (sym none) ∙ said.3 in
     record {
       trace = trace;
-      is_trace = subst (λ es. IsTrace net es trace) whole (c.in_ok-trace.ensures.trace net (take i all) said.0 said.1);
+      is_trace = subst (λ es. IsTrace net es trace) whole (c.in_ok-trace.ensures.trace net (take i all) said.0 said.2);
       is = c.in_ok-push_ending.ensures ∙ ap (λ (l : List ℕ). l ++ ending_text net.conns trace) lines;
     }

@@ -1,0 +1,120 @@
+-- Why the protocol answers as it does at an entry that mismatches: the numbers by which it decides, and the line that made them so
+-- (docs/JOURNALS.md, "Audits").
+use Rattle.std.specs.Prelude.{◌≡◌, ◌≢◌, ℕ, ◌+◌, ◌-◌, ◌<◌, List, [], ◌∷◌, length, take, Option, None, Some, Err, MatchOption, option_and_then, option_map, unwrap_or, slice_get, codes, String}
+use Rattle.std.specs.declared.alloc.Global.{Global}
+use Rattle.abt_text.specs.Text.{Text, ◌⋅◌, decimal, newline}
+use Rattle.abt_cell.specs.Channel.{Channel}
+use Rattle.abt_node.specs.Table.{Table, connection_at, held_at, sum_of}
+use Rattle.abt_model.specs.PortTable.{port_table}
+use Rattle.abt_model.specs.declared.outcome.Outcome.{Outcome}
+use Rattle.abt_model.specs.declared.journal.SourceJournal.{SourceJournal}
+use Rattle.abt_net.specs.declared.conn.Conn.{Conn}
+use Rattle.abt_net.specs.Topology.{conn_at}
+use Rattle.abt_journal.specs.Replay.{replay}
+use Rattle.abt_journal.specs.declared.entry.Entry.{Entry}
+use Rattle.abt_journal.specs.declared.input.PortInput.{PortInput}
+use Rattle.abt_journal.specs.declared.input.PortInput.TheVariants.{Request, Answer, Arrive, Capacity}
+use Rattle.abt_journal.specs.declared.input.PortReply.{PortReply}
+use Rattle.abt_journal.specs.declared.input.PortReply.TheVariants.{Requested, Answered, Capped}
+use Rattle.abt_journal_text.specs.Books.{lists_of}
+use Rattle.abt_journal_text.specs.declared.run.Run.{Run}
+use Rattle.abt_journal_text.specs.declared.spot.Spot.{Spot}
+use Rattle.abt_reason.specs.Reasons.{back_reason, capacity_reason, onward_reason, reason_text}
+use Rattle.abt_reason.specs.declared.grounds.Numbers.{Numbers}
+use Rattle.abt_reason.specs.declared.grounds.Numbers.TheVariants.{Nothing, AtHop, Newest, Reserved}
+use Rattle.abt_weave.specs.declared.actor.Actor.{Actor}
+use Rattle.abt_weave.specs.declared.actor.Actor.TheVariants.{Source, Port}
+use Rattle.abt_weave.specs.declared.fault.WeaveFault.{WeaveFault}
+use Rattle.abt_weave.specs.declared.fault.WeaveFault.TheVariants.{Mismatch, NoOrder, Memory}
+use Rattle.abt_audit.specs.Names.{name_in}
+use Rattle.abt_audit.specs.Protocol.{fault_lines, port_answer, source_answer}
+use Rattle.abt_audit.specs.Stuck.{item_at}
+
+-- the newest number that a port decided for a channel, and the rate that it holds for it; 0 if it doesn't know the channel
+abbrev pub newest_at : Table → Channel → ℕ
+newest_at table vc = unwrap_or (option_map (λ c. c.reservation.newest) (connection_at table vc)) 0
+
+abbrev pub holds_at : Table → Channel → ℕ
+holds_at table vc = unwrap_or (option_map held_at (connection_at table vc)) 0
+
+-- the numbers by which a port with this table decides an input
+abbrev pub numbers_at : Table → PortInput → Numbers
+numbers_at table (Request request) =
+    AtHop request.seq (newest_at table request.vc) request.ask (holds_at table request.vc) (sum_of table) table.capacity
+numbers_at table (Answer answer) = Newest (newest_at table answer.terms.vc)
+numbers_at table (Arrive vc at) = Nothing
+numbers_at table (Capacity capacity) = Reserved (sum_of table)
+
+-- the numbers for an input after so many entries of a port
+abbrev pub numbers_after : Table → List Entry → PortInput → (count : ℕ) → Numbers
+numbers_after opening entries input count = numbers_at (replay opening (take count entries)) input
+
+-- One of the first entries changed the numbers for an input, and none behind it did; or none of them did.
+abbrev pub IsLastWithin : Table → List Entry → PortInput → (count : ℕ) → Option ℕ → Type 0
+IsLastWithin opening entries input count last = MatchOption last
+    ((k : ℕ) → k < count → numbers_after opening entries input (k + 1) ≡ numbers_after opening entries input k)
+    (λ place. (place < count)
+    × (numbers_after opening entries input (place + 1) ≢ numbers_after opening entries input place)
+    × ((k : ℕ) → place < k → k < count → numbers_after opening entries input (k + 1) ≡ numbers_after opening entries input k))
+
+abbrev pub IsLastChange : Table → List Entry → PortInput → Option ℕ → Type 0
+IsLastChange opening entries input last = IsLastWithin opening entries input (length entries) last
+
+-- the reason of a port's reply, by its numbers
+abbrev pub port_reason : Numbers → PortReply → Text
+port_reason numbers (Requested reply) = onward_reason numbers reply
+port_reason numbers (Answered reply) = back_reason numbers reply
+port_reason numbers (Capped (Err fault)) = capacity_reason numbers fault
+port_reason numbers reply = []
+
+-- that of a source's outcome, as far as no number decides it
+abbrev pub source_reason : Option Outcome → Text
+source_reason None = []
+source_reason (Some outcome) = reason_text (record { numbers = Nothing; sought = None }) outcome
+
+-- the line from which on something is so, if there is one
+abbrev pub since_text : List (String Global) → Option Spot → Text
+since_text names None = []
+since_text names (Some spot) = codes " since " ⋅ name_in (slice_get names (spot.text - 1)) ⋅ codes ":" ⋅ decimal spot.line
+
+-- the line of a reason; none if there is no reason
+abbrev pub why_line : (reason since : Text) → Text
+why_line [] since = []
+why_line (octet ∷ more) since = codes "why" ⋅ (octet ∷ more) ⋅ since ⋅ newline
+
+abbrev pub reason_by : Numbers → Option PortReply → Text
+reason_by numbers None = []
+reason_by numbers (Some reply) = port_reason numbers reply
+
+-- The line tells why the protocol replies as it does to the entry of a port, and since which line its numbers are these.
+pub record IsPortWhy (names : List (String Global)) (run : Run) (p place : ℕ) (entries : List Entry) (entry : Entry) (line : Text) : Type 0 where
+  pub last : Option ℕ
+  pub is_last : IsLastChange (port_table run.net [] p) (take place entries) entry.input last
+  pub is : line ≡ why_line (reason_by (numbers_at (replay (port_table run.net [] p) (take place entries)) entry.input) (port_answer run.net p entries place))
+      (since_text names (option_and_then (item_at (lists_of run.port_spots) p) last))
+
+abbrev pub IsWhyAt : List (String Global) → Run → (p place : ℕ) → Option (List Entry) → Text → Type 0
+IsWhyAt names run p place None line = line ≡ []
+IsWhyAt names run p place (Some entries) line =
+    MatchOption (slice_get entries place) (line ≡ []) (λ entry. IsPortWhy names run p place entries entry line)
+
+abbrev pub source_why : (place : ℕ) → Option Conn → Option SourceJournal → Text
+source_why place (Some conn) (Some journal) = why_line (source_reason (source_answer conn.vc journal.entries place)) []
+source_why place conn journal = []
+
+-- The line tells why the protocol answers as it does at the entry of an actor.
+abbrev pub IsWhy : List (String Global) → Run → Actor → (place : ℕ) → Text → Type 0
+IsWhy names run (Port p) place line = IsWhyAt names run p place (slice_get run.journals p) line
+IsWhy names run (Source c) place line = line ≡ source_why place (conn_at run.net c) (slice_get run.sources.items c)
+
+-- Of a mismatch it is told why; of entries in no order nothing.
+abbrev pub Explains : List (String Global) → Run → WeaveFault → Text → Type 0
+Explains names run (Mismatch actor place) line = IsWhy names run actor place line
+Explains names run (NoOrder stuck) line = line ≡ []
+Explains names run Memory line = line ≡ []
+
+-- The lines of the entries that a fault names, the protocol's answer, and why it is that.
+pub record IsFaultText (names : List (String Global)) (run : Run) (why : WeaveFault) (text : Text) : Type 0 where
+  pub line : Text
+  pub explains : Explains names run why line
+  pub are : text ≡ fault_lines names run why ⋅ line
