@@ -1,5 +1,8 @@
 pub mod Check
 pub mod CheckText
+pub mod Findings
+pub mod Rates
+pub mod Unable
+pub mod Seen
 pub mod Performed
 pub mod CheckObjects
-pub mod Plans

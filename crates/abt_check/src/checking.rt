@@ -60,6 +60,7 @@ fn look(alloc: Global, text: &str, scenario: Option<&Scenario>) -> Result<Checke
     findings.unread()?;
     if let Some(scenario) = scenario {
         findings.runs(scenario)?;
+        findings.events(scenario)?;
     }
     Ok(findings.found)
 }

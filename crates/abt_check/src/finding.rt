@@ -1,4 +1,7 @@
 //! What is found in a text.
+ghost use Rattle.std.specs.Prelude.{◌≡◌, ◌↔◌, [], OnOk, IsTrue};
+ghost use Rattle.abt_check.specs.Findings.{IsKept};
+
 use abt_places::{Entry, Layout, Section};
 use abt_scenario::ScenarioFault;
 use std::alloc::{AllocError, Global};
@@ -43,7 +46,11 @@ impl Findings<'_> {
         fault: ScenarioFault,
         at: Option<usize>,
         text: String,
-    ) -> Result<(), AllocError> {
+    ) -> Result<(), AllocError>
+        ensures kept { OnOk result (IsKept self.old.found.faults.items
+            (record { fault = fault; at = at; text = text }) self.new.found.faults.items) }
+        ensures same { self.new.found.warnings ≡ self.old.found.warnings }
+    {
         if self.found.faults.len() < FOUND_MAX {
             self.found.faults.push(Found { fault, at, text })?;
         }
@@ -51,7 +58,11 @@ impl Findings<'_> {
     }
 
     // One warning more.
-    pub(crate) fn warning(&mut self, at: Option<usize>, text: String) -> Result<(), AllocError> {
+    pub(crate) fn warning(&mut self, at: Option<usize>, text: String) -> Result<(), AllocError>
+        ensures kept { OnOk result (IsKept self.old.found.warnings.items
+            (record { at = at; text = text }) self.new.found.warnings.items) }
+        ensures same { self.new.found.faults ≡ self.old.found.faults }
+    {
         if self.found.warnings.len() < FOUND_MAX {
             self.found.warnings.push(Warning { at, text })?;
         }
@@ -59,7 +70,9 @@ impl Findings<'_> {
     }
 
     // Whether no fault was found.
-    pub(crate) fn is_clean(&self) -> bool {
+    pub(crate) fn is_clean(&self) -> bool
+        ensures { IsTrue result ↔ (self.now.found.faults.items ≡ []) }
+    {
         self.found.faults.is_empty()
     }
 }

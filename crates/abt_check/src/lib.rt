@@ -3,19 +3,20 @@
 
 mod checking;
 mod doubts;
+mod events;
 mod finding;
 mod keys;
 mod near;
 mod net;
 mod objects;
 mod performing;
-mod plan;
+mod rates;
 mod telling;
 mod texts;
+mod unable;
 mod words;
 
 pub use checking::check;
 pub use finding::{Checked, FOUND_MAX, Found, Warning};
 pub use performing::perform_check;
-pub use plan::{CheckPlan, add_commands, plan_of};
 pub use telling::{Answer, answer_of};

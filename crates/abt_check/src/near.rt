@@ -1,4 +1,7 @@
 //! Words that were meant, and words as they are shown.
+ghost use Rattle.std.specs.Prelude.{◌↔◌, IsTrue};
+ghost use Rattle.abt_check.specs.Findings.{IsNearer};
+
 use std::alloc::{AllocError, Global};
 use strsim::levenshtein;
 
@@ -18,15 +21,68 @@ pub(crate) fn near(
         return Ok(None);
     }
     let mut nearest = None;
-    let mut least = 3;
+    let mut least = usize::MAX;
     for other in known {
         let distance = levenshtein(alloc, word, other)?;
-        if distance < least && distance.saturating_mul(2) <= word.len().max(other.len()) {
+        if is_nearer(distance, least, word.len().max(other.len())) {
             least = distance;
             nearest = Some(*other);
         }
     }
     Ok(nearest)
+}
+
+// Whether a word was meant that is so many letters away, where the nearest before it is `least` away and the longer word has `longest`
+// octets.
+fn is_nearer(distance: usize, least: usize, longest: usize) -> bool
+    ensures { IsTrue result ↔ IsNearer distance least longest }
+{
+    distance < least && distance <= 2 && distance * 2 < longest
+}
+
+// The words among some that another begins, as `told` begins `told-yes`, or else the one nearest to it, each in marks; none if none is near.
+pub(crate) fn meant_among(
+    alloc: Global,
+    word: &str,
+    known: &[&'static str],
+) -> Result<Option<String>, AllocError> {
+    let mut begun = Vec::new(alloc);
+    for other in known {
+        if is_begun(word, other) {
+            begun.push(*other)?;
+        }
+    }
+    if !begun.is_empty() {
+        return Ok(Some(listed(alloc, begun.as_slice())?));
+    }
+    match near(alloc, word, known)? {
+        Some(word) => Ok(Some(format!(in alloc; "`{word}`")?)),
+        None => Ok(None),
+    }
+}
+
+// Whether a word is the part of another before its hyphen.
+fn is_begun(word: &str, other: &str) -> bool {
+    match other.split_once('-') {
+        Some((part, _)) => part == word,
+        None => false,
+    }
+}
+
+// Words in marks, the last behind `or`.
+pub(crate) fn listed(alloc: Global, words: &[&'static str]) -> Result<String, AllocError> {
+    let mut text = String::new(alloc);
+    for (index, word) in words.iter().enumerate() {
+        let before = if index == 0 {
+            ""
+        } else if index + 1 == words.len() {
+            " or "
+        } else {
+            ", "
+        };
+        write!(text, "{before}`{word}`")?;
+    }
+    Ok(text)
 }
 
 // The words that ask for such a word.

@@ -1,6 +1,10 @@
 //! Rules of nets that ports and connections break.
+ghost use Rattle.std.specs.Prelude.{◌≡◌, ◌↔◌, IsTrue, IsSome, IfSome};
+ghost use Rattle.abt_check.specs.Findings.{IsPathLength, NameChannel};
+
 use crate::finding::{Findings, at_entry, at_item, entry_in};
 use crate::keys::whole_in;
+use abt_cell::Vc;
 use abt_net::{DELAY_MAX, HOPS_MAX, NetFault, PORTS_MAX};
 use abt_rate::{CAPACITY_MAX, CONNECTIONS_MAX, TAU_MAX};
 use abt_scenario::ScenarioFault;
@@ -50,7 +54,7 @@ impl Findings<'_> {
     }
 
     fn path_length(&mut self, index: usize, hops: usize) -> Result<(), AllocError> {
-        if hops > 0 && hops <= HOPS_MAX {
+        if is_path_length(hops) {
             return Ok(());
         }
         let alloc = self.alloc;
@@ -96,14 +100,14 @@ impl Findings<'_> {
 
     fn vc_repeats(&mut self, conns: &[Value]) -> Result<(), AllocError> {
         let alloc = self.alloc;
-        let mut first: BTreeMap<u64, u64> = BTreeMap::new(alloc);
+        let mut first: BTreeMap<Vc, u64> = BTreeMap::new(alloc);
         for (index, conn) in conns.iter().enumerate() {
-            let (Some(vpi), Some(vci)) = (number_at(conn, "vpi"), number_at(conn, "vci")) else {
+            let Some(vc) = channel_at(conn) else {
                 continue;
             };
-            let channel = vpi.saturating_mul(65536).saturating_add(vci);
-            match first.get(&channel).copied() {
+            match first.get(&vc).copied() {
                 Some(earlier) => {
+                    let (vpi, vci) = (vc.vpi(), vc.vci());
                     let text = format!(in alloc;
                         "connection {index} has the channel {vpi}/{vci} of connection {earlier}"
                     )?;
@@ -117,7 +121,7 @@ impl Findings<'_> {
                     )?;
                 }
                 None => {
-                    first.insert(channel, index as u64)?;
+                    first.insert(vc, index as u64)?;
                 }
             }
         }
@@ -187,6 +191,13 @@ impl Findings<'_> {
     }
 }
 
+// Whether a path may have so many hops.
+fn is_path_length(hops: usize) -> bool
+    ensures { IsTrue result ↔ IsPathLength hops }
+{
+    hops > 0 && hops <= HOPS_MAX
+}
+
 // The items of an array at a key, none if there is no array.
 pub(crate) fn items_at<'a>(table: &'a Table, name: &str) -> &'a [Value] {
     match table.get(name) {
@@ -213,4 +224,19 @@ fn path_of(conn: &Value) -> &[Value] {
 // The whole number at a key of a connection.
 fn number_at(conn: &Value, name: &str) -> Option<u64> {
     whole_in(conn.as_table()?.get(name)?)
+}
+
+// The channel of a connection.
+fn channel_at(conn: &Value) -> Option<Vc> {
+    channel_of(number_at(conn, "vpi")?, number_at(conn, "vci")?)
+}
+
+// The channel that two numbers name, the virtual path's first.
+fn channel_of(vpi: u64, vci: u64) -> Option<Vc>
+    ensures some { IsSome result ↔ NameChannel vpi vci }
+    ensures value { IfSome result (λ vc. vc ≡ record { vpi = vpi; vci = vci }) }
+{
+    let vpi = u16::try_from(vpi).ok()?;
+    let vci = u16::try_from(vci).ok()?;
+    Vc::new(vpi, vci)
 }

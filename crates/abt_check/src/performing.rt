@@ -6,7 +6,6 @@ ghost use Rattle.abt_check.specs.Performed.{Answers, IsSaidOf, IsFaulty, Leaves}
 
 use crate::checking::check;
 use crate::objects::push_objects;
-use crate::plan::CheckPlan;
 use crate::telling::{Answer, answer_of, has_some};
 use abt_perform::{Fault, tell_fault};
 use abt_scenario::EngineFault;
@@ -94,11 +93,11 @@ fn objects_of(alloc: Global, source: &str) -> Result<Said, AllocError>
     Ok(Said { octets, is_faulty })
 }
 
-/// Carries a plan out, and gives the exit status: 0 if the whole check went out to `writer` and tells no fault, 1 if it tells one, or
-/// if a line on `errors` tells why there is no check. A line that can't be written there changes no status.
+/// Checks the scenario that a reader has left, in lines or as JSON, and gives the exit status: 0 if the whole check went out to `writer`
+/// and tells no fault, 1 if it tells one, or if a line on `errors` tells why there is no check. A line that can't be written there changes no status.
 pub fn perform_check<R: Read, W: Write, E: Write>(
     alloc: Global,
-    plan: &CheckPlan,
+    as_json: bool,
     reader: &mut R,
     writer: &mut W,
     errors: &mut E,
@@ -106,14 +105,14 @@ pub fn perform_check<R: Read, W: Write, E: Write>(
     ensures status { (result ≡ 0) ⊎ (result ≡ 1) }
     ensures reads { ConsumesAtMost (R.remaining reader.old) (R.remaining reader.new) (text_max + 1) }
     ensures ok { result ≡ 0 →
-        Answers plan.now.as_json false (R.remaining reader.old) (W.contents writer.old)
+        Answers as_json false (R.remaining reader.old) (W.contents writer.old)
         (W.contents writer.new) }
     ensures quiet { result ≡ 0 → Keeps (E.contents errors.old) (E.contents errors.new) }
     ensures err { result ≡ 1 →
-        IsFaulty plan.now.as_json (R.remaining reader.old) (W.contents writer.old) (W.contents writer.new)
+        IsFaulty as_json (R.remaining reader.old) (W.contents writer.old) (W.contents writer.new)
         (E.contents errors.old) (E.contents errors.new) }
 {
-    match check_from(alloc, plan.as_json, reader, writer) {
+    match check_from(alloc, as_json, reader, writer) {
         Ok(false) => 0,
         Ok(true) => 1,
         Err(fault) => {

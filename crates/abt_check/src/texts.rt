@@ -1,8 +1,10 @@
 //! Texts that say no event, no command and no operation.
 use crate::finding::{Findings, at_item, entry_in};
 use crate::net::items_at;
+use crate::rates::code_doubt;
 use crate::words::{Kind, misfit};
 use abt_format::{command_of, event_of, operation_of};
+use abt_model::{Command, Event};
 use abt_scenario::ScenarioFault;
 use std::alloc::AllocError;
 use toml::{Table, Value};
@@ -25,14 +27,15 @@ impl Findings<'_> {
             let Some(text) = value.as_str() else {
                 continue;
             };
-            if event_of(text).is_none() {
-                let why = misfit(self.alloc, Kind::Event, text)?;
-                let number = index as u64 + 1;
-                self.fault(
-                    ScenarioFault::EventText { number },
-                    at_item(entry, index),
-                    why,
-                )?;
+            let at = at_item(entry, index);
+            match event_of(text) {
+                Some(Event::Ask { .. }) => self.code(text.split(' ').nth(2), at)?,
+                Some(_) => {}
+                None => {
+                    let why = misfit(self.alloc, Kind::Event, text)?;
+                    let number = index as u64 + 1;
+                    self.fault(ScenarioFault::EventText { number }, at, why)?;
+                }
             }
         }
         Ok(())
@@ -44,16 +47,32 @@ impl Findings<'_> {
             let Some(text) = value.as_str() else {
                 continue;
             };
-            if command_of(text).is_none() {
-                let why = misfit(self.alloc, Kind::Command, text)?;
-                let fault = ScenarioFault::ScriptText {
-                    connection: conn as u64,
-                    number: index as u64 + 1,
-                };
-                self.fault(fault, at_item(entry, index), why)?;
+            let at = at_item(entry, index);
+            match command_of(text) {
+                Some(Command::Ask { .. }) => self.code(text.split(' ').nth(1), at)?,
+                Some(_) => {}
+                None => {
+                    let why = misfit(self.alloc, Kind::Command, text)?;
+                    let fault = ScenarioFault::ScriptText {
+                        connection: conn as u64,
+                        number: index as u64 + 1,
+                    };
+                    self.fault(fault, at, why)?;
+                }
             }
         }
         Ok(())
+    }
+
+    // A code that is asked for, in a text at a place.
+    fn code(&mut self, word: Option<&str>, at: Option<usize>) -> Result<(), AllocError> {
+        let Some(word) = word else {
+            return Ok(());
+        };
+        match code_doubt(self.alloc, word)? {
+            Some(text) => self.warning(at, text),
+            None => Ok(()),
+        }
     }
 
     fn operation_texts(&mut self, values: &[Value]) -> Result<(), AllocError> {

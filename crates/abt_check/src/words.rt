@@ -1,5 +1,6 @@
 //! Why a text says no event, no command or no operation.
-use crate::near::{meant, near, shown};
+use crate::near::{listed, meant_among, shown};
+use crate::rates::code_meant;
 use abt_format::rate_of;
 use abt_text::{u16_of, u32_of, u64_of, words_of};
 use std::alloc::{AllocError, Global};
@@ -10,6 +11,25 @@ pub(crate) enum Kind {
     Event,
     Command,
     Operation,
+}
+
+impl Kind {
+    // The words with which texts of the kind begin.
+    fn words(self) -> &'static [&'static str] {
+        match self {
+            Kind::Event => &EVENTS,
+            Kind::Command => &COMMANDS,
+            Kind::Operation => &OPERATIONS,
+        }
+    }
+
+    fn name(self) -> &'static str {
+        match self {
+            Kind::Event => "event",
+            Kind::Command => "command",
+            Kind::Operation => "operation",
+        }
+    }
 }
 
 // The kind of a word behind the first one. No word comes where `End` stands.
@@ -74,16 +94,19 @@ fn too_many(alloc: Global, kind: Kind, text: &str) -> Result<String, AllocError>
     }
 }
 
-// The first word is none of its kind.
+// The first word is none of its kind: those that were maybe meant, or else all that may stand there.
 fn no_such(alloc: Global, kind: Kind, word: &str) -> Result<String, AllocError> {
-    let (what, meant_word) = match kind {
-        Kind::Event => ("event", near(alloc, word, &EVENTS)?),
-        Kind::Command => ("command", near(alloc, word, &COMMANDS)?),
-        Kind::Operation => ("operation", near(alloc, word, &OPERATIONS)?),
+    let what = kind.name();
+    let known = kind.words();
+    let hint = match meant_among(alloc, word, known)? {
+        Some(meant) => format!(in alloc; "did you mean {meant}?")?,
+        None => {
+            let known = listed(alloc, known)?;
+            format!(in alloc; "one of {known} is wanted")?
+        }
     };
-    let meant = meant(alloc, meant_word)?;
     let word = shown(alloc, word)?;
-    format!(in alloc; "no {what} begins with `{word}`{meant}")
+    format!(in alloc; "no {what} begins with `{word}`; {hint}")
 }
 
 // The first word that doesn't fit, or their number.
@@ -100,8 +123,12 @@ fn slot_misfit(
         if !fits(*slot, word) {
             let usage = form.usage;
             let wanted = wanted_at(*slot);
+            let code = match slot {
+                Slot::Code => code_meant(alloc, word)?,
+                _ => String::new(alloc),
+            };
             let word = shown(alloc, word)?;
-            return format!(in alloc; "`{word}` doesn't fit in `{usage}`: {wanted} is wanted");
+            return format!(in alloc; "`{word}` doesn't fit in `{usage}`: {wanted} is wanted{code}");
         }
     }
     usage_of(alloc, text, form)

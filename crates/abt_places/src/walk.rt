@@ -1,4 +1,7 @@
 //! The walk along a TOML text that notes where its keys stand.
+ghost use Rattle.std.specs.Prelude.{◌≡◌};
+ghost use Rattle.abt_places.specs.Marks as spec;
+
 use crate::layout::{Entry, Layout, Section};
 use std::alloc::{AllocError, Global};
 use toml_parser::text::{byte_at, first, skip_blank, skip_ws};
@@ -272,7 +275,10 @@ fn after_word(start: &str) -> &str {
     ""
 }
 
-fn is_mark(octet: u8) -> bool {
+// Whether a word ends at an octet.
+fn is_mark(octet: u8) -> bool
+    ensures { result ≡ spec.is_mark octet }
+{
     matches!(
         octet,
         b',' | b'=' | b'[' | b']' | b'{' | b'}' | b'"' | b'\'' | b'#' | b'\n'

@@ -16,7 +16,7 @@ pub with_rest-more : {A : Type 0} (done : List A) (x : A) (rest : Read (List A))
 with_rest-more done x (Ok rest) = ap Ok (sym (append_assoc done (x ∷ []) rest))
 with_rest-more done x (Err fault) = refl
 
--- the same of connections and their scripts
+-- connections and their scripts, read one after the other
 abbrev pub with_others : List Conn → List (List Text) → Read ConnectionsRead → Read ConnectionsRead
 with_others conns scripts (Ok rest) = Ok (record { conns = conns ++ rest.conns; scripts = scripts ++ rest.scripts })
 with_others conns scripts (Err fault) = Err fault

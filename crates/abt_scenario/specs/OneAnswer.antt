@@ -1,4 +1,4 @@
--- That a text says one thing: one scenario or one first fault, and if it says a scenario, one report.
+-- A text says one thing: one scenario or one first fault, and if it says a scenario, one report.
 use Rattle.std.specs.Prelude.{◌≡◌, Some}
 use Rattle.abt_text.specs.Text.{Text}
 use Rattle.abt_scenario.specs.declared.scenario.Scenario.{Scenario}

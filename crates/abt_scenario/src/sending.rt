@@ -16,7 +16,7 @@ use std::rt::Files;
 /// Writes a net and events as the text of a scenario, [`sample_text`]. Nothing is written before the whole text is made and read back.
 ///
 /// # Errors
-/// Those of [`sample_text`], with which nothing went out; [`EventsFault::Write`] if the writer failed behind a part of the text.
+/// The errors of [`sample_text`], with which nothing went out; [`EventsFault::Write`] if the writer failed behind a part of the text.
 pub fn write_events<W: Write>(
     alloc: Global,
     net: &Net,
@@ -39,7 +39,7 @@ pub fn write_events<W: Write>(
 /// is made, or the one of that name emptied, once there is such a text. A fault is told by [`EventsFault::line`].
 ///
 /// # Errors
-/// Those of [`sample_text`], with which the file is left as it was; [`EventsFault::Open`] if the file can't be made, or
+/// The errors of [`sample_text`], with which the file is left as it was; [`EventsFault::Open`] if the file can't be made, or
 /// [`EventsFault::Memory`] if memory for that is refused; [`EventsFault::Write`] if writing failed behind a part of the text.
 pub fn save_events<T: Files + AllocGlobal>(
     rt: &T,

@@ -93,7 +93,7 @@ fn push_events(text: &mut String, rows: &[(&str, &str)]) -> Result<(), AllocErro
     Ok(())
 }
 
-// The answers of events of which the first has this number.
+// Adds the answers of events, numbered from this number on.
 fn push_answers(
     alloc: Global,
     report: &mut String,

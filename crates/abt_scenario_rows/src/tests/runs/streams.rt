@@ -101,7 +101,7 @@ fn of_a_writer_with_room_for_ten_octets_ten_are_taken(rt: HostRuntime) {
     assert_eq!(rt; out.taken(), b"events 7\n1".as_slice());
 }
 
-/// A writer that takes at most seven octets a call, and none behind so many calls.
+/// A writer that takes at most seven octets a call, and nothing after so many calls.
 #[derive(Drop)]
 struct Stuck {
     calls: usize,
