@@ -1,4 +1,3 @@
 pub mod Answers
 pub mod Told
 pub mod Explained
-pub mod Plans

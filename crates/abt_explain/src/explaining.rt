@@ -6,7 +6,6 @@ ghost use Rattle.abt_text.specs.Streams.{ConsumesAtMost, text_max};
 ghost use Rattle.abt_scenario.specs.Engine.{Explains};
 ghost use Rattle.abt_explain.specs.Explained.{IsExplanationOf, IsExplained, IsRefused, Leaves};
 
-use crate::plan::ExplainPlan;
 use abt_perform::{Fault, tell_fault};
 use abt_places::{Placed, read_placed};
 use abt_reason::explanation_of;
@@ -64,11 +63,10 @@ fn explanation_in(alloc: Global, placed: &Placed) -> Result<String, AllocError>
     )
 }
 
-/// Carries a plan out, and gives the exit status: 0 if the whole explanation went out to `writer`, and 1 if a line on `errors`
-/// tells why not. A line that can't be written there changes no status.
+/// Explains the scenario that a reader has left, and gives the exit status: 0 if the whole explanation went out to `writer`, and 1 if a
+/// line on `errors` tells why not. A line that can't be written there changes no status.
 pub fn perform_explain<R: Read, W: Write, E: Write>(
     alloc: Global,
-    _plan: &ExplainPlan,
     reader: &mut R,
     writer: &mut W,
     errors: &mut E,

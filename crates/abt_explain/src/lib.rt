@@ -3,9 +3,7 @@
 
 mod answers;
 mod explaining;
-mod plan;
 mod telling;
 
 pub use explaining::{explain_text, perform_explain};
-pub use plan::{ExplainPlan, add_commands, plan_of};
 pub use telling::{tell_events, told_text};

@@ -11,7 +11,11 @@ use Rattle.abt_text.specs.Text.{Text, ◌⋅◌}
 use Rattle.abt_model.specs.declared.trace.Trace.{Trace}
 use Rattle.abt_model.specs.Traces.{IsTrace}
 use Rattle.abt_format.specs.EventText.{event_text}
+use Rattle.abt_model.specs.declared.outcome.Cause.TheVariants.{NotSent}
+use Rattle.abt_model.specs.declared.outcome.Outcome.TheVariants.{NotEnabled}
 use Rattle.abt_reason.specs.declared.grounds.Grounds.{Grounds}
+use Rattle.abt_reason.specs.declared.sighting.Sighting.{Sighting}
+use Rattle.abt_reason.specs.declared.sighting.Sought.{Sought}
 use Rattle.abt_reason.specs.Grounds.{grounds_of}
 use Rattle.abt_reason.specs.Reasons.{reason_text}
 use Rattle.abt_entry.specs.ObjectMembers.{text_member, number_member, object_line}
@@ -22,11 +26,25 @@ abbrev pub line_members : Option ℕ → List Token
 line_members None = []
 line_members (Some line) = number_member (codes "line") line
 
--- an event of a number: its line, its own text, its outcome, and the outcome in words with its reason
+-- a message lies at a hop, and an event takes it on from there, by its text
+abbrev pub lies_members : (at : ℕ) → (next : Event) → List Token
+lies_members at next = number_member (codes "lies_at") at ++ text_member (codes "comes_next") (event_text next)
+
+-- the same, if it lies anywhere
+abbrev pub sighting_members : Option Sighting → List Token
+sighting_members None = []
+sighting_members (Some sighting) = lies_members sighting.at sighting.next
+
+-- the same of the message that wasn't where an event looked for it
+abbrev pub sought_members : Option Sought → Outcome → List Token
+sought_members (Some sought) (NotEnabled NotSent) = sighting_members sought.sighting
+sought_members sought outcome = []
+
+-- an event of a number: its line, its own text, its outcome, where its message lies, and the outcome in words with its reason
 abbrev pub explained_members : ℕ → Option ℕ → Event → Grounds → Outcome → List Token
 explained_members number line event grounds outcome =
     number_member (codes "event") number ++ line_members line ++ text_member (codes "text") (event_text event) ++ outcome_members outcome
-    ++ text_member (codes "words") (outcome_text outcome ⋅ reason_text grounds outcome)
+    ++ sought_members grounds.sought outcome ++ text_member (codes "words") (outcome_text outcome ⋅ reason_text grounds outcome)
 
 abbrev pub explained_object : ℕ → Option ℕ → Event → Grounds → Outcome → Text
 explained_object number line event grounds outcome = object_line (explained_members number line event grounds outcome)

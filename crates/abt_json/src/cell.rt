@@ -17,7 +17,7 @@ pub fn cell_json(alloc: Global, hex: &str) -> Result<Vec<u8>, Fault>
     ensures ok { IfOk result (λ text. cell_json hex.now ≡ Ok text.items) }
     ensures err { IfErr result (λ fault. (fault ≡ Memory) ⊎ (cell_json hex.now ≡ Err fault)) }
 {
-    let rm = message_of(alloc, hex)?;
+    let rm = message_of(alloc, hex.as_bytes())?;
     Ok(cell_object(alloc, &rm)?)
 }
 

@@ -8,10 +8,10 @@ use crate::report::push_end;
 use abt_entry::{begin, end, push_number, push_text};
 use abt_format as report;
 use abt_format::push_event;
-use abt_model::Sequence;
+use abt_model::{Cause, Sequence};
 use abt_net::Net;
 use abt_node::Onward;
-use abt_reason::{Grounds, grounds_of, push_reason};
+use abt_reason::{Grounds, Sighting, Sightings, Sought, grounds_of, push_reason};
 use abt_world::{Event, Outcome, World};
 use json::Writer;
 use std::alloc::{AllocError, Global};
@@ -33,12 +33,14 @@ pub fn explanation_json(
     // Names a type within an outcome, without which the checker can't follow one round the loop.
     let _ = Onward::Pass;
     let mut world = World::new(alloc, net)?;
+    let mut sightings = Sightings::new(alloc);
     let mut outcomes = Sequence::with_room(alloc, events.len())?;
     let mut text = Vec::new(alloc);
     for (index, event) in events.iter().enumerate() {
-        let grounds = grounds_of(&world, net, event);
+        let grounds = grounds_of(&world, &sightings, net, event);
         let outcome = world.step(event)?;
-        push_explained(
+        sightings.note(net, event, &outcome)?;
+        push_event_object(
             alloc,
             &mut text,
             index as u64 + 1,
@@ -55,7 +57,7 @@ pub fn explanation_json(
 }
 
 // The object of an event.
-fn push_explained(
+fn push_event_object(
     alloc: Global,
     text: &mut Vec<u8>,
     number: u64,
@@ -68,18 +70,80 @@ fn push_explained(
         (text.new.items ≡ text.old.items ++
         spec.explained_object number line event.now grounds.now outcome.now) }
 {
+    let mut object = begin(alloc, text)?;
+    push_explained(alloc, &mut object, number, line, event, grounds, outcome)?;
+    end(object, text)
+}
+
+/// Adds what an explanation says of an event (docs/FORMATS.md, "JSON"): its number, its line, if it is known, its text, its outcome, where
+/// the message lies that it looked for in vain, and the outcome in words with its reason.
+///
+/// # Errors
+/// If memory is refused.
+pub fn push_explained(
+    alloc: Global,
+    object: &mut Writer,
+    number: u64,
+    line: Option<u64>,
+    event: &Event,
+    grounds: &Grounds,
+    outcome: &Outcome,
+) -> Result<(), AllocError>
+    ensures { OnOk result
+        (Adds (spec.explained_members number line event.now grounds.now outcome.now) object.old object.new) }
+{
     let mut said = String::new(alloc);
     push_event(&mut said, event)?;
     let mut words = String::new(alloc);
     report::push_outcome(&mut words, outcome)?;
     push_reason(alloc, &mut words, grounds, outcome)?;
-    let mut object = begin(alloc, text)?;
-    push_number(&mut object, "event", number)?;
-    push_line(&mut object, line)?;
-    push_text(&mut object, "text", said.as_str())?;
-    push_outcome(alloc, &mut object, outcome)?;
-    push_text(&mut object, "words", words.as_str())?;
-    end(object, text)
+    push_number(object, "event", number)?;
+    push_line(object, line)?;
+    push_text(object, "text", said.as_str())?;
+    push_outcome(alloc, object, outcome)?;
+    push_sought(alloc, object, grounds.sought, outcome)?;
+    push_text(object, "words", words.as_str())
+}
+
+// Adds where the message lies that wasn't where an event looked for it.
+fn push_sought(
+    alloc: Global,
+    object: &mut Writer,
+    sought: Option<Sought>,
+    outcome: &Outcome,
+) -> Result<(), AllocError>
+    ensures { OnOk result (Adds (spec.sought_members sought outcome.now) object.old object.new) }
+{
+    match (sought, *outcome) {
+        (Some(Sought { sighting, .. }), Outcome::NotEnabled(Cause::NotSent)) => {
+            push_sighting(alloc, object, sighting)
+        }
+        _ => Ok(()),
+    }
+}
+
+// Adds where a message lies, and the text of the event that takes it on from there.
+fn push_sighting(
+    alloc: Global,
+    object: &mut Writer,
+    sighting: Option<Sighting>,
+) -> Result<(), AllocError>
+    ensures { OnOk result (Adds (spec.sighting_members sighting) object.old object.new) }
+{
+    match sighting {
+        Some(Sighting { at, next }) => push_lies(alloc, object, at, &next),
+        None => Ok(()),
+    }
+}
+
+// Adds the hop at which a message lies, and the text of the event that takes it on from there.
+fn push_lies(alloc: Global, object: &mut Writer, at: u32, next: &Event) -> Result<(), AllocError>
+    ensures { OnOk result (Adds (spec.lies_members at next.now) object.old object.new) }
+{
+    let mut said = String::new(alloc);
+    push_event(&mut said, next)?;
+    push_number(object, "lies_at", u64::from(at))?;
+    push_text(object, "comes_next", said.as_str())
 }
 
 // Adds the line of an event, if it is known.

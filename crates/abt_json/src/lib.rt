@@ -11,9 +11,9 @@ mod report;
 mod scenario;
 
 pub use cell::cell_json;
-pub use explain::explanation_json;
+pub use explain::{explanation_json, push_explained};
 pub use perform::perform_json;
 pub use plan::{JsonPlan, Telling};
 pub use rate::rate_json;
-pub use report::report_json;
+pub use report::{push_codes, report_json};
 pub use scenario::scenario_json;

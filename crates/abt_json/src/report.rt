@@ -104,7 +104,11 @@ fn push_held(alloc: Global, object: &mut Writer, held: &[Rate]) -> Result<(), Al
     object.end_array()
 }
 
-fn push_codes(alloc: Global, object: &mut Writer, rates: &[Rate]) -> Result<(), AllocError>
+/// Adds the codes of rates to an array.
+///
+/// # Errors
+/// If memory is refused.
+pub fn push_codes(alloc: Global, object: &mut Writer, rates: &[Rate]) -> Result<(), AllocError>
     ensures { OnOk result (Adds (rate_strings rates.now) object.old object.new) }
 {
     for rate in rates {

@@ -12,6 +12,7 @@ use Rattle.abt_text.specs.Text.{◌⋅◌}
 use Rattle.abt_model.specs.Traces.{IsTrace}
 use Rattle.abt_world.specs.Standing.{StandsFor}
 use Rattle.abt_reason.specs.Grounds.{grounds_of}
+use Rattle.abt_reason.specs.Sightings.{AreSightings}
 use Rattle.abt_json.specs.Objects.{end_objects}
 use Rattle.abt_json.specs.Explained.{explained_object, event_object, event_objects, IsExplainedJson}
 use Rattle.abt_json.proofs.explain.explanation_json.Goals as goal
@@ -45,15 +46,16 @@ loop-index-preserved c =
     let outcome = c.in_ok-outcome.outcome in
     let line : explained_object (i + 1) c.line_at.result e c.grounds_of-grounds.result outcome ≡ event_object net past lines i e =
     ap (λ p. explained_object (i + 1) p e c.grounds_of-grounds.result outcome) c.line_at.ensures
-    ∙ ap (λ g. explained_object (i + 1) (slice_get lines i) e g outcome) (c.grounds_of-grounds.ensures events stands.0)
+    ∙ ap (λ g. explained_object (i + 1) (slice_get lines i) e g outcome) (c.grounds_of-grounds.ensures events stands.0 stands.1)
     ∙ ap (explained_object (i + 1) (slice_get lines i) e (grounds_of net past e)) step.0 in
     let past_is : facts_after net (take (i + 1) all) ≡ after_event net past e = ap (facts_after net) more ∙ facts_from_push net [] events e in
     let left = next_objects net past lines i all e low c.index-events-index.is in
-    let grown = text_grows _ _ _ _ _ _ (c.in_ok-push_explained.ensures ∙ ap (λ (l : List ℕ). c.loop-index.text.items ++ l) line) left stands.2 in (
+    let grown = text_grows _ _ _ _ _ _ (c.in_ok-push_event_object.ensures ∙ ap (λ (l : List ℕ). c.loop-index.text.items ++ l) line) left stands.3 in (
       subst (λ es. StandsFor net es c.step.new.self) (sym more) step.1,
-      c.in_ok-push.ensures.ok ∙ ap (λ os. os ++ outcome ∷ []) stands.1 ∙ ap (λ (o : Outcome). outcomes_of net events ++ o ∷ []) step.0
+      subst (λ (p : Past). AreSightings net p c.note.new.self) (sym past_is) (c.in_ok-note.ensures past stands.1 step.0),
+      c.in_ok-push.ensures.ok ∙ ap (λ os. os ++ outcome ∷ []) stands.2 ∙ ap (λ (o : Outcome). outcomes_of net events ++ o ∷ []) step.0
           ∙ sym (outcomes_from_push net [] events e) ∙ ap (outcomes_of net) (sym more),
-      ap (λ (v : Past). c.push_explained.new.text.items ++ event_objects net v lines (i + 1) (drop (i + 1) all)) past_is ∙ grown,
+      ap (λ (v : Past). c.push_event_object.new.text.items ++ event_objects net v lines (i + 1) (drop (i + 1) all)) past_is ∙ grown,
     )
 
 none_left : (n : ℕ) (events : List Event) → length events ≤ n → drop n events ≡ []
@@ -75,10 +77,10 @@ returns c =
     let none : drop i all ≡ [] = none_left i all over in
     let said = c.loop-index.invariant in
     let trace = c.in_ok-trace.trace in
-    let traced = c.in_ok-trace.ensures.trace net (take i all) said.0 said.1 in
+    let traced = c.in_ok-trace.ensures.trace net (take i all) said.0 said.2 in
     let safe = c.in_ok-trace.ensures.headline net (take i all) said.0 (take i all) [] (append-nil (take i all)) in
     let objects : c.loop-index.text.items ≡ event_objects net [] lines 0 all =
-    sym (append-nil _) ∙ ap (λ (l : List Event). c.loop-index.text.items ++ event_objects net (facts_after net (take i all)) lines i l) (sym none) ∙ said.2 in
+    sym (append-nil _) ∙ ap (λ (l : List Event). c.loop-index.text.items ++ event_objects net (facts_after net (take i all)) lines i l) (sym none) ∙ said.3 in
     record {
       trace = trace;
       is_trace = subst (λ es. IsTrace net es trace) whole traced;
