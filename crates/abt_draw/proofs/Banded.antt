@@ -11,26 +11,27 @@ use Rattle.abt_draw.specs.declared.block.Block.{Block}
 use Rattle.abt_draw.specs.declared.sheet.Sheet.{Sheet}
 use Rattle.abt_draw.proofs.Within.{holds_still}
 
-pub block_still : (base c : ℕ) (block : Block) (old new : List ℕ) → Grows old new → HasBlock base c block old → HasBlock base c block new
-block_still base c block old new grows has = record { x = has.x; width = has.width; rect = holds_still old new _ grows has.rect }
+pub block_still : (base c held : ℕ) (block : Block) (old new : List ℕ) → Grows old new → HasBlock base c held block old → HasBlock base c held block new
+block_still base c held block old new grows has = record { x = has.x; width = has.width; rect = holds_still old new _ grows has.rect }
 
 pub stack_still : (base most : ℕ) (stack old new : List ℕ) → Grows old new → HasStack base most stack old → HasStack base most stack new
-stack_still base most stack old new grows has = record { each = λ c held is some. block_still base c _ old new grows (has.each c held is some) }
+stack_still base most stack old new grows has = record { each = λ c held is some. block_still base c held _ old new grows (has.each c held is some) }
 
-pub level_still : (class : List ℕ) (base height : ℕ) (old new : List ℕ) → Grows old new → HasLevel class base height old → HasLevel class base height new
-level_still class base height old new grows has = record { from = has.from; to = has.to; line = holds_still old new _ grows has.line }
+pub level_still : (class what : List ℕ) (base most units : ℕ) (old new : List ℕ) → Grows old new → HasLevel class what base most units old
+    → HasLevel class what base most units new
+level_still class what base most units old new grows has = record { from = has.from; to = has.to; line = holds_still old new _ grows has.line }
 
 pub port_still : (base most : ℕ) (stack : List ℕ) (capacity : ℕ) (old new : List ℕ) → Grows old new
     → DrawsPort base most stack capacity old → DrawsPort base most stack capacity new
 port_still base most stack capacity old new grows drawn = record {
   stack = λ fits. stack_still base most stack old new grows (drawn.stack fits);
-  capacity = level_still _ base _ old new grows drawn.capacity;
+  capacity = level_still _ _ base most capacity old new grows drawn.capacity;
 }
 
 pub source_still : (base most rate least : ℕ) (old new : List ℕ) → Grows old new
     → DrawsSource base most rate least old → DrawsSource base most rate least new
 source_still base most rate least old new grows drawn =
-    record { rate = level_still _ base _ old new grows drawn.rate; least = level_still _ base _ old new grows drawn.least }
+    record { rate = level_still _ _ base most rate old new grows drawn.rate; least = level_still _ _ base most least old new grows drawn.least }
 
 pub name_still : (who : Actor) (old new : List ℕ) → Grows old new → HasName who old → HasName who new
 name_still who old new grows has = record { place = has.place; name = holds_still old new _ grows has.name }
@@ -96,9 +97,10 @@ least_at_most (first ∷ frames) c zero frame is =
 least_at_most (first ∷ frames) c (suc k) frame is =
     le_max_of (least_in frame c) (most_of frames c) (max (rate_in first c) (least_in first c)) (least_at_most frames c k frame is)
 
--- a line at a height that is another's
-pub level_at : (class : List ℕ) (base height its : ℕ) (text : List ℕ) → height ≡ its → HasLevel class base height text → HasLevel class base its text
-level_at class base height its text is has = rw is at has
+-- a line of a rate that is another's, by its words
+pub level_at : (class what its_class its_what : List ℕ) (base most units its : ℕ) (text : List ℕ) → class ≡ its_class → what ≡ its_what → units ≡ its
+    → HasLevel class what base most units text → HasLevel its_class its_what base most its text
+level_at class what its_class its_what base most units its text class_is what_is is has = rw (class_is, what_is, is) at has
 
 -- Frames in which a port, or a source, has the same.
 pub record SamePort (port : ℕ) (one other : Frame) : Type 0 where
@@ -205,11 +207,13 @@ source_alone frames c place = λ k frame its from to is its_is.
 pub before_or_last : (a b : ℕ) → a < b + 1 → (a < b) ⊎ (a ≡ b)
 before_or_last a b low = grind arith
 
-block_same : (base c : ℕ) (block its : Block) (text : List ℕ) → block.top ≡ its.top → block.bottom ≡ its.bottom → HasBlock base c block text → HasBlock base c its text
-block_same base c block its text top bottom has = record { x = has.x; width = has.width; rect = rw (top, bottom) at has.rect }
+block_same : (base c held : ℕ) (block its : Block) (text : List ℕ) → block.top ≡ its.top → block.bottom ≡ its.bottom → HasBlock base c held block text
+    → HasBlock base c held its text
+block_same base c held block its text top bottom has = record { x = has.x; width = has.width; rect = rw (top, bottom) at has.rect }
 
-block_last : (base most k c : ℕ) (stack text : List ℕ) → k ≡ c → HasBlock base c (block_in stack most c) text → HasBlock base k (block_in stack most k) text
-block_last base most k c stack text is has = rw is has
+block_last : (base most k c held here : ℕ) (stack text : List ℕ) → k ≡ c → here ≡ held → HasBlock base c here (block_in stack most c) text
+    → HasBlock base k held (block_in stack most k) text
+block_last base most k c held here stack text is held_is has = rw (is, ← held_is) has
 
 held_is : (stack : List ℕ) (c held here : ℕ) → here ≡ unwrap_or (slice_get stack c) 0 → slice_get stack c ≡ Some held → here ≡ held
 held_is stack c held here is some = is ∙ ap (λ (it : Option ℕ). unwrap_or it 0) some
@@ -217,15 +221,16 @@ held_is stack c held here is some = is ∙ ap (λ (it : Option ℕ). unwrap_or i
 -- a connection more of a stack
 pub blocks_on : (base most c here : ℕ) (stack : List ℕ) (blocks : List Block) (its : Block) (old new : List ℕ) → (sum stack ≤ most → AreBlocks stack most blocks)
     → slice_get blocks c ≡ Some its → here ≡ unwrap_or (slice_get stack c) 0 → Grows old new
-    → ((k held : ℕ) → k < c → sum stack ≤ most → slice_get stack k ≡ Some held → held ≢ 0 → HasBlock base k (block_in stack most k) old)
-    → (here ≢ 0 → HasBlock base c its new)
-    → (k held : ℕ) → k < c + 1 → sum stack ≤ most → slice_get stack k ≡ Some held → held ≢ 0 → HasBlock base k (block_in stack most k) new
+    → ((k held : ℕ) → k < c → sum stack ≤ most → slice_get stack k ≡ Some held → held ≢ 0 → HasBlock base k held (block_in stack most k) old)
+    → (here ≢ 0 → HasBlock base c here its new)
+    → (k held : ℕ) → k < c + 1 → sum stack ≤ most → slice_get stack k ≡ Some held → held ≢ 0 → HasBlock base k held (block_in stack most k) new
 blocks_on base most c here stack blocks its old new are its_is here_is grows before drawn k held low fits is some = elim (before_or_last k c low) [
-  | inl lower ↦ block_still base k _ old new grows (before k held lower fits is some)
+  | inl lower ↦ block_still base k held _ old new grows (before k held lower fits is some)
   | inr last ↦ (
       let one = (are fits).each c its its_is in
       let own = held_is stack c held here here_is (rw last at is) in
-      block_last base most k c stack new last (block_same base c its (block_in stack most c) new one.top one.bottom (drawn (rw own some))))
+      block_last base most k c held here stack new last own
+      (block_same base c here its (block_in stack most c) new one.top one.bottom (drawn (rw own some))))
 ]
 
 same_port : (one other : ℕ) → Port one ≡ Port other → one ≡ other

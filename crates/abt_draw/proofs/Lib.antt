@@ -2,8 +2,8 @@ pub mod Stacked
 pub mod Escaping
 pub mod Within
 pub mod Banded
+pub mod Keyed
 pub mod Shown
 pub mod Columned
 pub mod Faults
 pub mod Paged
-pub mod Listed

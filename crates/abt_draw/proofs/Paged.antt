@@ -6,6 +6,7 @@ use Rattle.abt_draw.specs.Bands.{HasBands}
 use Rattle.abt_draw.specs.Columns.{columns_of}
 use Rattle.abt_draw.specs.Elements.{document_text}
 use Rattle.abt_draw.specs.Escapes.{escaped}
+use Rattle.abt_draw.specs.Legend.{HasLegend}
 use Rattle.abt_draw.specs.Lifelines.{HasLifelines}
 use Rattle.abt_draw.specs.Pictures.{IsSvg, IsPage, IsFile, IsSheetFile}
 use Rattle.abt_draw.specs.Rows.{HasRows}
@@ -21,8 +22,8 @@ use Rattle.abt_draw.proofs.Within.{holds_still}
 -- a document is an SVG text if its content has everything
 pub svg_made : (sheet : Sheet) (words : Text) (size : Size) (title style definitions content held start text : Text) → start ≡ [] → content ≡ held
     → text ≡ start ++ document_text size title words style definitions content → HasLifelines sheet held → HasRows sheet words held
-    → HasStuckRows sheet held → HasBands sheet held → IsSvg sheet words text
-svg_made sheet words size title style definitions content held start text start_is content_is is lifelines rows stuck bands = record {
+    → HasStuckRows sheet held → HasBands sheet held → HasLegend held → IsSvg sheet words text
+svg_made sheet words size title style definitions content held start text start_is content_is is lifelines rows stuck bands legend = record {
   size = size;
   title = title;
   style = style;
@@ -33,6 +34,7 @@ svg_made sheet words size title style definitions content held start text start_
   rows = rows;
   stuck = stuck;
   bands = bands;
+  legend = legend;
 }
 
 -- what was added between two texts is held

@@ -37,7 +37,7 @@ pub departure_still : (sheet : Sheet) (event : ℕ) (departure : Departure) (old
     → DrawsDeparture sheet event departure old → DrawsDeparture sheet event departure new
 departure_still sheet event departure old new grows drawn = sent_still sheet event departure departure.came old new grows drawn
 
--- the same of what an event may bring, and of what it may send
+-- what an event may bring or send stays drawn as more is added
 pub brought_still : (sheet : Sheet) (event : ℕ) (arrival : Option Arrival) (old new : List ℕ) → Grows old new
     → IfSome arrival (λ one. DrawsArrival sheet event one old) → IfSome arrival (λ one. DrawsArrival sheet event one new)
 brought_still sheet event None old new grows drawn = drawn

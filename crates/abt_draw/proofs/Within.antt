@@ -1,6 +1,6 @@
 -- Texts that grow, and what they hold.
 use Rattle.std.proofs.Common.{◌≡◌, ◌∙◌, ◌++◌, ℕ, List, [], ap, sym, append_assoc, append-nil}
-use Rattle.std.specs.Prelude.{Result, OnOk}
+use Rattle.std.specs.Prelude.{Result, Ok, Err, is_ok, OnOk, if◌then◌else◌}
 use Rattle.std.proofs.lemmas.Result.{on_ok_weaker}
 use Rattle.abt_draw.specs.Elements.{line_text}
 use Rattle.abt_draw.specs.Within.{Holds, Grows}
@@ -44,6 +44,11 @@ grows_by_last r a b c more p q = on_ok_weaker r (λ is. grows_on a b c p (grows_
 
 pub grows_first : {E : Type 0} (r : Result (Unit {0}) E) (a b more : List ℕ) → OnOk r (b ≡ a ++ more) → OnOk r (Grows a b)
 grows_first r a b more q = on_ok_weaker r (grows_by a b more) q
+
+-- a text to which another one was added
+pub grows_pushed : {T E : Type 0} (r : Result T E) (old new said : List ℕ) → new ≡ (if is_ok r then old ++ said else old) → OnOk r (Grows old new)
+grows_pushed (Ok value) old new said is = grows_by old new said is
+grows_pushed (Err error) old new said is = tt
 
 pub ruleset growing = (grows_by, grows_not, grows_on, holds_added, holds_still, grows_last, grows_by_last, grows_first)
 

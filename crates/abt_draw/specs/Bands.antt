@@ -1,10 +1,10 @@
 -- The bands of a picture, below the chart of messages (docs/PICTURES.md, "Drawing"): what each port holds at each moment that is shown, under
 -- its capacity, and at which rate each source shapes, under the least that its path holds for it. Where along the axis it stands isn't said.
-use Rattle.std.specs.Prelude.{◌≡◌, ◌≢◌, ◌≤◌, ℕ, ◌+◌, ◌-◌, ◌%◌, max, List, [], ◌∷◌, sum, take, Some, unwrap_or, slice_get, codes}
+use Rattle.std.specs.Prelude.{◌≡◌, ◌≢◌, ◌≤◌, ◌==◌, ℕ, ◌+◌, ◌-◌, ◌/◌, ◌%◌, if◌then◌else◌, max, List, [], ◌∷◌, sum, take, Some, unwrap_or, slice_get, codes}
 use Rattle.abt_text.specs.Text.{Text, ◌⋅◌, decimal}
 use Rattle.abt_chart.specs.declared.frame.Frame.{Frame}
 use Rattle.abt_draw.specs.Blocks.{height_of}
-use Rattle.abt_draw.specs.Elements.{line_text, rect_text, label_text}
+use Rattle.abt_draw.specs.Elements.{told_line_text, told_rect_text, label_text}
 use Rattle.abt_draw.specs.Lifelines.{kind_name, number_of}
 use Rattle.abt_draw.specs.Within.{Holds}
 use Rattle.abt_draw.specs.declared.actor.Actor.{Actor}
@@ -36,6 +36,21 @@ abbrev pub most_of : List Frame → (c : ℕ) → ℕ
 most_of [] c = 0
 most_of (frame ∷ frames) c = max (max (rate_in frame c) (least_in frame c)) (most_of frames c)
 
+-- a rate in whole cells per second, with a sign behind it if more than that is meant; units are 1/512 cell/s
+abbrev pub more_of : (units : ℕ) → Text
+more_of units = if units % 512 == 0 then [] else codes "+"
+
+abbrev pub short_rate : (units : ℕ) → Text
+short_rate units = decimal (units / 512) ⋅ more_of units
+
+-- what is told of a rate: what it is of, the rate, and its unit
+abbrev pub told_rate : (what : Text) → (units : ℕ) → Text
+told_rate what units = what ⋅ codes " " ⋅ short_rate units ⋅ codes " cells/s"
+
+-- what is told of what a connection holds
+abbrev pub told_hold : (c held : ℕ) → Text
+told_hold c held = told_rate (codes "c" ⋅ decimal c ⋅ codes " holds") held
+
 -- a connection's colour, one of six
 abbrev pub class_of : (c : ℕ) → Text
 class_of c = codes "hold h" ⋅ decimal (c % 6)
@@ -44,31 +59,33 @@ class_of c = codes "hold h" ⋅ decimal (c % 6)
 abbrev pub block_in : List ℕ → (most c : ℕ) → Block
 block_in stack most c = record { bottom = height_of (sum (take c stack)) most; top = height_of (sum (take (c + 1) stack)) most }
 
--- A block in the colour of connection c stands somewhere above the base of a band, as high as it is.
-pub record HasBlock (base c : ℕ) (block : Block) (text : Text) : Type 0 where
+-- A block in the colour of connection c stands somewhere above the base of a band, as high as it is, and tells what the connection holds.
+pub record HasBlock (base c held : ℕ) (block : Block) (text : Text) : Type 0 where
   pub x : ℕ
   pub width : ℕ
-  pub rect : Holds text (rect_text (class_of c) (record { x = x; y = base - block.top }) (record { width = width; height = block.top - block.bottom }))
+  pub rect : Holds text (told_rect_text (class_of c) (record { x = x; y = base - block.top }) (record { width = width; height = block.top - block.bottom })
+      (told_hold c held))
 
 -- Each connection that holds something has its block.
 pub record HasStack (base most : ℕ) (stack : List ℕ) (text : Text) : Type 0 where
-  pub each : (c held : ℕ) → slice_get stack c ≡ Some held → held ≢ 0 → HasBlock base c (block_in stack most c) text
+  pub each : (c held : ℕ) → slice_get stack c ≡ Some held → held ≢ 0 → HasBlock base c held (block_in stack most c) text
 
--- A level line of this kind stands at a height above the base of a band.
-pub record HasLevel (class : Text) (base height : ℕ) (text : Text) : Type 0 where
+-- A level line of this kind stands at the height of a rate above the base of a band, and tells the rate.
+pub record HasLevel (class what : Text) (base most units : ℕ) (text : Text) : Type 0 where
   pub from : ℕ
   pub to : ℕ
-  pub line : Holds text (line_text class (record { x = from; y = base - height }) (record { x = to; y = base - height }))
+  pub line : Holds text (told_line_text class (record { x = from; y = base - height_of units most }) (record { x = to; y = base - height_of units most })
+      (told_rate what units))
 
 -- What is held on a port has its blocks, if it is no more than the capacity, and the capacity has a line.
 pub record DrawsPort (base most : ℕ) (held : List ℕ) (limit : ℕ) (text : Text) : Type 0 where
   pub stack : sum held ≤ limit → HasStack base most held text
-  pub capacity : HasLevel (codes "capacity") base (height_of limit most) text
+  pub capacity : HasLevel (codes "capacity") (codes "capacity") base most limit text
 
 -- The rate of a source, and the least that is held for it, have a line each.
 pub record DrawsSource (base most shaped kept : ℕ) (text : Text) : Type 0 where
-  pub rate : HasLevel (codes "rate") base (height_of shaped most) text
-  pub least : HasLevel (codes "least") base (height_of kept most) text
+  pub rate : HasLevel (codes "rate") (codes "shapes at") base most shaped text
+  pub least : HasLevel (codes "least") (codes "held along the path: at least") base most kept text
 
 -- Somewhere stands whose a band is.
 pub record HasName (who : Actor) (text : Text) : Type 0 where

@@ -18,7 +18,7 @@ along c path = Source c ∷ (map Port path ++ End c ∷ [])
 abbrev pub shown_along : (only : List ℕ) → (c : ℕ) → (path : List ℕ) → List Actor
 shown_along only c path = if is_shown only c then along c path else []
 
--- everybody along the paths of connections, of which the first is connection c
+-- everybody along the paths of connections that are numbered from c on
 abbrev pub along_all : (only : List ℕ) → (c : ℕ) → List Conn → List Actor
 along_all only c [] = []
 along_all only c (conn ∷ conns) = shown_along only c conn.path ++ along_all only (c + 1) conns

@@ -1,5 +1,5 @@
 -- Which events are drawn, and why none are (docs/PICTURES.md, "Drawing").
-use Rattle.std.specs.Prelude.{◌≡◌, ⊤, ℕ, ◌+◌, ◌-◌, ◌*◌, ◌^◌, ◌<◌, ◌≤◌, List, length, Option, Some, slice_get, unwrap_or}
+use Rattle.std.specs.Prelude.{◌≡◌, ◌⊎◌, ⊤, ℕ, ◌+◌, ◌-◌, ◌*◌, ◌^◌, ◌<◌, ◌≤◌, IsSome, List, length, Option, Some, slice_get, unwrap_or}
 use Rattle.abt_text.specs.Text.{Text}
 use Rattle.abt_perform.specs.Plans.{Tells}
 use Rattle.abt_net.specs.Topology.{Topology}
@@ -22,11 +22,12 @@ last_of plan events = unwrap_or plan.to events
 abbrev pub shown_of : PicturePlan → (events : ℕ) → ℕ
 shown_of plan events = last_of plan events + 1 - first_of plan
 
--- These are some of so many events, the first at or before the last; or none, the first one behind the last.
+-- A range of so many events: the first at or before the last. Where neither is named all are meant, and these may be none.
 pub record IsRange (plan : PicturePlan) (events : ℕ) : Type 0 where
   pub begins : 1 ≤ first_of plan
   pub ends : last_of plan events ≤ events
   pub in_order : first_of plan ≤ last_of plan events + 1
+  pub some : IsSome plan.from ⊎ IsSome plan.to → first_of plan ≤ last_of plan events
 
 -- Each connection that is named is one of so many.
 abbrev pub AreKnown : (only : List ℕ) → (conns : ℕ) → Type 0

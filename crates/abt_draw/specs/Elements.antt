@@ -19,6 +19,25 @@ abbrev pub rect_text : (class : Text) → Point → Size → Text
 rect_text class at size = codes "<rect class='" ⋅ escaped class ⋅ codes "' x='" ⋅ tenths_text at.x ⋅ codes "' y='" ⋅ tenths_text at.y
     ⋅ codes "' width='" ⋅ tenths_text size.width ⋅ codes "' height='" ⋅ tenths_text size.height ⋅ codes "'></rect>" ⋅ newline
 
+-- the beginnings of a line and of a rectangle, and what is told of an element
+unfoldable pub line_start : (class : Text) → (from to : Point) → Text
+line_start class from to = codes "<line class='" ⋅ escaped class ⋅ codes "' x1='" ⋅ tenths_text from.x ⋅ codes "' y1='" ⋅ tenths_text from.y
+    ⋅ codes "' x2='" ⋅ tenths_text to.x ⋅ codes "' y2='" ⋅ tenths_text to.y ⋅ codes "'>"
+
+unfoldable pub rect_start : (class : Text) → Point → Size → Text
+rect_start class at size = codes "<rect class='" ⋅ escaped class ⋅ codes "' x='" ⋅ tenths_text at.x ⋅ codes "' y='" ⋅ tenths_text at.y
+    ⋅ codes "' width='" ⋅ tenths_text size.width ⋅ codes "' height='" ⋅ tenths_text size.height ⋅ codes "'>"
+
+unfoldable pub title_text : (told : Text) → Text
+title_text told = codes "<title>" ⋅ escaped told ⋅ codes "</title>"
+
+-- a line and a rectangle with what is told of them
+abbrev pub told_line_text : (class : Text) → (from to : Point) → (told : Text) → Text
+told_line_text class from to told = line_start class from to ⋅ title_text told ⋅ codes "</line>" ⋅ newline
+
+abbrev pub told_rect_text : (class : Text) → Point → Size → (told : Text) → Text
+told_rect_text class at size told = rect_start class at size ⋅ title_text told ⋅ codes "</rect>" ⋅ newline
+
 abbrev pub circle_text : (class : Text) → Point → (radius : ℕ) → Text
 circle_text class at radius = codes "<circle class='" ⋅ escaped class ⋅ codes "' cx='" ⋅ tenths_text at.x ⋅ codes "' cy='" ⋅ tenths_text at.y
     ⋅ codes "' r='" ⋅ tenths_text radius ⋅ codes "'></circle>" ⋅ newline

@@ -6,6 +6,7 @@ pub mod Elements
 pub mod Within
 pub mod Lines
 pub mod Marks
+pub mod Legend
 pub mod Rows
 pub mod Lifelines
 pub mod Bands
@@ -14,4 +15,3 @@ pub mod Columns
 pub mod Drawn
 pub mod Pictures
 pub mod Drawings
-pub mod Plans

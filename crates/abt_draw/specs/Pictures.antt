@@ -11,6 +11,7 @@ use Rattle.abt_draw.specs.Columns.{columns_of}
 use Rattle.abt_draw.specs.Drawn.{AreRows, IsDrawn}
 use Rattle.abt_draw.specs.Elements.{document_text}
 use Rattle.abt_draw.specs.Escapes.{escaped}
+use Rattle.abt_draw.specs.Legend.{HasLegend}
 use Rattle.abt_draw.specs.Lifelines.{HasLifelines}
 use Rattle.abt_draw.specs.Rows.{HasRows}
 use Rattle.abt_draw.specs.Stuck.{HasStuckRows}
@@ -33,8 +34,8 @@ pub record IsInWords (scene : Scene) (words : Text) : Type 0 where
   pub explained : IsExplanation scene.net.now scene.lines.now scene.events.now explanation
   pub is : words ≡ explanation ⋅ stuck_lines scene.stuck.now
 
--- The text is one SVG element, described by these words, with all lifelines, all rows, those of entries at which journals are stuck too, and
--- all bands in it.
+-- The text is one SVG element, described by these words, with all lifelines, all rows, those of entries at which journals are stuck too,
+-- all bands, and the legend in it.
 pub record IsSvg (sheet : Sheet) (words text : Text) : Type 0 where
   pub size : Size
   pub title : Text
@@ -46,6 +47,7 @@ pub record IsSvg (sheet : Sheet) (words text : Text) : Type 0 where
   pub rows : HasRows sheet words content
   pub stuck : HasStuckRows sheet content
   pub bands : HasBands sheet content
+  pub legend : HasLegend content
 
 -- The page has that SVG element, and the words below it.
 pub record IsPage (sheet : Sheet) (words text : Text) : Type 0 where

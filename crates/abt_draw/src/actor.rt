@@ -1,4 +1,4 @@
-//! Those who have a lifeline, and their columns.
+//! The actors that have a lifeline, and their columns.
 ghost use Rattle.std.specs.Prelude.{◌≡◌, ◌<◌, ◌≤◌, fold, length, IfOk, IfSome, IfNone, OnOk};
 ghost use Rattle.abt_draw.specs.Columns as shown;
 ghost use Rattle.abt_draw.specs.Places.{IsColumn, HasNoColumn};
@@ -12,7 +12,7 @@ use std::alloc::{AllocError, Global};
 /// How many columns a picture has at most.
 pub const COLUMNS_MAX: usize = 1024;
 
-/// Whose lifeline it is. Connections and ports are their places in the net, from 0.
+/// An actor with a lifeline. Connections and ports are their places in the net, from 0.
 #[derive(Clone, Copy, Debug, PartialEq, Eq)]
 pub enum Actor {
     /// The source of a connection.
@@ -23,7 +23,7 @@ pub enum Actor {
     End(u16),
 }
 
-/// Whose lifeline a stop of a connection is on, if the net has that connection, and its path that hop.
+/// The actor on whose lifeline a stop of a connection is, if the net has that connection, and its path that hop.
 pub fn actor_at(net: &Net, conn: u16, stop: Stop) -> Option<Actor>
     ensures { result ≡ spec.actor_at net.now conn stop }
 {

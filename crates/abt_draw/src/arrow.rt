@@ -138,7 +138,7 @@ fn sender_of(net: &Net, message: &Message) -> Option<Actor>
     )
 }
 
-// How many hops the path of a connection has; none if the net hasn't so many.
+// How many hops the path of a connection has; 0 if the net has no such connection.
 fn hops_of(net: &Net, conn: u16) -> u16
     ensures { result ≡ tellings.hops_of net.now (Some conn) }
 {
@@ -173,7 +173,7 @@ fn stop_before(hop: u16) -> Stop
     }
 }
 
-// The stop behind a hop of so many.
+// The stop behind a hop of a path with so many hops.
 fn stop_after(hops: u16, hop: u16) -> Stop
     ensures { result ≡ messages.stop_after hops hop }
 {

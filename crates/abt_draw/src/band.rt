@@ -17,7 +17,7 @@ const AXIS_RIGHT: u64 = 200;
 /// From the upper edge of a band to that of the next.
 pub(crate) const BAND_STEP: u64 = 860;
 
-/// A band: whose it is, what it is called, how much it has room for, and the line at which it begins.
+/// A band: its port or source, its name, the greatest value that it shows, and the line at which it begins.
 #[derive(Clone, Copy)]
 pub(crate) struct Band {
     pub(crate) most: u64,
@@ -58,7 +58,7 @@ pub(crate) fn push_ground(
     push_scale(sheet, out, band)
 }
 
-// Whose a band is, beside it.
+// The name of a band's port or source, beside the band.
 #[tactic(auto, using(crate::proofs::Within::growing))]
 fn push_name(alloc: Global, out: &mut String, actor: Actor, band: Band) -> Result<(), AllocError>
     ensures grows { OnOk result (Grows (string_bytes out.old) (string_bytes out.new)) }
@@ -77,7 +77,8 @@ fn push_scale(sheet: &Sheet<'_>, out: &mut String, band: Band) -> Result<(), All
     ensures { OnOk result (Grows (string_bytes out.old) (string_bytes out.new)) }
 {
     let alloc = sheet.alloc;
-    let most = short_rate(alloc, band.most)?;
+    let rate = short_rate(alloc, band.most)?;
+    let most = format!(in alloc; "{rate} cells/s")?;
     let x = AXIS_LEFT.saturating_sub(40);
     let y = band.y(BAND_HEIGHT).saturating_add(60);
     push_label(alloc, out, "scale", Point { x, y }, most.as_str())?;

@@ -26,7 +26,7 @@ pub const EVENTS_MAX: usize = 2000;
 // How many numbers the bands of a picture have at most.
 const NUMBERS_MAX: usize = 1 << 26;
 
-/// The text of the picture that a plan asks for, of the scenario that a reader has left.
+/// Draws the picture that a plan asks for, for the scenario that a reader has left.
 ///
 /// # Errors
 /// Why there is no scenario, or why it isn't drawn.
@@ -186,7 +186,8 @@ fn range_of(plan: &PicturePlan, events: usize) -> Result<(usize, usize), DrawFau
     let count = events as u64;
     let from = plan.from.unwrap_or(1);
     let to = plan.to.unwrap_or(count);
-    if from == 0 || to > count || from > count.saturating_add(1) || from > to.saturating_add(1) {
+    let is_named = plan.from.is_some() || plan.to.is_some();
+    if from == 0 || to > count || (is_named && from > to) {
         return Err(DrawFault::Range(count));
     }
     let first = from as usize - 1;
@@ -197,7 +198,7 @@ fn range_of(plan: &PicturePlan, events: usize) -> Result<(usize, usize), DrawFau
     Ok((first, last))
 }
 
-// How many numbers the bands of so many events have.
+// The count of numbers in the bands of so many events.
 fn numbers_of(net: &Net, events: usize) -> usize
     requires { events ≤ 2000 }
     ensures { result ≡ drawn.numbers_of net.now events }

@@ -44,6 +44,89 @@ pub fn push_rect(
     )
 }
 
+/// Adds a line from one point to another, with what is told of it.
+pub fn push_told_line(
+    alloc: Global,
+    out: &mut String,
+    class: &str,
+    from: Point,
+    to: Point,
+    told: &str,
+) -> Result<(), AllocError>
+    ensures { OnOk result (string_bytes out.new ≡ string_bytes out.old ++
+        spec.told_line_text class.now from to told.now) }
+{
+    push_line_start(alloc, out, class, from, to)?;
+    push_title(alloc, out, told)?;
+    out.push_str("</line>\n")
+}
+
+// The beginning of a line.
+#[tactic(auto, unfolding(crate::specs::Elements::line_start))]
+fn push_line_start(
+    alloc: Global,
+    out: &mut String,
+    class: &str,
+    from: Point,
+    to: Point,
+) -> Result<(), AllocError>
+    ensures { OnOk result (string_bytes out.new ≡ string_bytes out.old ++ spec.line_start class.now from to) }
+{
+    let class = escaped(alloc, class)?;
+    let (x1, y1) = (Tenths(from.x), Tenths(from.y));
+    let (x2, y2) = (Tenths(to.x), Tenths(to.y));
+    write!(
+        out,
+        "<line class='{class}' x1='{x1}' y1='{y1}' x2='{x2}' y2='{y2}'>"
+    )
+}
+
+// What is told of an element.
+#[tactic(auto, unfolding(crate::specs::Elements::title_text))]
+fn push_title(alloc: Global, out: &mut String, told: &str) -> Result<(), AllocError>
+    ensures { OnOk result (string_bytes out.new ≡ string_bytes out.old ++ spec.title_text told.now) }
+{
+    let words = escaped(alloc, told)?;
+    write!(out, "<title>{words}</title>")
+}
+
+/// Adds a rectangle, by its corner above on the left, with what is told of it.
+pub fn push_told_rect(
+    alloc: Global,
+    out: &mut String,
+    class: &str,
+    at: Point,
+    size: Size,
+    told: &str,
+) -> Result<(), AllocError>
+    ensures { OnOk result (string_bytes out.new ≡ string_bytes out.old ++
+        spec.told_rect_text class.now at size told.now) }
+{
+    push_rect_start(alloc, out, class, at, size)?;
+    push_title(alloc, out, told)?;
+    out.push_str("</rect>\n")
+}
+
+// The beginning of a rectangle.
+#[tactic(auto, unfolding(crate::specs::Elements::rect_start))]
+fn push_rect_start(
+    alloc: Global,
+    out: &mut String,
+    class: &str,
+    at: Point,
+    size: Size,
+) -> Result<(), AllocError>
+    ensures { OnOk result (string_bytes out.new ≡ string_bytes out.old ++ spec.rect_start class.now at size) }
+{
+    let class = escaped(alloc, class)?;
+    let (x, y) = (Tenths(at.x), Tenths(at.y));
+    let (width, height) = (Tenths(size.width), Tenths(size.height));
+    write!(
+        out,
+        "<rect class='{class}' x='{x}' y='{y}' width='{width}' height='{height}'>"
+    )
+}
+
 /// Adds a circle.
 pub fn push_circle(
     alloc: Global,

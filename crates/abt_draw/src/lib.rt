@@ -9,6 +9,7 @@ mod drawing;
 mod element;
 mod escape;
 mod fault;
+mod legend;
 mod lifeline;
 mod mark;
 mod page;
@@ -19,6 +20,7 @@ mod point;
 mod rates;
 mod row;
 mod scene;
+mod script;
 mod sheet;
 mod stack;
 mod stuck;
@@ -31,10 +33,11 @@ pub use block::{BAND_HEIGHT, Block, blocks_of, height_of};
 pub use drawing::{EVENTS_MAX, drawing_of, picture_of};
 pub use element::{
     Picture, push_circle, push_document, push_group, push_label, push_line, push_rect,
+    push_told_line, push_told_rect,
 };
 pub use escape::escaped;
 pub use fault::{DrawFault, tell_draw_fault};
 pub use place::{Rows, level_of, x_of, y_of};
-pub use plan::{DrawPlan, OUTPUT, PicturePlan, add_commands, picture_plan_of, plan_of};
+pub use plan::PicturePlan;
 pub use point::{Point, Size, Tenths};
 pub use scene::{Scene, StuckMark};

@@ -68,8 +68,8 @@ pub(crate) fn class_of(mark: Mark) -> &'static str
     }
 }
 
-// On whose lifeline an event happens.
-fn actor_of(net: &Net, event: &Event) -> Option<Actor>
+/// On whose lifeline an event happens.
+pub(crate) fn actor_of(net: &Net, event: &Event) -> Option<Actor>
     ensures { result ≡ spec.actor_of net.now event.now }
 {
     match *event {
@@ -118,7 +118,13 @@ pub(crate) fn x_beside(sheet: &Sheet<'_>, who: Option<Actor>) -> u64
     }
 }
 
-fn push_shape(sheet: &Sheet<'_>, out: &mut String, mark: Mark, at: Point) -> Result<(), AllocError>
+/// Adds the shape of a mark.
+pub(crate) fn push_shape(
+    sheet: &Sheet<'_>,
+    out: &mut String,
+    mark: Mark,
+    at: Point,
+) -> Result<(), AllocError>
     ensures { OnOk result (string_bytes out.new ≡ string_bytes out.old ++ spec.shape_text mark at) }
 {
     let alloc = sheet.alloc;

@@ -5,9 +5,10 @@ ghost use Rattle.abt_draw.specs.Escapes as spec;
 ghost use Rattle.abt_draw.specs.Pictures.{IsSvg, IsPage, IsFile};
 ghost use Rattle.abt_draw.specs.Within.{Grows, Holds};
 
-use crate::picture::push_picture;
+use crate::picture::{axis_of, push_picture};
+use crate::script::{KEYS, PAGE, script};
 use crate::sheet::Sheet;
-use crate::style::{KEYS, PAGE, definitions, script, shapes};
+use crate::style::{definitions, shapes};
 use crate::{Picture, Point, Size, escaped, push_document, push_line};
 use std::alloc::{AllocError, Global};
 
@@ -34,7 +35,7 @@ fn svg_of(sheet: &Sheet<'_>, explanation: &str) -> Result<String, AllocError>
     let title = title_of(sheet)?;
     let mut content = String::new(alloc);
     let lower = push_picture(sheet, &mut content, explanation)?;
-    push_cursor(sheet, &mut content, lower)?;
+    push_cursor(sheet, &mut content)?;
     let size = Size {
         width: sheet.width(),
         height: lower,
@@ -53,7 +54,7 @@ fn svg_of(sheet: &Sheet<'_>, explanation: &str) -> Result<String, AllocError>
 
 // The line across the bands that goes with the event that a page shows.
 #[tactic(auto, using(crate::proofs::Within::growing))]
-fn push_cursor(sheet: &Sheet<'_>, out: &mut String, lower: u64) -> Result<(), AllocError>
+fn push_cursor(sheet: &Sheet<'_>, out: &mut String) -> Result<(), AllocError>
     ensures { OnOk result (Grows (string_bytes out.old) (string_bytes out.new)) }
 {
     let from = Point {
@@ -62,7 +63,7 @@ fn push_cursor(sheet: &Sheet<'_>, out: &mut String, lower: u64) -> Result<(), Al
     };
     let to = Point {
         x: 0,
-        y: lower.saturating_sub(400),
+        y: axis_of(sheet),
     };
     push_line(sheet.alloc, out, "cursor", from, to)
 }
@@ -131,7 +132,7 @@ fn push_both(
     let text = escaped(alloc, explanation)?;
     write!(
         out,
-        "<div class='picture'>\n{picture}</div>\n<h2>The same in words</h2>\n"
+        "<div class='both'>\n<div class='picture'>\n{picture}</div>\n<aside id='held' aria-label='What is held'></aside>\n</div>\n<h2>The same in words</h2>\n"
     )?;
     write!(out, "<pre>{text}</pre>\n")
 }

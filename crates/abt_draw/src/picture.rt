@@ -2,6 +2,7 @@
 ghost use Rattle.std.specs.Prelude.{◌≡◌, ◌+◌, ◌<◌, ℕ, Some, OnOk, slice_get, string_bytes};
 ghost use Rattle.abt_chart.specs.declared.crossings.Crossing.{Crossing};
 ghost use Rattle.abt_draw.specs.Bands.{HasBands, HasPortBand, HasPortBands, HasSourceBand, HasSourceBands};
+ghost use Rattle.abt_draw.specs.Legend.{HasLegend};
 ghost use Rattle.abt_draw.specs.Lifelines.{HasLifelines};
 ghost use Rattle.abt_draw.specs.Rows.{HasRow, HasRows};
 ghost use Rattle.abt_draw.specs.Stuck.{HasStuckRows};
@@ -9,6 +10,7 @@ ghost use Rattle.abt_draw.specs.Within.{Grows};
 ghost use Rattle.abt_draw.specs.declared.actor.Actor.TheVariants.{Port, Source};
 
 use crate::band::{BAND_STEP, Band, edge_of, push_ground};
+use crate::legend::push_legend;
 use crate::lifeline::push_lifelines;
 use crate::rates::{most_of, push_rates};
 use crate::row::push_row;
@@ -29,26 +31,29 @@ pub(crate) fn push_picture(
     ensures rows { OnOk result (HasRows sheet.now explanation.now (string_bytes out.new)) }
     ensures stuck { OnOk result (HasStuckRows sheet.now (string_bytes out.new)) }
     ensures bands { OnOk result (HasBands sheet.now (string_bytes out.new)) }
+    ensures legend { OnOk result (HasLegend (string_bytes out.new)) }
 {
     push_lifelines(sheet, out)?;
     push_rows(sheet, out, explanation)?;
     push_stuck(sheet, out)?;
-    push_bands(sheet, out)
+    let lower = push_bands(sheet, out)?;
+    push_legend(sheet, out, lower)
 }
 
-// The rows of the events that are shown.
+// The rows of the events that are shown, and above all their lines the words of their arrows.
 fn push_rows(sheet: &Sheet<'_>, out: &mut String, explanation: &str) -> Result<(), AllocError>
     ensures grows { OnOk result (Grows (string_bytes out.old) (string_bytes out.new)) }
     ensures rows { OnOk result (HasRows sheet.now explanation.now (string_bytes out.new)) }
 {
     let events = sheet.chart.told.as_slice();
+    let mut notes = String::new(sheet.alloc);
     let mut rest = explanation;
     for (event, told) in events.iter().enumerate() {
         let (line, behind) = line_of(rest);
-        push_shown(sheet, out, event, told, line)?;
+        push_shown(sheet, out, &mut notes, event, told, line)?;
         rest = behind;
     }
-    Ok(())
+    out.push_str(notes.as_str())
 }
 
 // The row of an event, if it is shown.
@@ -56,6 +61,7 @@ fn push_rows(sheet: &Sheet<'_>, out: &mut String, explanation: &str) -> Result<(
 fn push_shown(
     sheet: &Sheet<'_>,
     out: &mut String,
+    notes: &mut String,
     event: usize,
     told: &Told,
     line: &str,
@@ -71,22 +77,34 @@ fn push_shown(
     }
     let crossings = sheet.chart.crossings.as_slice();
     match crossings.get(event - sheet.rows.first) {
-        Some(crossing) => push_row(sheet, out, event, told, crossing, line),
+        Some(crossing) => push_row(sheet, out, notes, event, told, crossing, line),
         None => Ok(()),
     }
 }
 
-// The bands of the ports, then those of the sources, and the axis below them; the lower edge of all.
+// The axis, over it the bands of the ports, then those of the sources; the lower edge of all.
 fn push_bands(sheet: &Sheet<'_>, out: &mut String) -> Result<u64, AllocError>
     ensures grows { OnOk result (Grows (string_bytes out.old) (string_bytes out.new)) }
     ensures bands { OnOk result (HasBands sheet.now (string_bytes out.new)) }
 {
+    let lower = axis_of(sheet);
+    push_axis(sheet, out, lower)?;
     let base = sheet.bottom().saturating_add(BAND_STEP);
     let base = push_ports(sheet, out, base)?;
-    let base = push_sources(sheet, out, base)?;
-    let lower = base.saturating_sub(BAND_STEP);
-    push_axis(sheet, out, lower)?;
-    Ok(lower.saturating_add(400))
+    push_sources(sheet, out, base)?;
+    Ok(lower.saturating_add(320))
+}
+
+/// Where the axis is: at the base of the last band. Ports and sources have a band.
+pub(crate) fn axis_of(sheet: &Sheet<'_>) -> u64 {
+    let mut lower = sheet.bottom();
+    for actor in sheet.columns {
+        match actor {
+            Actor::Port(_) | Actor::Source(_) => lower = lower.saturating_add(BAND_STEP),
+            Actor::End(_) => {}
+        }
+    }
+    lower
 }
 
 // The bands of the ports, from this base on; the base behind them.

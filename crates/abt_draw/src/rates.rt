@@ -8,7 +8,7 @@ ghost use Rattle.abt_draw.specs.Within.{Grows};
 use crate::band::{Band, edge_of};
 use crate::height_of;
 use crate::sheet::Sheet;
-use crate::stack::push_step;
+use crate::stack::{Level, Part, push_step};
 use abt_chart::Frame;
 use std::alloc::AllocError;
 
@@ -58,8 +58,11 @@ pub(crate) fn push_rates(
         if next < frames.len() && rate_in(&frames[next], conn) == rates {
             continue;
         }
-        let (from, to) = (edge_of(sheet, first), edge_of(sheet, next));
-        before = Some(push_pair(sheet, out, band, from, to, rates, before)?);
+        let part = Part {
+            from: edge_of(sheet, first),
+            to: edge_of(sheet, next),
+        };
+        before = Some(push_pair(sheet, out, band, part, rates, before)?);
         first = next;
     }
     Ok(())
@@ -71,8 +74,7 @@ fn push_pair(
     sheet: &Sheet<'_>,
     out: &mut String,
     band: Band,
-    from: u64,
-    to: u64,
+    part: Part,
     rates: (u64, u64),
     before: Option<(u64, u64)>,
 ) -> Result<(u64, u64), AllocError>
@@ -80,12 +82,23 @@ fn push_pair(
     ensures grows { OnOk result (Grows (string_bytes out.old) (string_bytes out.new)) }
     ensures drawn { OnOk result (DrawsSource band.base band.most rates.0 rates.1 (string_bytes out.new)) }
 {
-    let heights = (height_of(rates.0, band.most), height_of(rates.1, band.most));
     let (old_rate, old_least) = match before {
         Some((rate, least)) => (Some(rate), Some(least)),
         None => (None, None),
     };
-    push_step(sheet, out, "least", band, from, to, heights.1, old_least)?;
-    push_step(sheet, out, "rate", band, from, to, heights.0, old_rate)?;
-    Ok(heights)
+    let least = Level {
+        class: "least",
+        what: "held along the path: at least",
+        units: rates.1,
+        before: old_least,
+    };
+    push_step(sheet, out, band, part, &least)?;
+    let rate = Level {
+        class: "rate",
+        what: "shapes at",
+        units: rates.0,
+        before: old_rate,
+    };
+    push_step(sheet, out, band, part, &rate)?;
+    Ok((height_of(rates.0, band.most), height_of(rates.1, band.most)))
 }

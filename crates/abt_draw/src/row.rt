@@ -6,7 +6,8 @@ ghost use Rattle.abt_draw.specs.Rows.{DrawsArrow, DrawsArrival, DrawsLost, Draws
 ghost use Rattle.abt_draw.specs.Rows as spec;
 ghost use Rattle.abt_draw.specs.Within.{Grows};
 
-use crate::mark::{Mark, mark_of, push_cross, push_mark};
+use crate::arrow::standing;
+use crate::mark::{Mark, actor_of, mark_of, push_cross, push_mark};
 use crate::sheet::Sheet;
 use crate::words::{answer_in, clipped, message_words};
 use crate::{
@@ -17,11 +18,12 @@ use abt_chart::{Arrival, Crossing, Departure, Kind, Message, Told};
 use abt_format::push_event;
 use std::alloc::AllocError;
 
-/// Adds the row of an event, whose line in the explanation of its run this is.
+/// Adds the row of an event, whose line in the explanation of its run this is, and to the notes the words of its arrows.
 #[tactic(auto, using(crate::proofs::Within::growing))]
 pub(crate) fn push_row(
     sheet: &Sheet<'_>,
     out: &mut String,
+    notes: &mut String,
     event: usize,
     told: &Told,
     crossing: &Crossing,
@@ -35,11 +37,11 @@ pub(crate) fn push_row(
     let number = event + 1;
     let mut content = String::new(alloc);
     push_words(sheet, &mut content, event, number, told, line)?;
-    push_brought(sheet, &mut content, event, crossing)?;
-    push_sent(sheet, &mut content, event, crossing)?;
+    push_brought(sheet, &mut content, notes, event, crossing)?;
+    push_sent(sheet, &mut content, notes, event, crossing)?;
     push_mark(sheet, &mut content, event, told)?;
     let name = format!(in alloc; "e{number}")?;
-    let class = class_of(told);
+    let class = class_of(sheet, told);
     push_group(alloc, out, class, name.as_str(), line, content.as_str())
 }
 
@@ -48,6 +50,7 @@ pub(crate) fn push_row(
 fn push_brought(
     sheet: &Sheet<'_>,
     out: &mut String,
+    notes: &mut String,
     event: usize,
     crossing: &Crossing,
 ) -> Result<(), AllocError>
@@ -56,7 +59,10 @@ fn push_brought(
         (λ arrival. DrawsArrival sheet.now event arrival (string_bytes out.new))) }
 {
     match &crossing.arrival {
-        Some(arrival) => push_arrival(sheet, out, event, arrival, crossing.departure.as_ref()),
+        Some(arrival) => {
+            let departure = crossing.departure.as_ref();
+            push_arrival(sheet, out, notes, event, arrival, departure)
+        }
         None => Ok(()),
     }
 }
@@ -66,6 +72,7 @@ fn push_brought(
 fn push_sent(
     sheet: &Sheet<'_>,
     out: &mut String,
+    notes: &mut String,
     event: usize,
     crossing: &Crossing,
 ) -> Result<(), AllocError>
@@ -74,15 +81,18 @@ fn push_sent(
         (λ departure. DrawsDeparture sheet.now event departure (string_bytes out.new))) }
 {
     match &crossing.departure {
-        Some(departure) => push_departure(sheet, out, event, departure),
+        Some(departure) => push_departure(sheet, out, notes, event, departure),
         None => Ok(()),
     }
 }
 
-fn class_of(told: &Told) -> &'static str {
-    match mark_of(&told.outcome) {
-        Some(Mark::Refused) => "event bad",
-        Some(Mark::Idle) => "event off",
+// How the row of an event looks: what happens on no lifeline of the picture is pale.
+fn class_of(sheet: &Sheet<'_>, told: &Told) -> &'static str {
+    let place = standing(sheet.columns, actor_of(sheet.net, &told.event));
+    match (place, mark_of(&told.outcome)) {
+        (_, Some(Mark::Idle)) => "event off",
+        (None, _) => "event else",
+        (_, Some(Mark::Refused)) => "event bad",
         _ => "event",
     }
 }
@@ -132,6 +142,7 @@ fn push_words(
 fn push_arrival(
     sheet: &Sheet<'_>,
     out: &mut String,
+    notes: &mut String,
     event: usize,
     arrival: &Arrival,
     departure: Option<&Departure>,
@@ -140,16 +151,18 @@ fn push_arrival(
     ensures drawn { OnOk result (DrawsArrival sheet.now event arrival.now (string_bytes out.new)) }
 {
     match arrow_of(sheet.net, sheet.columns, &sheet.rows, event, arrival) {
-        Some(arrow) => push_arrow(sheet, out, &arrow, departure),
+        Some(arrow) => push_arrow(sheet, out, notes, &arrow, departure),
         None => Ok(()),
     }
 }
 
-// An arrow, with its words below its head: on the side from which it comes, or on the other one, if what the event sends goes back there.
+// An arrow, and among the notes its words, below its head: on the side from which it comes, or on the other one, if what the event sends
+// goes back there.
 #[tactic(auto, using(crate::proofs::Within::growing))]
 fn push_arrow(
     sheet: &Sheet<'_>,
     out: &mut String,
+    notes: &mut String,
     arrow: &Arrow,
     departure: Option<&Departure>,
 ) -> Result<(), AllocError>
@@ -164,10 +177,10 @@ fn push_arrow(
     let y = to.y.saturating_add(95);
     if is_noted_behind(sheet, from.x, to.x, departure) {
         let x = to.x.saturating_add(60);
-        push_label(alloc, out, "note", Point { x, y }, words.as_str())
+        push_label(alloc, notes, "note", Point { x, y }, words.as_str())
     } else {
         let x = to.x.saturating_sub(60);
-        push_label(alloc, out, "note end", Point { x, y }, words.as_str())
+        push_label(alloc, notes, "note end", Point { x, y }, words.as_str())
     }
 }
 
@@ -212,6 +225,7 @@ fn arrow_class(arrow: &Arrow) -> &'static str
 fn push_departure(
     sheet: &Sheet<'_>,
     out: &mut String,
+    notes: &mut String,
     event: usize,
     departure: &Departure,
 ) -> Result<(), AllocError>
@@ -226,10 +240,10 @@ fn push_departure(
                 again: false,
                 late: false,
             };
-            push_arrival(sheet, out, came, &leaving, None)
+            push_arrival(sheet, out, notes, came, &leaving, None)
         }
         Some(_) => Ok(()),
-        None => push_lost(sheet, out, event, departure),
+        None => push_lost(sheet, out, notes, event, departure),
     }
 }
 
@@ -245,6 +259,7 @@ fn is_behind(sheet: &Sheet<'_>, event: usize) -> bool
 fn push_lost(
     sheet: &Sheet<'_>,
     out: &mut String,
+    notes: &mut String,
     event: usize,
     departure: &Departure,
 ) -> Result<(), AllocError>
@@ -253,14 +268,19 @@ fn push_lost(
         OnOk result (DrawsStump sheet.now event departure.now (string_bytes out.new)) }
 {
     match lost_of(sheet.net, sheet.columns, &sheet.rows, event, departure) {
-        Some(lost) => push_stump(sheet, out, &lost),
+        Some(lost) => push_stump(sheet, out, notes, &lost),
         None => Ok(()),
     }
 }
 
-// A message that never comes: the beginning of its way, a cross, and its words above.
+// A message that never comes: the beginning of its way, a cross, and among the notes its words, above.
 #[tactic(auto, using(crate::proofs::Within::growing))]
-fn push_stump(sheet: &Sheet<'_>, out: &mut String, lost: &Lost) -> Result<(), AllocError>
+fn push_stump(
+    sheet: &Sheet<'_>,
+    out: &mut String,
+    notes: &mut String,
+    lost: &Lost,
+) -> Result<(), AllocError>
     ensures grows { OnOk result (Grows (string_bytes out.old) (string_bytes out.new)) }
     ensures drawn { OnOk result (DrawsLost sheet.now lost.now (string_bytes out.new)) }
 {
@@ -273,7 +293,7 @@ fn push_stump(sheet: &Sheet<'_>, out: &mut String, lost: &Lost) -> Result<(), Al
         x: end.x,
         y: end.y.saturating_sub(45),
     };
-    push_label(sheet.alloc, out, "note middle", at, words.as_str())
+    push_label(sheet.alloc, notes, "note middle", at, words.as_str())
 }
 
 // Where the line of a message that never comes ends: half a column on its way, where no lifeline is.

@@ -19,7 +19,7 @@ pub struct Scene<'a> {
 /// An entry at which a journal is stuck.
 #[derive(Clone, Copy)]
 pub struct StuckMark<'a> {
-    /// Whose journal it is.
+    /// The source or port whose journal it is.
     pub actor: Actor,
     /// What is told of the entry.
     pub text: &'a str,

@@ -45,7 +45,7 @@ pub(crate) struct Sheet<'a> {
     ghost rows_few: { rows.count ≤ 2000 },
 }
 
-/// How far so many columns are apart.
+/// The distance between two of so many columns.
 pub(crate) fn step_of(columns: usize) -> u32
     ensures { 460 ≤ result }
 {
@@ -87,10 +87,13 @@ impl Sheet<'_> {
         u64::from(self.left.saturating_sub(self.step / 2).saturating_sub(20))
     }
 
-    /// The right edge of the picture.
+    /// The right edge of the picture. Behind the last column there is room for words.
     pub(crate) fn width(&self) -> u64 {
         let columns = self.columns.len() as u32;
-        self.x(columns).max(WIDTH_MIN)
+        let more = STEP_WIDE.saturating_sub(self.step);
+        self.x(columns)
+            .saturating_add(u64::from(more))
+            .max(WIDTH_MIN)
     }
 
     /// The lower edge of the rows of events.

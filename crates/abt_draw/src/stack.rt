@@ -7,10 +7,16 @@ ghost use Rattle.abt_draw.specs.Within.{Grows};
 
 use crate::band::{Band, edge_of};
 use crate::sheet::Sheet;
-use crate::words::short_rate;
-use crate::{Block, Point, Size, blocks_of, height_of, push_label, push_line, push_rect};
+use crate::words::{short_rate, told_hold, told_rate};
+use crate::{
+    Block, Point, Size, blocks_of, height_of, push_label, push_line, push_rect, push_told_line,
+    push_told_rect,
+};
 use abt_chart::Frame;
 use std::alloc::AllocError;
+
+// How wide a sign of a block's words is at most, in tenths of a unit.
+const SIGN_WIDTH: u64 = 46;
 
 // The rates that connections hold on a port, and its capacity.
 fn stack_in(frame: &Frame, port: u16) -> &[u64]
@@ -81,11 +87,20 @@ pub(crate) fn push_stacks(
     Ok(())
 }
 
-// A part of the axis.
+/// A part of the axis.
 #[derive(Clone, Copy)]
-struct Part {
-    from: u64,
-    to: u64,
+pub(crate) struct Part {
+    pub(crate) from: u64,
+    pub(crate) to: u64,
+}
+
+/// A level of a line that goes in steps: its class, what it is of, its value, and how high the line was before, if it was there.
+#[derive(Clone, Copy)]
+pub(crate) struct Level<'a> {
+    pub(crate) class: &'a str,
+    pub(crate) what: &'a str,
+    pub(crate) units: u64,
+    pub(crate) before: Option<u64>,
 }
 
 // A stack and the line of the capacity, and how that comes from where it was; its height.
@@ -106,11 +121,15 @@ fn push_part(
 {
     let stack = stack_in(frame, port);
     push_stack(sheet, out, stack, band, part)?;
-    let height = height_of(capacity_in(frame, port), band.most);
-    push_step(
-        sheet, out, "capacity", band, part.from, part.to, height, before,
-    )?;
-    Ok(height)
+    let capacity = capacity_in(frame, port);
+    let level = Level {
+        class: "capacity",
+        what: "capacity",
+        units: capacity,
+        before,
+    };
+    push_step(sheet, out, band, part, &level)?;
+    Ok(height_of(capacity, band.most))
 }
 
 // The blocks of a stack.
@@ -151,7 +170,7 @@ fn push_block(
     part: Part,
 ) -> Result<(), AllocError>
     ensures grows { OnOk result (Grows (string_bytes out.old) (string_bytes out.new)) }
-    ensures drawn { OnOk result (held ≢ 0 → HasBlock band.base conn block (string_bytes out.new)) }
+    ensures drawn { OnOk result (held ≢ 0 → HasBlock band.base conn held block (string_bytes out.new)) }
 {
     if held == 0 {
         return Ok(());
@@ -167,11 +186,12 @@ fn push_block(
     let alloc = sheet.alloc;
     let colour = conn % 6;
     let class = format!(in alloc; "hold h{colour}")?;
-    push_rect(alloc, out, class.as_str(), at, size)?;
+    let told = told_hold(alloc, conn, held)?;
+    push_told_rect(alloc, out, class.as_str(), at, size, told.as_str())?;
     push_held(sheet, out, conn, held, at, size)
 }
 
-// What a connection holds, in its block, if there is room for that.
+// What a connection holds, in its block and on a ground without a pattern, if there is room for that.
 #[tactic(auto, using(crate::proofs::Within::growing))]
 fn push_held(
     sheet: &Sheet<'_>,
@@ -185,14 +205,21 @@ fn push_held(
 {
     let alloc = sheet.alloc;
     let rate = short_rate(alloc, held)?;
-    let words = format!(in alloc; "{conn}: {rate}")?;
-    let room = (words.len() as u64).saturating_mul(46).saturating_add(40);
-    if size.height < 90 || size.width < room {
+    let words = format!(in alloc; "c{conn}: {rate}")?;
+    let width = (words.len() as u64).saturating_mul(SIGN_WIDTH);
+    if size.height < 90 || size.width < width.saturating_add(40) {
         return Ok(());
     }
+    let middle = at.y.saturating_add(size.height / 2);
+    let corner = Point {
+        x: at.x.saturating_add(20),
+        y: middle.saturating_sub(42),
+    };
+    let ground = Size { width, height: 84 };
+    push_rect(alloc, out, "paper", corner, ground)?;
     let at = Point {
         x: at.x.saturating_add(30),
-        y: at.y.saturating_add(size.height / 2).saturating_add(30),
+        y: middle.saturating_add(30),
     };
     push_label(alloc, out, "note", at, words.as_str())
 }
@@ -202,20 +229,30 @@ fn push_held(
 pub(crate) fn push_step(
     sheet: &Sheet<'_>,
     out: &mut String,
-    class: &str,
     band: Band,
-    from: u64,
-    to: u64,
-    height: u64,
-    before: Option<u64>,
+    part: Part,
+    level: &Level<'_>,
 ) -> Result<(), AllocError>
+    requires { level.now.units ≤ band.most }
     ensures grows { OnOk result (Grows (string_bytes out.old) (string_bytes out.new)) }
-    ensures drawn { OnOk result (HasLevel class.now band.base height (string_bytes out.new)) }
+    ensures drawn { OnOk result (HasLevel level.now.class.now level.now.what.now band.base band.most level.now.units
+        (string_bytes out.new)) }
 {
     let alloc = sheet.alloc;
+    let height = height_of(level.units, band.most);
+    push_rise(
+        sheet,
+        out,
+        level.class,
+        band,
+        part.from,
+        height,
+        level.before,
+    )?;
+    let told = told_rate(alloc, level.what, level.units)?;
     let y = band.y(height);
-    push_rise(sheet, out, class, band, from, height, before)?;
-    push_line(alloc, out, class, Point { x: from, y }, Point { x: to, y })
+    let (from, to) = (Point { x: part.from, y }, Point { x: part.to, y });
+    push_told_line(alloc, out, level.class, from, to, told.as_str())
 }
 
 // How a line comes to a height from where it was before, if that is elsewhere.

@@ -65,7 +65,7 @@ fn push_shape(
     push_cross(sheet, out, "stuck", at, 40)
 }
 
-// Whose journal is stuck, and below that the entry, as far as there is room.
+// The name of the actor whose journal is stuck, and below that the entry, as far as there is room.
 fn push_words(
     sheet: &Sheet<'_>,
     out: &mut String,

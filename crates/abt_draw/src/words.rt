@@ -1,14 +1,17 @@
 //! The words that stand in a picture.
+ghost use Rattle.std.specs.Prelude.{◌≡◌, IfOk, string_bytes};
+ghost use Rattle.abt_draw.specs.Bands as spec;
+
 use crate::sheet::Sheet;
 use abt_chart::{Kind, Message, Told};
 use abt_rate::Rate;
 use abt_world::Outcome;
 use std::alloc::{AllocError, Global};
 
-// How many signs of an answer stand in a picture at most.
+// The most characters of an answer that a picture shows.
 const SIGNS_MAX: usize = 64;
 
-/// The words beside an arrow: what it is, the number of its request, and the rate that was asked for.
+/// The words beside an arrow: its connection, what it is, the number of its request, and the rate that was asked for.
 pub(crate) fn message_words(
     sheet: &Sheet<'_>,
     message: &Message,
@@ -16,9 +19,10 @@ pub(crate) fn message_words(
     late: bool,
 ) -> Result<String, AllocError> {
     let alloc = sheet.alloc;
+    let conn = message.conn;
     let kind = kind_word(message.kind);
     let seq = message.seq;
-    let mut words = format!(in alloc; "{kind}{seq}")?;
+    let mut words = format!(in alloc; "c{conn} {kind}r{seq}")?;
     if let Some(rate) = asked_rate(sheet.chart.told.as_slice(), message) {
         let rate = short_rate(alloc, rate.units())?;
         write!(words, ": {rate}")?;
@@ -53,10 +57,35 @@ fn asked_rate(told: &[Told], message: &Message) -> Option<Rate> {
 }
 
 /// A rate in whole cells per second, with a sign behind it if more than that is meant.
-pub(crate) fn short_rate(alloc: Global, units: u64) -> Result<String, AllocError> {
+pub(crate) fn short_rate(alloc: Global, units: u64) -> Result<String, AllocError>
+    ensures { IfOk result (λ words. string_bytes words ≡ spec.short_rate units) }
+{
     let whole = units / 512;
-    let more = if units % 512 == 0 { "" } else { "+" };
+    let more = more_of(units);
     format!(in alloc; "{whole}{more}")
+}
+
+// The sign of a rate that isn't whole.
+fn more_of(units: u64) -> &'static str
+    ensures { result.now ≡ spec.more_of units }
+{
+    if units % 512 == 0 { "" } else { "+" }
+}
+
+/// What is told of a rate: what it is of, the rate, and its unit.
+pub(crate) fn told_rate(alloc: Global, what: &str, units: u64) -> Result<String, AllocError>
+    ensures { IfOk result (λ words. string_bytes words ≡ spec.told_rate what.now units) }
+{
+    let rate = short_rate(alloc, units)?;
+    format!(in alloc; "{what} {rate} cells/s")
+}
+
+/// What is told of the block of a connection.
+pub(crate) fn told_hold(alloc: Global, conn: usize, held: u64) -> Result<String, AllocError>
+    ensures { IfOk result (λ words. string_bytes words ≡ spec.told_hold conn held) }
+{
+    let what = format!(in alloc; "c{conn} holds")?;
+    told_rate(alloc, what.as_str(), held)
 }
 
 /// The answer in the line of an explanation: what stands behind its first colon.

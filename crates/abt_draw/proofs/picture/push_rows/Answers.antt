@@ -7,8 +7,9 @@ use Rattle.abt_chart.specs.declared.told.Told.{Told}
 use Rattle.abt_draw.specs.Lines.{line_at, first_line, behind_line, behind_lines}
 use Rattle.abt_draw.specs.Rows.{HasRow}
 use Rattle.abt_draw.specs.declared.sheet.Sheet.{Sheet}
-use Rattle.abt_draw.proofs.Shown.{row_still}
-use Rattle.abt_draw.proofs.Within.{grows_on}
+use Rattle.std.proofs.lemmas.Result.{on_ok_weaker}
+use Rattle.abt_draw.proofs.Shown.{row_still, rows_still}
+use Rattle.abt_draw.proofs.Within.{grows_on, grows_pushed}
 use Rattle.abt_draw.proofs.picture.push_rows.Goals as goal
 
 behind_more : (text : List ℕ) (n : ℕ) → behind_line (behind_lines text n) ≡ behind_lines text (n + 1)
@@ -49,8 +50,14 @@ loop-event-preserved c =
     )
 
 pub returns-clause-rows : goal.returns-clause-rows
-returns-clause-rows c = record {
-  each = λ k told crossing is_told is_crossing.
-      let low = slice_get_within c.args.sheet.now.chart.now.told (c.args.sheet.now.rows.first + k) told is_told in
-      c.loop-event.invariant.3 k told crossing (omega (arith, low, c.loop-event-test.false, ap length c.as_slice-events.ensures)) is_told is_crossing;
-}
+returns-clause-rows c = on_ok_weaker c.push_str.result
+    (λ more. rows_still c.args.sheet.now c.args.explanation.now _ _ more (record {
+      each = λ k told crossing is_told is_crossing.
+          let low = slice_get_within c.args.sheet.now.chart.now.told (c.args.sheet.now.rows.first + k) told is_told in
+          c.loop-event.invariant.3 k told crossing (omega (arith, low, c.loop-event-test.false, ap length c.as_slice-events.ensures)) is_told is_crossing;
+    }))
+    (grows_pushed c.push_str.result _ _ _ c.push_str.ensures.bytes)
+
+pub returns-clause-grows : goal.returns-clause-grows
+returns-clause-grows c =
+    on_ok_weaker c.push_str.result (grows_on _ _ _ c.loop-event.invariant.2) (grows_pushed c.push_str.result _ _ _ c.push_str.ensures.bytes)

@@ -9,5 +9,5 @@ abbrev pub invariant-loop-conn : goal.invariant-loop-conn
 invariant-loop-conn l = record {
   grows : Grows (string_bytes l.initial.out) (string_bytes l.out);
   drawn : (c held : ℕ) → c < l.conn → sum l.stack ≤ l.band.most → slice_get l.stack c ≡ Some held → held ≢ 0
-      → HasBlock l.band.base c (block_in l.stack l.band.most c) (string_bytes l.out);
+      → HasBlock l.band.base c held (block_in l.stack l.band.most c) (string_bytes l.out);
 }
