@@ -3,4 +3,3 @@ pub mod Nearest
 pub mod CodeText
 pub mod Message
 pub mod Printed
-pub mod Plans

@@ -1,7 +1,6 @@
 //! Rates in words, the codes nearest to them, cells in words, and what is printed of these.
 #![tactic(auto)]
 
-mod command;
 mod fault;
 mod message;
 mod nearest;
@@ -11,7 +10,6 @@ mod quantity;
 mod text;
 mod written;
 
-pub use command::{add_commands, plan_of};
 pub use fault::CodesFault;
 pub use message::{Kind, MessageWords, rm_in};
 pub use nearest::{above, below, exactly, rate_said};

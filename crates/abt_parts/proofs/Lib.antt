@@ -1,4 +1,5 @@
+mod Decoding
 mod Digits
-mod Hexadecimal
+mod Served
 mod Unserved
 mod Words

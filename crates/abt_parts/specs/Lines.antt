@@ -1,5 +1,5 @@
 -- Answers to lines (docs/FORMATS.md, "Parts by hand"): one line for each line, which begins with its number.
-use Rattle.std.specs.Prelude.{ℕ, ◌+◌, List, [], ◌∷◌, Option, Some, None, Result, Ok, Err, codes}
+use Rattle.std.specs.Prelude.{◌≡◌, ℕ, ◌+◌, List, [], ◌∷◌, Option, Some, None, Result, Ok, Err, codes}
 use Rattle.abt_text.specs.Text.{Text, ◌⋅◌, newline, decimal}
 use Rattle.abt_text.specs.Words.{number_of}
 use Rattle.abt_parts.specs.declared.fault.LineFault.{LineFault}
@@ -37,6 +37,11 @@ past_moment next kept (Err fault) = kept
 -- the line that answers the line of a number
 abbrev pub numbered : ℕ → Text → Text
 numbered number answer = decimal number ⋅ codes " " ⋅ answer ⋅ newline
+
+-- a line is answered so, behind its number, and what is kept is then that
+abbrev pub IsAnswer : {Kept : Type 0} → (answer : Kept → Option Text → Text) → (next : Kept → Option Text → Kept) → (old : Kept) → ℕ → Option Text
+    → (said : Text) → (new : Kept) → Type 0
+IsAnswer answer next old number line said new = (said ≡ numbered number (answer old line)) × (new ≡ next old line)
 
 -- The answers to some lines, the first of this number, by the answer to a line, what is kept then, and what is said
 -- behind the last line.

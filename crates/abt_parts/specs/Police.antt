@@ -1,12 +1,14 @@
 -- A policer that is handed arrivals line by line (docs/FORMATS.md, "Parts by hand").
-use Rattle.std.specs.Prelude.{ℕ, ◌-◌, nat_lt, if◌then◌else◌, List, [], Option, Some, None, codes}
+use Rattle.std.specs.Prelude.{◌≡◌, ℕ, ◌-◌, nat_lt, if◌then◌else◌, List, [], Option, Some, None, codes}
 use Rattle.abt_rate.specs.Limits.{arrive_max}
 use Rattle.abt_gcra.specs.declared.verdict.Verdict.{Verdict}
 use Rattle.abt_gcra.specs.Policing.{Policing, due_at, policed}
 use Rattle.abt_text.specs.Text.{Text, ◌⋅◌, decimal}
 use Rattle.abt_format.specs.Names.{verdict_name}
+use Rattle.abt_lines.specs.Runs.{Ends, Steps}
 use Rattle.abt_parts.specs.declared.fault.LineFault.TheVariants.{ClockBack, TimeRange}
-use Rattle.abt_parts.specs.Lines.{answers_of, fault_text, moment_of, past_moment, to_moment}
+use Rattle.abt_parts.specs.declared.police.PolicedLines.{PolicedLines}
+use Rattle.abt_parts.specs.Lines.{IsAnswer, answers_of, fault_text, moment_of, past_moment, to_moment}
 
 -- a theoretical arrival time, which is absent until a cell was taken
 abbrev pub tat_text : Option ℕ → Text
@@ -42,6 +44,14 @@ policed_text held policing line = to_moment (arrival_text policing held) (moment
 
 abbrev pub policed_past : (held : ℕ) → Policing → Option Text → Policing
 policed_past held policing line = past_moment (past_arrival policing held) policing (moment_of line)
+
+-- the steps of a policer over lines, whose rate stays; nothing is said behind the last
+abbrev pub PolicesLine : Steps PolicedLines
+PolicesLine old number line said new =
+    IsAnswer (policed_text old.held) (policed_past old.held) old.policer number line said new.policer × (new.held ≡ old.held)
+
+abbrev pub EndsPolicing : Ends PolicedLines
+EndsPolicing last number said = said ≡ []
 
 -- the answers to some lines, the first of this number; nothing is said behind the last
 abbrev pub policed_lines : (held : ℕ) → Policing → ℕ → List (Option Text) → Text

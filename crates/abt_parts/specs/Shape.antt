@@ -1,11 +1,13 @@
 -- A shaper that is handed moments line by line (docs/FORMATS.md, "Parts by hand").
-use Rattle.std.specs.Prelude.{ℕ, ◌+◌, ◌==◌, nat_lt, max, if◌then◌else◌, List, [], Option, Some, codes}
+use Rattle.std.specs.Prelude.{◌≡◌, ℕ, ◌+◌, ◌==◌, nat_lt, max, if◌then◌else◌, List, [], Option, Some, codes}
 use Rattle.abt_rate.specs.Limits.{emit_max}
 use Rattle.abt_rate.specs.Rate.{spacing_of}
 use Rattle.abt_shaper.specs.Shaping.{Shaping}
 use Rattle.abt_text.specs.Text.{Text, ◌⋅◌, decimal}
+use Rattle.abt_lines.specs.Runs.{Ends, Steps}
 use Rattle.abt_parts.specs.declared.fault.LineFault.TheVariants.{TimeRange, Zero}
-use Rattle.abt_parts.specs.Lines.{answers_of, fault_text, moment_of, past_moment, to_moment}
+use Rattle.abt_parts.specs.declared.shape.ShapedLines.{ShapedLines}
+use Rattle.abt_parts.specs.Lines.{IsAnswer, answers_of, fault_text, moment_of, past_moment, to_moment}
 
 -- a cell leaves as soon as it is ready and the shaper lets it
 abbrev pub leaves_at : Shaping → ℕ → ℕ
@@ -34,6 +36,14 @@ shaped_text rate shaping line = to_moment (ready_text shaping rate) (moment_of l
 
 abbrev pub shaped_past : (rate : ℕ) → Shaping → Option Text → Shaping
 shaped_past rate shaping line = past_moment (past_ready shaping rate) shaping (moment_of line)
+
+-- the steps of a shaper over lines, whose rate stays; nothing is said behind the last
+abbrev pub ShapesLine : Steps ShapedLines
+ShapesLine old number line said new =
+    IsAnswer (shaped_text old.rate) (shaped_past old.rate) old.shaper number line said new.shaper × (new.rate ≡ old.rate)
+
+abbrev pub EndsShaping : Ends ShapedLines
+EndsShaping last number said = said ≡ []
 
 -- the answers to some lines, the first of this number; nothing is said behind the last
 abbrev pub shaped_lines : (rate : ℕ) → Shaping → ℕ → List (Option Text) → Text

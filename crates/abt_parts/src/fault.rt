@@ -1,8 +1,9 @@
 //! Why a line isn't served.
-ghost use Rattle.std.specs.Prelude.{◌≡◌, IfOk, string_bytes};
+ghost use Rattle.std.specs.Prelude.{◌≡◌, OnOk, string_bytes};
+ghost use Rattle.abt_text.specs.Text.{◌⋅◌};
 ghost use Rattle.abt_parts.specs.Lines.{fault_name, fault_text};
 
-use std::alloc::{AllocError, Global};
+use std::alloc::AllocError;
 
 /// Why a line isn't served. It shows itself by the name that the answer to the line has (docs/FORMATS.md, "Parts by hand").
 #[derive(Clone, Copy, Debug, PartialEq, Eq)]
@@ -34,10 +35,10 @@ impl LineFault {
     }
 }
 
-// The answer to a line that has a fault.
-pub(crate) fn fault_text(alloc: Global, fault: LineFault) -> Result<String, AllocError>
-    ensures { IfOk result (λ text. string_bytes text ≡ fault_text fault) }
+// Adds the answer to a line that has a fault to a text.
+pub(crate) fn push_fault(text: &mut String, fault: LineFault) -> Result<(), AllocError>
+    ensures { OnOk result (string_bytes text.new ≡ string_bytes text.old ⋅ fault_text fault) }
 {
-    let name = fault.name();
-    format!(in alloc; "fault {name}")
+    text.push_str("fault ")?;
+    text.push_str(fault.name())
 }

@@ -5,7 +5,10 @@ ghost use Rattle.abt_text.specs.Text.{Text, ◌⋅◌, newline};
 ghost use Rattle.abt_perform.specs.CellText.{cell_text};
 ghost use Rattle.abt_perform.specs.PortText.{fault_text, port_text};
 ghost use Rattle.abt_perform.specs.declared.fault.Fault.{Fault};
-ghost use Rattle.abt_parts.specs.Cells.{message_on, read_text, served_lines};
+ghost use Rattle.abt_lines.specs.Runs.{IsAnswering};
+ghost use Rattle.abt_parts.specs.Cells.{EndsReading, EndsServing, ReadsLine, ServesLine, message_on, read_lines, read_text, served_lines};
+ghost use Rattle.abt_parts.specs.Police.{EndsPolicing, PolicesLine, policed_lines};
+ghost use Rattle.abt_parts.specs.Shape.{EndsShaping, ShapesLine, shaped_lines};
 
 /// Cells on lines are answered as those that are words: by `abt port` in the very same text, and by `abt cell` behind the line's number.
 pub fn lines_are_as_words()
@@ -15,4 +18,12 @@ pub fn lines_are_as_words()
         text ≡ read_text (message_on (Some hex)) ⋅ newline }
     ensures fault { (hex : Text) (fault : Fault) → cell_text hex ≡ Err fault →
         read_text (message_on (Some hex)) ≡ fault_text fault }
+{}
+
+/// The steps of the four servers say, one after the other, what a function of the lines and of the server says.
+pub fn steps_are_functions()
+    ensures police { IsAnswering PolicesLine EndsPolicing (λ lines. policed_lines lines.held lines.policer) }
+    ensures shape { IsAnswering ShapesLine EndsShaping (λ lines. shaped_lines lines.rate lines.shaper) }
+    ensures cell { IsAnswering ReadsLine EndsReading (λ _. read_lines) }
+    ensures port { IsAnswering ServesLine EndsServing (λ lines. served_lines lines.port) }
 {}

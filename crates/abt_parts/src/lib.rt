@@ -3,8 +3,8 @@
 #![tactic(auto)]
 
 mod cells;
-mod command;
 mod fault;
+mod hex_digits;
 mod law;
 mod moment;
 mod performing;
@@ -14,9 +14,8 @@ mod serve;
 mod shape;
 
 pub use cells::ReadLines;
-pub use command::{add_commands, plan_of};
 pub use fault::LineFault;
-pub use law::lines_are_as_words;
+pub use law::{lines_are_as_words, steps_are_functions};
 pub use performing::perform_parts;
 pub use plan::PartsPlan;
 pub use police::PolicedLines;

@@ -1,13 +1,14 @@
-//! Moments in lines, and the lines that answer them.
-ghost use Rattle.std.specs.Prelude.{◌≡◌, OnOk, OnErr, string_bytes};
+//! Moments in lines, and numbers in answers.
+ghost use Rattle.std.specs.Prelude.{◌≡◌, OnOk, string_bytes};
 ghost use Rattle.std.specs.Option.{option_map};
-ghost use Rattle.abt_text.specs.Text.{◌⋅◌};
+ghost use Rattle.abt_text.specs.Text.{◌⋅◌, decimal};
 ghost use Rattle.abt_text.specs.Words.{number_of};
-ghost use Rattle.abt_parts.specs.Lines.{moment_of, numbered};
+ghost use Rattle.abt_parts.specs.Lines.{moment_of};
 
 use crate::fault::LineFault;
 use abt_text::u64_of;
-use std::alloc::{AllocError, Global};
+use itoa::Buffer;
+use std::alloc::AllocError;
 
 // The moment that a line says, in picoseconds.
 pub(crate) fn moment_of(line: Option<&[u8]>) -> Result<u64, LineFault>
@@ -29,16 +30,11 @@ fn number_of(octets: &[u8]) -> Option<u64>
     }
 }
 
-// Adds the line that answers the line of a number to a text.
-pub(crate) fn push_numbered(
-    alloc: Global,
-    text: &mut String,
-    number: u64,
-    answer: &str,
-) -> Result<(), AllocError>
-    ensures ok { OnOk result (string_bytes text.new ≡ string_bytes text.old ⋅ numbered number answer.now) }
-    ensures err { OnErr result (string_bytes text.new ≡ string_bytes text.old) }
+// Adds a word and the digits of a number behind it to a text.
+pub(crate) fn push_number(text: &mut String, word: &str, number: u64) -> Result<(), AllocError>
+    ensures { OnOk result (string_bytes text.new ≡ string_bytes text.old ⋅ word.now ⋅ decimal number) }
 {
-    let line = format!(in alloc; "{number} {answer}\n")?;
-    text.push_str(line.as_str())
+    let mut digits = Buffer::new();
+    text.push_str(word)?;
+    text.push_str(digits.format(number))
 }

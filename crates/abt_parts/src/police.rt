@@ -1,10 +1,11 @@
 //! A policer that is handed arrivals line by line.
-ghost use Rattle.std.specs.Prelude.{◌≡◌, IfOk, string_bytes};
+ghost use Rattle.std.specs.Prelude.{◌≡◌, OnOk, string_bytes};
 ghost use Rattle.std.specs.Option.{option_map};
+ghost use Rattle.abt_text.specs.Text.{◌⋅◌};
 ghost use Rattle.abt_parts.specs.Police.{arrival_text, early_of, past_arrival, policed_past, policed_text, tat_text, verdict_text};
 
-use crate::fault::{LineFault, fault_text};
-use crate::moment::{moment_of, push_numbered};
+use crate::fault::{LineFault, push_fault};
+use crate::moment::{moment_of, push_number};
 use abt_format::verdict_name;
 use abt_gcra::{GcraFault, Policer, Verdict};
 use abt_lines::LineServer;
@@ -21,19 +22,23 @@ pub struct PolicedLines {
 }
 
 impl LineServer for PolicedLines {
-    ghost use Rattle.abt_parts.specs.Police.{policed_lines};
+    ghost use Rattle.abt_parts.specs.Police.{EndsPolicing, PolicesLine};
 
-    ghost answers = { λ lines. policed_lines lines.held lines.policer };
+    ghost steps = { PolicesLine };
+
+    ghost ends = { EndsPolicing };
 
     fn answer(
         &mut self,
-        alloc: Global,
+        _alloc: Global,
         number: u64,
         line: Option<&[u8]>,
         text: &mut String,
     ) -> Result<(), AllocError> {
-        let answer = police_line(alloc, &mut self.policer, self.held, line)?;
-        push_numbered(alloc, text, number, answer.as_str())
+        push_number(text, "", number)?;
+        text.push_str(" ")?;
+        push_line(text, &mut self.policer, self.held, line)?;
+        text.push_str("\n")
     }
 
     fn end(&self, _alloc: Global, _number: u64, _text: &mut String) -> Result<(), AllocError> {
@@ -41,55 +46,58 @@ impl LineServer for PolicedLines {
     }
 }
 
-// The answer to a line: the verdict on a cell that arrives at the moment that it says, or the line's fault.
-fn police_line(
-    alloc: Global,
+// Adds the answer to a line: the verdict on a cell that arrives at the moment that it says, or the line's fault.
+fn push_line(
+    text: &mut String,
     policer: &mut Policer,
     held: Rate,
     line: Option<&[u8]>,
-) -> Result<String, AllocError>
-    ensures answer { IfOk result (λ answer. string_bytes answer
-        ≡ policed_text held policer.old (option_map (λ line. line.now) line.entry)) }
+) -> Result<(), AllocError>
+    ensures answer { OnOk result (string_bytes text.new ≡ string_bytes text.old
+        ⋅ policed_text held policer.old (option_map (λ line. line.now) line.entry)) }
     ensures policer { policer.new ≡ policed_past held policer.old (option_map (λ line. line.now) line.entry) }
 {
     match moment_of(line) {
-        Ok(at) => arrival_text(alloc, policer, held, at),
-        Err(fault) => fault_text(alloc, fault),
+        Ok(at) => push_arrival(text, policer, held, at),
+        Err(fault) => push_fault(text, fault),
     }
 }
 
-// The answer to a cell that arrives at a moment.
-fn arrival_text(
-    alloc: Global,
+// Adds the answer to a cell that arrives at a moment.
+fn push_arrival(
+    text: &mut String,
     policer: &mut Policer,
     held: Rate,
     at: u64,
-) -> Result<String, AllocError>
-    ensures answer { IfOk result (λ answer. string_bytes answer ≡ arrival_text policer.old held at) }
+) -> Result<(), AllocError>
+    ensures answer { OnOk result
+        (string_bytes text.new ≡ string_bytes text.old ⋅ arrival_text policer.old held at) }
     ensures policer { policer.new ≡ past_arrival policer.old held at }
 {
     let before = *policer;
     match policer.arrive(at, held) {
-        Ok(verdict) => verdict_text(alloc, before, at, verdict, *policer),
-        Err(GcraFault::ClockBack) => fault_text(alloc, LineFault::ClockBack),
-        Err(GcraFault::TimeRange) => fault_text(alloc, LineFault::TimeRange),
+        Ok(verdict) => push_verdict(text, before, at, verdict, *policer),
+        Err(GcraFault::ClockBack) => push_fault(text, LineFault::ClockBack),
+        Err(GcraFault::TimeRange) => push_fault(text, LineFault::TimeRange),
     }
 }
 
-fn verdict_text(
-    alloc: Global,
+fn push_verdict(
+    text: &mut String,
     before: Policer,
     at: u64,
     verdict: Verdict,
     after: Policer,
-) -> Result<String, AllocError>
-    ensures { IfOk result (λ text. string_bytes text ≡ verdict_text before at (verdict, after)) }
+) -> Result<(), AllocError>
+    ensures { OnOk result
+        (string_bytes text.new ≡ string_bytes text.old ⋅ verdict_text before at (verdict, after)) }
 {
-    let name = verdict_name(verdict);
-    let early = early_of(before, at);
-    let old = tat_text(alloc, before.tat())?;
-    let new = tat_text(alloc, after.tat())?;
-    format!(in alloc; "at {at} {name} early {early} tat {old} then {new}")
+    push_number(text, "at ", at)?;
+    text.push_str(" ")?;
+    text.push_str(verdict_name(verdict))?;
+    push_number(text, " early ", early_of(before, at))?;
+    push_tat(text, " tat ", before.tat())?;
+    push_tat(text, " then ", after.tat())
 }
 
 // How much earlier than due a cell comes, in picoseconds.
@@ -102,11 +110,15 @@ fn early_of(before: Policer, at: u64) -> u64
     }
 }
 
-fn tat_text(alloc: Global, tat: Option<u64>) -> Result<String, AllocError>
-    ensures { IfOk result (λ text. string_bytes text ≡ tat_text tat) }
+// Adds a word and a theoretical arrival time behind it.
+fn push_tat(text: &mut String, word: &str, tat: Option<u64>) -> Result<(), AllocError>
+    ensures { OnOk result (string_bytes text.new ≡ string_bytes text.old ⋅ word.now ⋅ tat_text tat) }
 {
     match tat {
-        Some(moment) => format!(in alloc; "{moment}"),
-        None => String::from_str(alloc, "absent"),
+        Some(moment) => push_number(text, word, moment),
+        None => {
+            text.push_str(word)?;
+            text.push_str("absent")
+        }
     }
 }

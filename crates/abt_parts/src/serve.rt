@@ -1,14 +1,11 @@
 //! A port that is handed cells line by line.
-ghost use Rattle.std.specs.Prelude.{◌≡◌, IfOk, OnOk, string_bytes};
+ghost use Rattle.std.specs.Prelude.{◌≡◌, OnOk, string_bytes};
 ghost use Rattle.std.specs.Option.{option_map};
-ghost use Rattle.abt_cell.specs.Codec.{request_of};
-ghost use Rattle.abt_perform.specs.PortText.{table_knowing, table_served};
-ghost use Rattle.abt_perform.specs.PortText as port_text;
+ghost use Rattle.abt_text.specs.Text.{◌⋅◌};
 ghost use Rattle.abt_parts.specs.Cells.{served_past, served_text};
 
-use crate::cells::{fault_text, message_on};
-use crate::moment::push_numbered;
-use abt_cell::Rm;
+use crate::cells::{message_on, push_fault};
+use crate::moment::push_number;
 use abt_lines::LineServer;
 use abt_node::Port;
 use abt_perform::{Fault, push_served};
@@ -22,9 +19,11 @@ pub struct ServedLines {
 }
 
 impl LineServer for ServedLines {
-    ghost use Rattle.abt_parts.specs.Cells.{served_lines};
+    ghost use Rattle.abt_parts.specs.Cells.{EndsServing, ServesLine};
 
-    ghost answers = { λ lines. served_lines lines.port };
+    ghost steps = { ServesLine };
+
+    ghost ends = { EndsServing };
 
     fn answer(
         &mut self,
@@ -33,38 +32,33 @@ impl LineServer for ServedLines {
         line: Option<&[u8]>,
         text: &mut String,
     ) -> Result<(), AllocError> {
-        let answer = serve_line(alloc, &mut self.port, line)?;
-        push_numbered(alloc, text, number, answer.as_str())
+        push_number(text, "", number)?;
+        text.push_str(" ")?;
+        push_line(alloc, text, &mut self.port, line)?;
+        text.push_str("\n")
     }
 
-    fn end(&self, alloc: Global, _number: u64, text: &mut String) -> Result<(), AllocError> {
+    fn end(&self, _alloc: Global, _number: u64, text: &mut String) -> Result<(), AllocError> {
         let total = self.port.total();
-        let last = format!(in alloc; "total {total}\n")?;
-        text.push_str(last.as_str())
+        push_number(text, "total ", total)?;
+        text.push_str("\n")
     }
 }
 
-// The answer to a line: what the port does with the cell that it spells, or the cell's fault.
-fn serve_line(alloc: Global, port: &mut Port, line: Option<&[u8]>) -> Result<String, AllocError>
-    ensures answer { IfOk result (λ answer. string_bytes answer
-        ≡ served_text port.old (option_map (λ line. line.now) line.entry)) }
+// Adds the answer to a line: what the port does with the cell that it spells, or the cell's fault.
+fn push_line(
+    alloc: Global,
+    text: &mut String,
+    port: &mut Port,
+    line: Option<&[u8]>,
+) -> Result<(), AllocError>
+    ensures answer { OnOk result (string_bytes text.new ≡ string_bytes text.old
+        ⋅ served_text port.old (option_map (λ line. line.now) line.entry)) }
     ensures table { OnOk result (port.new ≡ served_past port.old (option_map (λ line. line.now) line.entry)) }
 {
     match message_on(alloc, line) {
-        Ok(rm) => serve_message(alloc, port, &rm),
+        Ok(rm) => push_served(alloc, text, port, &rm),
         Err(Fault::Memory) => Err(AllocError),
-        Err(fault) => fault_text(alloc, fault),
+        Err(fault) => push_fault(text, fault),
     }
-}
-
-// The port's decision on a message, whose connection it adds if it is new.
-fn serve_message(alloc: Global, port: &mut Port, rm: &Rm) -> Result<String, AllocError>
-    ensures answer { IfOk result (λ answer. string_bytes answer
-        ≡ port_text.served_text (table_knowing port.old (request_of rm.now).vc) rm.now) }
-    ensures table { OnOk result (port.new
-        ≡ table_served port.old (table_knowing port.old (request_of rm.now).vc) rm.now) }
-{
-    let mut answer = String::new(alloc);
-    push_served(alloc, &mut answer, port, rm)?;
-    Ok(answer)
 }

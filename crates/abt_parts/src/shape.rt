@@ -1,10 +1,11 @@
 //! A shaper that is handed moments line by line.
-ghost use Rattle.std.specs.Prelude.{◌≡◌, IfOk, string_bytes};
+ghost use Rattle.std.specs.Prelude.{◌≡◌, OnOk, string_bytes};
 ghost use Rattle.std.specs.Option.{option_map};
+ghost use Rattle.abt_text.specs.Text.{◌⋅◌};
 ghost use Rattle.abt_parts.specs.Shape.{leaving_text, past_ready, ready_text, shaped_past, shaped_text};
 
-use crate::fault::{LineFault, fault_text};
-use crate::moment::{moment_of, push_numbered};
+use crate::fault::{LineFault, push_fault};
+use crate::moment::{moment_of, push_number};
 use abt_lines::LineServer;
 use abt_rate::Rate;
 use abt_shaper::{EMIT_MAX, Shaper};
@@ -21,19 +22,23 @@ pub struct ShapedLines {
 }
 
 impl LineServer for ShapedLines {
-    ghost use Rattle.abt_parts.specs.Shape.{shaped_lines};
+    ghost use Rattle.abt_parts.specs.Shape.{EndsShaping, ShapesLine};
 
-    ghost answers = { λ lines. shaped_lines lines.rate lines.shaper };
+    ghost steps = { ShapesLine };
+
+    ghost ends = { EndsShaping };
 
     fn answer(
         &mut self,
-        alloc: Global,
+        _alloc: Global,
         number: u64,
         line: Option<&[u8]>,
         text: &mut String,
     ) -> Result<(), AllocError> {
-        let answer = shape_line(alloc, &mut self.shaper, self.rate, line)?;
-        push_numbered(alloc, text, number, answer.as_str())
+        push_number(text, "", number)?;
+        text.push_str(" ")?;
+        push_line(text, &mut self.shaper, self.rate, line)?;
+        text.push_str("\n")
     }
 
     fn end(&self, _alloc: Global, _number: u64, _text: &mut String) -> Result<(), AllocError> {
@@ -41,45 +46,49 @@ impl LineServer for ShapedLines {
     }
 }
 
-// The answer to a line: when a cell leaves that is ready at the moment that it says, or the line's fault.
-fn shape_line(
-    alloc: Global,
+// Adds the answer to a line: when a cell leaves that is ready at the moment that it says, or the line's fault.
+fn push_line(
+    text: &mut String,
     shaper: &mut Shaper,
     rate: Rate,
     line: Option<&[u8]>,
-) -> Result<String, AllocError>
-    ensures answer { IfOk result (λ answer. string_bytes answer
-        ≡ shaped_text rate shaper.old (option_map (λ line. line.now) line.entry)) }
+) -> Result<(), AllocError>
+    ensures answer { OnOk result (string_bytes text.new ≡ string_bytes text.old
+        ⋅ shaped_text rate shaper.old (option_map (λ line. line.now) line.entry)) }
     ensures shaper { shaper.new ≡ shaped_past rate shaper.old (option_map (λ line. line.now) line.entry) }
 {
     match moment_of(line) {
-        Ok(ready) => ready_text(alloc, shaper, rate, ready),
-        Err(fault) => fault_text(alloc, fault),
+        Ok(ready) => push_ready(text, shaper, rate, ready),
+        Err(fault) => push_fault(text, fault),
     }
 }
 
-// The answer to a cell that is ready at a moment.
-fn ready_text(
-    alloc: Global,
+// Adds the answer to a cell that is ready at a moment.
+fn push_ready(
+    text: &mut String,
     shaper: &mut Shaper,
     rate: Rate,
     ready: u64,
-) -> Result<String, AllocError>
-    ensures answer { IfOk result (λ answer. string_bytes answer ≡ ready_text shaper.old rate ready) }
+) -> Result<(), AllocError>
+    ensures answer { OnOk result
+        (string_bytes text.new ≡ string_bytes text.old ⋅ ready_text shaper.old rate ready) }
     ensures shaper { shaper.new ≡ past_ready shaper.old rate ready }
 {
     let leaves = ready.max(shaper.next());
     if leaves > EMIT_MAX {
-        return fault_text(alloc, LineFault::TimeRange);
+        return push_fault(text, LineFault::TimeRange);
     }
     match shaper.emit(leaves, rate) {
-        Ok(next) => leaving_text(alloc, ready, leaves, next),
-        Err(_) => fault_text(alloc, LineFault::Zero),
+        Ok(next) => push_leaving(text, ready, leaves, next),
+        Err(_) => push_fault(text, LineFault::Zero),
     }
 }
 
-fn leaving_text(alloc: Global, ready: u64, leaves: u64, next: u64) -> Result<String, AllocError>
-    ensures { IfOk result (λ text. string_bytes text ≡ leaving_text ready leaves next) }
+fn push_leaving(text: &mut String, ready: u64, leaves: u64, next: u64) -> Result<(), AllocError>
+    ensures { OnOk result
+        (string_bytes text.new ≡ string_bytes text.old ⋅ leaving_text ready leaves next) }
 {
-    format!(in alloc; "ready {ready} leaves {leaves} next {next}")
+    push_number(text, "ready ", ready)?;
+    push_number(text, " leaves ", leaves)?;
+    push_number(text, " next ", next)
 }
