@@ -1,0 +1,12 @@
+-- The totals of the ports so far.
+use Rattle.std.proofs.Common.{◌≡◌, List, map, take}
+use Rattle.std.specs.List.{enumerate_from}
+use Rattle.abt_model.specs.Reserved.{reserved_on}
+use Rattle.abt_model.specs.declared.event.Event.{Event}
+use Rattle.abt_model.specs.Run.{facts_after}
+use Rattle.abt_world.specs.Standing.{StandsFor}
+use Rattle.abt_step.proofs.net_state.totals_of.Given as goal
+
+abbrev pub invariant-loop-port : goal.invariant-loop-port
+invariant-loop-port l = (events : List Event) → StandsFor l.net events l.world →
+    l.totals ≡ map (λ numbered. reserved_on l.net (facts_after l.net events) numbered.0) (enumerate_from 0 (take l.port l.net.capacities))

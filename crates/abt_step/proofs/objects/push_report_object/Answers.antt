@@ -1,0 +1,7 @@
+use Rattle.abt_step.proofs.Closing.{kind_line}
+use Rattle.abt_entry.proofs.Adding.{adds_both}
+use Rattle.abt_step.proofs.objects.push_report_object.Goals as goal
+
+pub returns : goal.returns
+returns c = kind_line c.end_line.result _ _ _ _ _ _ c.in_ok-object.ensures (adds_both _ _ _ _ _ c.in_ok-push_state_members.ensures c.in_ok-push_safe.ensures)
+    c.end_line.ensures

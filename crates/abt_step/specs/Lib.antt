@@ -1,0 +1,14 @@
+pub mod AnswerLines
+pub mod AnswerObjects
+pub mod Answered
+pub mod Asked
+pub mod Moments
+pub mod NetStates
+pub mod Possible
+pub mod PossibleMembers
+pub mod PossibleWords
+pub mod ReasonNumbers
+pub mod StateMembers
+pub mod StateWords
+pub mod Stepped
+pub mod Steps
