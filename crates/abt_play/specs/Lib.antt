@@ -1,0 +1,9 @@
+pub mod Chances
+pub mod Commands
+pub mod Draws
+pub mod Fitting
+pub mod Following
+pub mod Performing
+pub mod Played
+pub mod Stage
+pub mod UnderWay

@@ -1,0 +1,23 @@
+//! Plays: a scenario's scripts carried out in one thread, with deliveries, losses and repeats drawn by a seed.
+#![tactic(auto)]
+
+mod chances;
+mod command_events;
+mod draws;
+mod fault;
+mod fitting;
+mod followed;
+mod hand;
+mod performing;
+mod plan;
+mod player;
+mod playing;
+mod stage;
+mod under_way;
+
+pub use chances::{Chances, Fate};
+pub use fault::{PlayFault, ShowFault, StopFault};
+pub use followed::following;
+pub use performing::{ScenarioPlay, show_play, tell_show_fault};
+pub use plan::PlayPlan;
+pub use playing::{Played, play};

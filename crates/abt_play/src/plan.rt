@@ -1,0 +1,13 @@
+//! Plans of plays.
+use crate::chances::Chances;
+
+/// A play of a scenario's scripts.
+#[derive(Drop)]
+pub struct PlayPlan {
+    /// The file of the scenario, or `None` for the standard input.
+    pub file: Option<String>,
+    /// What the play is drawn by.
+    pub chances: Chances,
+    /// The file for the scenario of the events, if they are to be written.
+    pub events: Option<String>,
+}
