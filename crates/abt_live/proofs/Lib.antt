@@ -1,0 +1,9 @@
+pub mod Asks
+pub mod AskedSources
+pub mod EmittedCells
+pub mod LineTexts
+pub mod Fronts
+pub mod SwitchSteps
+pub mod SourceDeeds
+pub mod ServedWithin
+pub mod NotedLines

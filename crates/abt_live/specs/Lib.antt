@@ -1,0 +1,16 @@
+pub mod Faults
+pub mod Serving
+pub mod Ports
+pub mod Said
+pub mod SwitchAsked
+pub mod Journal
+pub mod Switch
+pub mod Running
+pub mod Asking
+pub mod Source
+pub mod SourceAsked
+pub mod SourceJournal
+pub mod Past
+pub mod History
+pub mod SourceSaid
+pub mod SourceSteps

@@ -1,0 +1,81 @@
+//! Why a line isn't served, and why none is any more.
+ghost use Rattle.std.specs.Prelude.{◌≡◌, OnOk, string_bytes};
+ghost use Rattle.abt_text.specs.Text.{◌⋅◌};
+ghost use Rattle.abt_live.specs.Faults.{fault_line};
+
+use abt_perform::Fault;
+use abt_text::Unwritten;
+use std::alloc::AllocError;
+use thiserror::Error;
+
+/// Why a line isn't served. It shows itself by the name that the answer to the line has (docs/LIVE.md, "Faults of lines").
+#[derive(Clone, Copy, Debug, PartialEq, Eq)]
+pub enum LiveFault {
+    /// The line is too long.
+    TooLong,
+    /// The line is no UTF-8 text.
+    NotUtf8,
+    /// The line has words that say nothing.
+    Words,
+    /// The cell that the line spells is no request and no answer.
+    Cell(Fault),
+    /// The switch has no port of this number.
+    Port,
+    /// No connection of this channel goes through the port, or the source is that of another.
+    UnknownVc,
+    /// The cell is a request, which no source takes.
+    Request,
+    /// The store didn't give its record.
+    Store,
+}
+
+impl LiveFault {
+    // Adds the line that answers a line with this fault to a text.
+    pub(crate) fn push_to(self, text: &mut String) -> Result<(), AllocError>
+        ensures { OnOk result (string_bytes text.new ≡ string_bytes text.old ⋅ fault_line self) }
+    {
+        match self {
+            LiveFault::TooLong => text.push_str("fault TooLong\n"),
+            LiveFault::NotUtf8 => text.push_str("fault NotUtf8\n"),
+            LiveFault::Words => text.push_str("fault words\n"),
+            LiveFault::Cell(fault) => write!(text, "fault {fault}\n"),
+            LiveFault::Port => text.push_str("fault port\n"),
+            LiveFault::UnknownVc => text.push_str("fault UnknownVc\n"),
+            LiveFault::Request => text.push_str("fault request\n"),
+            LiveFault::Store => text.push_str("fault store\n"),
+        }
+    }
+}
+
+/// Why a server of lines stops.
+#[derive(Clone, Copy, Debug, PartialEq, Eq, Error)]
+pub enum StopFault {
+    /// The journal can't be written.
+    #[error("the journal can't be written")]
+    Journal,
+    /// No memory was found.
+    #[error("out of memory")]
+    Memory,
+}
+
+impl From<AllocError> for StopFault {
+    ghost use Rattle.std.specs.Prelude.{◌≡◌};
+    ghost use Rattle.abt_live.specs.declared.fault.StopFault.TheVariants.{Memory};
+
+    ghost from_gives = { λ _ fault. fault ≡ Memory };
+
+    fn from(_: AllocError) -> StopFault {
+        StopFault::Memory
+    }
+}
+
+impl From<Unwritten> for StopFault {
+    ghost use Rattle.std.specs.Prelude.{◌≡◌};
+    ghost use Rattle.abt_live.specs.declared.fault.StopFault.TheVariants.{Journal};
+
+    ghost from_gives = { λ _ fault. fault ≡ Journal };
+
+    fn from(_: Unwritten) -> StopFault {
+        StopFault::Journal
+    }
+}

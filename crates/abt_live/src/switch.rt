@@ -1,0 +1,165 @@
+//! The ports of a switch, line by line.
+ghost use Rattle.std.specs.Prelude.{◌≡◌, ◌<◌, [], All, IfOk, IfSome, OnOk, OnErr, length, map, string_bytes};
+ghost use Rattle.std.specs.Io.KnownBytes.{Appends};
+ghost use Rattle.std.specs.Option.{option_map};
+ghost use Rattle.abt_lines.specs.Served.{AppendsFront};
+ghost use Rattle.abt_live.specs.Journal.{JournalBegan};
+ghost use Rattle.abt_live.specs.Ports.{opening_of, switch_line};
+ghost use Rattle.abt_live.specs.Switch.{Does, place_of};
+ghost use Rattle.abt_live.specs.SwitchAsked.{asked_on};
+
+use crate::fault::{LiveFault, StopFault};
+use crate::live_port::LivePort;
+use crate::said::push_said;
+use crate::serving::JournalServer;
+use crate::switch_asked::{SwitchAsked, asked_on};
+use crate::writing::switch_line;
+use abt_journal::{Entry, PortInput};
+use abt_net::Net;
+use abt_text::put;
+use abt_world::opening_port;
+use std::alloc::{AllocError, Global};
+use std::io::Write;
+
+/// Ports of a net as a switch: each line is an input of one of them, and is answered by what is sent then. The step is in the journal by
+/// then (docs/LIVE.md, "A switch").
+#[derive(Drop)]
+pub struct SwitchLines<'net, J: Write> {
+    net: &'net Net,
+    ports: Vec<LivePort>,
+    journal: J,
+}
+
+impl<'net, J: Write + Drop> SwitchLines<'net, J> {
+    /// A switch that has these ports of a net, which have done nothing yet.
+    pub fn open(
+        alloc: Global,
+        net: &'net Net,
+        ids: &[u16],
+        journal: J,
+    ) -> Result<SwitchLines<'net, J>, AllocError>
+        requires { All (λ id. id < length net.now.capacities) ids.now }
+        ensures ports { IfOk result (λ switch. switch.ports.items ≡ map (opening_of net.now) ids.now) }
+        ensures net { IfOk result (λ switch. switch.net.now ≡ net.now) }
+        ensures journal { IfOk result (λ switch. switch.journal ≡ journal) }
+    {
+        let ports = opened(alloc, net, ids)?;
+        Ok(SwitchLines {
+            net,
+            ports,
+            journal,
+        })
+    }
+
+    #[tactic(auto, using(crate::proofs::Fronts::silent))]
+    /// Does what a line asks for, and puts the answer into an empty text. The journal has what happened before that.
+    ///
+    /// # Errors
+    /// A switch that stopped by one is of no use any more: it may have done a step that nobody is told of.
+    pub fn take(
+        &mut self,
+        alloc: Global,
+        line: Option<&[u8]>,
+        text: &mut String,
+    ) -> Result<(), StopFault>
+        requires { string_bytes text.old ≡ [] }
+        ensures ok { OnOk result (Does J.contents self.old
+            (asked_on (option_map (λ line. line.now) line.entry)) (string_bytes text.new) self.new) }
+        ensures err { OnErr result (JournalBegan self.old.ports.items
+            (asked_on (option_map (λ line. line.now) line.entry))
+            (J.contents self.old.journal) (J.contents self.new.journal)) }
+    {
+        match asked_on(alloc, line)? {
+            SwitchAsked::Step { port, input, cell } => self.step(alloc, port, input, cell, text),
+            SwitchAsked::Wrong(fault) => Ok(fault.push_to(text)?),
+        }
+    }
+
+    // Has a port take an input.
+    fn step(
+        &mut self,
+        alloc: Global,
+        id: u16,
+        input: PortInput,
+        cell: Option<u64>,
+        text: &mut String,
+    ) -> Result<(), StopFault>
+        requires { string_bytes text.old ≡ [] }
+        ensures ok { OnOk result
+            (Does J.contents self.old (SwitchAsked.Step id input cell) (string_bytes text.new) self.new) }
+        ensures err { OnErr result (JournalBegan self.old.ports.items (SwitchAsked.Step id input cell)
+            (J.contents self.old.journal) (J.contents self.new.journal)) }
+    {
+        let Some(place) = place_of(self.ports.as_slice(), id) else {
+            return Ok(LiveFault::Port.push_to(text)?);
+        };
+        if !self.ports[place].knows(&input) {
+            return Ok(LiveFault::UnknownVc.push_to(text)?);
+        }
+        // So many steps are never done.
+        let Some(entry) = self.ports[place].step(input) else {
+            return Err(StopFault::Memory);
+        };
+        log_step(alloc, &mut self.journal, id, &entry, cell)?;
+        Ok(push_said(alloc, text, self.net, id, &input, &entry.reply)?)
+    }
+}
+
+impl<'net, J: Write + Drop> JournalServer for SwitchLines<'net, J> {
+    ghost use Rattle.abt_live.specs.Switch.{SwitchesLine};
+
+    ghost steps = { SwitchesLine J.contents };
+
+    fn answer(
+        &mut self,
+        alloc: Global,
+        _number: u64,
+        line: Option<&[u8]>,
+        text: &mut String,
+    ) -> Result<(), StopFault> {
+        self.take(alloc, line, text)
+    }
+}
+
+// These ports of a net, which have done nothing yet.
+fn opened(alloc: Global, net: &Net, ids: &[u16]) -> Result<Vec<LivePort>, AllocError>
+    requires { All (λ id. id < length net.now.capacities) ids.now }
+    ensures { IfOk result (λ ports. ports.items ≡ map (opening_of net.now) ids.now) }
+{
+    let mut ports = Vec::new(alloc);
+    for id in ids {
+        let port = opening_port(alloc, net, *id)?;
+        ports.push(LivePort {
+            id: *id,
+            port,
+            steps: 0,
+        })?;
+    }
+    Ok(ports)
+}
+
+// The place of the port of a number, if the switch has it.
+fn place_of(ports: &[LivePort], id: u16) -> Option<usize>
+    ensures value { result ≡ place_of ports.now id }
+    ensures within { IfSome result (λ place. place < length ports.now) }
+{
+    ports.iter().position(|live| live.id == id)
+}
+
+#[tactic(auto, using(crate::proofs::Fronts::front_part, crate::proofs::Fronts::front_none))]
+// Writes the line of a step into a journal.
+fn log_step<J: Write>(
+    alloc: Global,
+    journal: &mut J,
+    port: u16,
+    entry: &Entry,
+    cell: Option<u64>,
+) -> Result<(), StopFault>
+    ensures ok { OnOk result (Appends (J.contents journal.old) (J.contents journal.new)
+        (switch_line port entry.now cell)) }
+    ensures err { OnErr result (AppendsFront (J.contents journal.old) (J.contents journal.new)
+        (switch_line port entry.now cell)) }
+{
+    let line = switch_line(alloc, port, entry, cell)?;
+    Ok(put(journal, line.as_slice())?)
+}

@@ -1,0 +1,2 @@
+pub mod JournalSteps
+pub mod JournalDeeds

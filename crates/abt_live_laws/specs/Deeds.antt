@@ -1,0 +1,36 @@
+-- What the journal of a source says of it, over any lines.
+use Rattle.std.specs.Prelude.{◌≡◌, ℕ, List, [], ◌∷◌, Option}
+use Rattle.std.specs.Io.KnownBytes.{Appends}
+use Rattle.abt_text.specs.Text.{Text, ◌⋅◌}
+use Rattle.abt_cell.specs.Channel.{Channel}
+use Rattle.abt_model.specs.declared.outcome.Outcome.{Outcome}
+use Rattle.abt_actor.specs.Actor.{ActorView}
+use Rattle.abt_lines.specs.Runs.{Runs}
+use Rattle.abt_live.specs.declared.source_asked.SourceAsked.{SourceAsked}
+use Rattle.abt_live.specs.declared.source_lines.SourceLines.{SourceLines}
+use Rattle.abt_live.specs.SourceJournal.{before_line, done_line}
+use Rattle.abt_live.specs.SourceSteps.{Carries, SourcesLine}
+
+-- a deed of a source: what it was before, what was asked for, and what came of it
+pub record Deed : Type 0 where
+  pub actor : ActorView
+  pub asked : SourceAsked
+  pub outcome : Outcome
+
+-- the lines of some deeds of the source of a connection
+abbrev pub deeds_text : (conn : ℕ) → List Deed → Text
+deeds_text conn [] = []
+deeds_text conn (deed ∷ deeds) = (before_line conn deed.actor deed.asked ⋅ done_line conn deed.asked deed.outcome) ⋅ deeds_text conn deeds
+
+-- These are the deeds of a source one after the other: each has the outcome of the event of its name there.
+abbrev pub AreDeeds : Channel → ActorView → List Deed → (new : ActorView) → Type 0
+AreDeeds vc actor [] new = new ≡ actor
+AreDeeds vc actor (deed ∷ deeds) new =
+    (deed.actor ≡ actor) × ((mid : ActorView) × Carries vc deed.asked actor deed.outcome mid × AreDeeds vc mid deeds new)
+
+-- Over any lines the journal got the lines of some deeds of the source, one after the other, and nothing else.
+abbrev pub JournalsAreDeeds : {J : Type 0} → (K : Type 0) → (contents : J → Option Text) → Type 0
+JournalsAreDeeds {J = J} K contents =
+    (old new : SourceLines K J) (number : ℕ) (lines : List (Option Text)) (said : Text) → Runs (SourcesLine contents) old number lines said new
+    → (deeds : List Deed) × Appends (contents old.journal) (contents new.journal) (deeds_text old.conn deeds)
+    × AreDeeds old.vc old.source deeds new.source

@@ -1,0 +1,6 @@
+//! Laws of live processes: what their journals say over any lines.
+#![tactic(auto)]
+
+mod law;
+
+pub use law::{journals_are_deeds, journals_are_steps};
