@@ -1,0 +1,38 @@
+-- What the words say of a picture (docs/PICTURES.md, "Drawing").
+use Rattle.std.specs.Prelude.{◌≡◌, ◌≤◌, ℕ, ◌==◌, eqb, Bool, true, false, if◌then◌else◌, List, [], Option, None, Some, codes, string_bytes}
+use Rattle.std.specs.List.{ends_with, slice_split}
+use Rattle.clap.specs.declared.parser.matches.ArgMatches.{ArgMatches}
+use Rattle.abt_text.specs.Text.{Text}
+use Rattle.abt_text.specs.Words.{number_of}
+use Rattle.abt_draw.specs.declared.plan.PicturePlan.{PicturePlan}
+use Rattle.abt_cli.specs.Words.{text_in, AreNumbers}
+
+abbrev pub ends_in : (text ending : Text) → Bool
+ends_in text ending = ends_with eqb text ending
+
+-- whether a file is for a page, by the end of its name; else it is for a picture, or for neither
+abbrev pub is_page : (file : Text) → Option Bool
+is_page file = if ends_in file (codes ".html") then Some true else if ends_in file (codes ".svg") then Some false else None
+
+-- the parts of a list between its commas
+abbrev pub parts_of : Text → List Text
+parts_of list = slice_split (λ octet. octet == 44) list
+
+-- the connections that are named: none, if there is no list
+abbrev pub AreNamed : Option Text → (only : List ℕ) → Type 0
+AreNamed None only = only ≡ []
+AreNamed (Some list) only = AreNumbers (parts_of list) only
+
+-- the event that is named, counted from 1, if one is
+abbrev pub IsEventOf : Option Text → Option ℕ → Type 0
+IsEventOf None number = number ≡ None
+IsEventOf (Some word) None = ⊥
+IsEventOf (Some word) (Some number) = (number_of word ≡ Some number) × (1 ≤ number)
+
+-- What is to be shown, and in which file, is what the words say; the name of the file stands under a name of its own.
+pub record IsPicturePlan (found : ArgMatches) (name : Text) (plan : PicturePlan) : Type 0 where
+  pub out : text_in found name ≡ Some (string_bytes plan.out)
+  pub page : is_page (string_bytes plan.out) ≡ Some plan.page
+  pub only : AreNamed (text_in found (codes "only")) plan.only.items
+  pub from : IsEventOf (text_in found (codes "from")) plan.from
+  pub to : IsEventOf (text_in found (codes "to")) plan.to

@@ -1,0 +1,78 @@
+//! The words of a switch and a source as processes.
+ghost use Rattle.std.specs.Prelude.{◌≡◌, ◌⊎◌, ◌^◌, Some, None, IfErr, IfOk, codes};
+ghost use Rattle.abt_perform.specs.declared.plan.WordsFault.TheVariants.{Memory};
+ghost use Rattle.abt_text.specs.Words.{number_below};
+ghost use Rattle.abt_cli.specs.Commands.{IsAllowed, IsCommandOf};
+ghost use Rattle.abt_cli.specs.Refused.{AreNoNumbers, IsRefused};
+ghost use Rattle.abt_cli.specs.Words.{AreNumbers, word_in, words_in};
+
+use crate::command::Command;
+use crate::names::{CONNECTION, JOURNAL, NET, NEW, PORT, STORE};
+use crate::readers::{numbers_of, short_of, word_in};
+use abt_live_files::{SourcePlan, SwitchPlan};
+use abt_perform::WordsFault;
+use clap::ArgMatches;
+use std::alloc::Global;
+
+// The rule of a port.
+const PORT_RULE: &str = "--port names a port by its number in the net, digits alone";
+
+// The rule of a connection.
+const CONNECTION_RULE: &str =
+    "CONNECTION is the number of a connection in the net, the first 0, digits alone";
+
+pub(crate) fn switch_of(alloc: Global, found: &ArgMatches<'_>) -> Result<Command, WordsFault>
+    ensures limits { IfOk result IsAllowed }
+    ensures command { IfOk result (IsCommandOf (codes "switch") found.now) }
+    ensures err { IfErr result (IsRefused (codes "switch") found.now) }
+{
+    let ports = ports_of(alloc, found)?;
+    let file = word_in(alloc, found, NET)?;
+    let journal = word_in(alloc, found, JOURNAL)?;
+    Ok(Command::Switch(SwitchPlan {
+        file,
+        ports,
+        journal,
+    }))
+}
+
+// The ports that are named, in their order.
+fn ports_of(alloc: Global, found: &ArgMatches<'_>) -> Result<Vec<u16>, WordsFault>
+    ensures ok { IfOk result (λ ports. AreNumbers (words_in found.now (codes "port")) ports.items) }
+    ensures err { IfErr result
+        (λ fault. (fault ≡ Memory) ⊎ AreNoNumbers (words_in found.now (codes "port"))) }
+{
+    numbers_of(alloc, found.get_strs(PORT).unwrap_or(&[]), PORT_RULE)
+}
+
+pub(crate) fn source_of(alloc: Global, found: &ArgMatches<'_>) -> Result<Command, WordsFault>
+    ensures limits { IfOk result IsAllowed }
+    ensures command { IfOk result (IsCommandOf (codes "source") found.now) }
+    ensures err { IfErr result (IsRefused (codes "source") found.now) }
+{
+    let conn = connection_of(alloc, found)?;
+    let file = word_in(alloc, found, NET)?;
+    let store = word_in(alloc, found, STORE)?;
+    let journal = word_in(alloc, found, JOURNAL)?;
+    Ok(Command::Source(SourcePlan {
+        file,
+        conn,
+        store,
+        journal,
+        is_new: found.get_flag(NEW),
+    }))
+}
+
+// The connection that is named.
+fn connection_of(alloc: Global, found: &ArgMatches<'_>) -> Result<u16, WordsFault>
+    ensures ok { IfOk result
+        (λ conn. number_below (2 ^ 16) (word_in found.now (codes "CONNECTION")) ≡ Some conn) }
+    ensures err { IfErr result (λ fault. (fault ≡ Memory) ⊎
+        (number_below (2 ^ 16) (word_in found.now (codes "CONNECTION")) ≡ None)) }
+{
+    short_of(
+        alloc,
+        found.get_str(CONNECTION).unwrap_or(""),
+        CONNECTION_RULE,
+    )
+}
