@@ -1,63 +1,38 @@
--- What carrying a plan out leaves, by its exit status.
-use Rattle.std.specs.Prelude.{◌⊎◌, Option, Some, None, MatchOption, codes, string_bytes}
-use Rattle.std.specs.Io.KnownBytes.{Keeps}
-use Rattle.std.specs.declared.io.ErrorKind.{ErrorKind}
-use Rattle.std.specs.declared.io.ErrorKind.TheVariants.{OutOfMemory}
-use Rattle.abt_text.specs.Text.{Text, ◌⋅◌, newline}
-use Rattle.abt_perform.specs.Names.{fault_line}
-use Rattle.abt_perform.specs.Plans as plain
-use Rattle.abt_perform.specs.Plans.{Prints, ReadsFor, Tells}
-use Rattle.abt_perform.specs.declared.plan.Plan.{Plan}
-use Rattle.abt_perform.specs.declared.plan.Plan.TheVariants.{Run, Threads}
-use Rattle.abt_perform.specs.declared.fault.Fault.TheVariants.{Memory}
-use Rattle.abt_perform_threads.specs.Performing as threads
+-- What carrying a command out leaves, by its exit status.
+use Rattle.std.specs.Prelude.{ℕ, Option, string_bytes}
+use Rattle.abt_text.specs.Text.{Text}
+use Rattle.abt_keep.specs.Record.{KeptRecord}
+use Rattle.abt_codes.specs.declared.plan.CodesPlan.TheVariants as codes
+use Rattle.abt_parts.specs.declared.plan.PartsPlan.TheVariants as lines
+use Rattle.abt_commands.specs.Audits.{Audits}
+use Rattle.abt_commands.specs.Check.{Checks}
+use Rattle.abt_commands.specs.Draws.{Draws}
+use Rattle.abt_commands.specs.Plays.{Plays}
+use Rattle.abt_commands.specs.Processes.{Sources, Switches}
+use Rattle.abt_commands.specs.Runs.{Explains, Runs}
+use Rattle.abt_commands.specs.Single.{AnswersLines, SaysCell, SaysCodes, SaysRate, ServesPort}
+use Rattle.abt_commands.specs.Steps.{Steps}
+use Rattle.abt_commands.specs.Threads.{RunsThreads}
+use Rattle.abt_cli.specs.declared.command.Command.{Command}
+use Rattle.abt_cli.specs.declared.command.Command.TheVariants.{Rate, Cell, Port, Run, Threads, Explain, Check, Audit, Police, Shape, Step, Play, Code, Write, Draw, Switch, Source}
 
--- What the plan prints went out, all of it, if this is what the reader had left.
-abbrev pub IsDone : Plan → (left old new : Option Text) → Type 0
-IsDone (Threads file workers) left old new = threads.IsShown workers left old new
-IsDone plan left old new = Prints plan left old new
-
--- The plan has a fault, which is told.
-abbrev pub IsRefused : Plan → (left old new errors_old errors_new : Option Text) → Type 0
-IsRefused (Threads file workers) left old new errors_old errors_new = threads.IsRefused workers left old new errors_old errors_new
-IsRefused plan left old new errors_old errors_new = plain.IsRefused plan left old new errors_old errors_new
-
--- the file that a plan names
-abbrev pub file_of : Plan → Option Text
-file_of (Run (Some name)) = Some (string_bytes name)
-file_of (Threads (Some name) workers) = Some (string_bytes name)
-file_of plan = None
-
--- A plan that names a file has some reader in place of the input that is there: what that has is the system's to say.
-pub record IsDoneOver (plan : Plan) (old new : Option Text) : Type 0 where
-  pub left : Option Text
-  pub done : IsDone plan left old new
-
-abbrev pub IsDoneHere : Plan → (left old new : Option Text) → Type 0
-IsDoneHere plan left old new = MatchOption (file_of plan) (IsDone plan left old new) (λ name. IsDoneOver plan old new)
-
-abbrev pub ReadsHere : Plan → (old new : Option Text) → Type 0
-ReadsHere plan old new = MatchOption (file_of plan) (ReadsFor plan old new) (λ name. Keeps old new)
-
--- the line of a file that isn't opened
-abbrev pub open_line : Text
-open_line = codes "fault: open" ⋅ newline
-
--- the line of an error in opening a file, by its kind to the system
-abbrev pub line_of_kind : ErrorKind → Text
-line_of_kind OutOfMemory = fault_line Memory
-line_of_kind _ = open_line
-
--- The file isn't opened: that is told, or want of memory, and nothing goes out.
-abbrev pub IsUnopened : (old new errors_old errors_new : Option Text) → Type 0
-IsUnopened old new errors_old errors_new =
-    Keeps old new × (Tells open_line errors_old errors_new ⊎ Tells (fault_line Memory) errors_old errors_new)
-
-pub record IsRefusedOver (plan : Plan) (old new errors_old errors_new : Option Text) : Type 0 where
-  pub left : Option Text
-  pub refused : IsRefused plan left old new errors_old errors_new
-
-abbrev pub IsRefusedHere : Plan → (left old new errors_old errors_new : Option Text) → Type 0
-IsRefusedHere plan left old new errors_old errors_new = MatchOption (file_of plan)
-    (IsRefused plan left old new errors_old errors_new)
-    (λ name. IsUnopened old new errors_old errors_new ⊎ IsRefusedOver plan old new errors_old errors_new)
+-- Over the files and the stores of a system, which are seen by what they hold.
+abbrev pub IsCarriedOut : {K J : Type 0} → (content : K → KeptRecord) → (contents : J → Option Text) → Command → (status : ℕ)
+    → (left_old left_new old new told_old told_new : Option Text) → Type 0
+IsCarriedOut content contents (Rate code json) = SaysRate json code
+IsCarriedOut content contents (Cell hex json) = SaysCell json hex
+IsCarriedOut content contents (Port capacity cells) = ServesPort capacity cells
+IsCarriedOut content contents (Run file json explain quiet) = Runs json explain file
+IsCarriedOut content contents (Threads command) = RunsThreads command
+IsCarriedOut content contents (Explain file json quiet) = Explains json file
+IsCarriedOut content contents (Check file json) = Checks file json
+IsCarriedOut content contents (Audit command) = Audits command
+IsCarriedOut content contents (Police tau rate) = AnswersLines (lines.Police tau rate)
+IsCarriedOut content contents (Shape rate) = AnswersLines (lines.Shape rate)
+IsCarriedOut content contents (Step file form) = Steps (string_bytes file) form
+IsCarriedOut content contents (Play plan) = Plays plan
+IsCarriedOut content contents (Code rate) = SaysCodes (codes.Code rate)
+IsCarriedOut content contents (Write words) = SaysCodes (codes.Write words)
+IsCarriedOut content contents (Draw command) = Draws command
+IsCarriedOut content contents (Switch plan) = Switches contents plan
+IsCarriedOut content contents (Source plan) = Sources content contents plan

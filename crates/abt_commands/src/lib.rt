@@ -1,18 +1,31 @@
-//! The commands of the program: which words ask for what, and what is then carried out over files and streams.
+//! The commands of the program, carried out: a file each.
 #![tactic(auto)]
 
-mod carrying;
-mod command;
-mod decimal;
-mod telling;
-mod words;
+mod audit;
+mod audit_picture;
+mod carry_out;
+mod cell;
+mod check;
+mod codes;
+mod draw;
+mod draw_threads;
+mod explain;
+mod input;
+mod lines;
+mod opening;
+mod picture_file;
+mod play;
+mod port;
+mod rate;
+mod run;
+mod run_checked;
+mod saving;
+mod source;
+mod step;
+mod switch;
+mod threads;
+mod threads_events;
+mod threads_journals;
+mod unwritten;
 
-pub use carrying::{carry_out, carry_out_over, line_of_unopened};
-pub use command::{
-    CODE, EVENTS, EXPLAIN, FILE, HEX, JOURNALS, JSON, QUIET, STDIN, WORKERS, add_commands, program,
-};
-pub use telling::answer_words;
-pub use words::{
-    NO_COMMAND, capacity_of, plan_of, plan_words, refusal, text_in, word_in, workers_of,
-    wrong_words,
-};
+pub use carry_out::carry_out_command;

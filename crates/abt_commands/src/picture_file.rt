@@ -1,0 +1,68 @@
+//! Pictures that are written to a file of their own.
+ghost use Rattle.std.specs.Prelude.{◌≡◌, ◌⊎◌};
+ghost use Rattle.std.specs.Io.KnownBytes.{Keeps};
+ghost use Rattle.abt_draw.specs.Drawn.{TellsSome};
+
+use crate::saving::{why_of_file, write_file};
+use crate::unwritten::tell_unwritten;
+use abt_draw::{DrawFault, PicturePlan, tell_draw_fault};
+use abt_files::{OutFault, Why};
+use abt_perform::{MEMORY_LINE, OPEN_LINE, WRITE_LINE};
+use std::alloc::AllocGlobal;
+use std::io::Write;
+use std::rt::Files;
+
+// Writes a picture to its file, or tells why there is none. Gives the exit status.
+pub(crate) fn keep_picture<T: Files + AllocGlobal, E: Write>(
+    rt: &T,
+    plan: &PicturePlan,
+    text: Result<String, DrawFault>,
+    errors: &mut E,
+) -> u8
+    ensures status { (result ≡ 0) ⊎ (result ≡ 1) }
+    ensures quiet { result ≡ 0 → Keeps (E.contents errors.old) (E.contents errors.new) }
+    ensures told { result ≡ 1 → TellsSome (E.contents errors.old) (E.contents errors.new) }
+{
+    match text {
+        Ok(text) => keep_text(rt, plan, text.as_str(), errors),
+        Err(fault) => {
+            tell_draw_fault(rt.alloc(), fault, errors);
+            1
+        }
+    }
+}
+
+// Writes the text of a picture to its file, or tells why it can't. Gives the exit status.
+pub(crate) fn keep_text<T: Files + AllocGlobal, E: Write>(
+    rt: &T,
+    plan: &PicturePlan,
+    text: &str,
+    errors: &mut E,
+) -> u8
+    ensures status { (result ≡ 0) ⊎ (result ≡ 1) }
+    ensures quiet { result ≡ 0 → Keeps (E.contents errors.old) (E.contents errors.new) }
+    ensures told { result ≡ 1 → TellsSome (E.contents errors.old) (E.contents errors.new) }
+{
+    match write_file(rt, plan.out.as_str(), text.as_bytes()) {
+        Ok(()) => 0,
+        Err(fault) => {
+            tell_unwritten(
+                rt.alloc(),
+                line_of(fault),
+                plan.out.as_str(),
+                why_of_file(fault),
+                errors,
+            );
+            1
+        }
+    }
+}
+
+// What is told of a picture whose file isn't written.
+fn line_of(fault: OutFault) -> &'static str {
+    match fault {
+        OutFault::Open(Why::Memory) => MEMORY_LINE,
+        OutFault::Open(_) => OPEN_LINE,
+        OutFault::Write(_) => WRITE_LINE,
+    }
+}

@@ -1,7 +1,0 @@
--- Memory was refused.
-use Rattle.std.proofs.Common.{inr}
-use Rattle.std.proofs.KnownBytes.{Keeps-refl}
-use Rattle.abt_tasks.proofs.auditing.show_input.Goals as goal
-
-pub returns-then-is_err-clause-err : goal.returns-then-is_err-clause-err
-returns-then-is_err-clause-err g c = λ _. inr (Keeps-refl _, c.tell_text.ensures)
