@@ -2,16 +2,22 @@
 //! scenario, and what is shown of a run of it in threads.
 #![tactic(auto)]
 
-use abt_commands::answer_words;
+use abt_cli::{answer_words, given_command};
+use abt_commands::carry_out_command;
+use abt_files::fill_streams;
+use abt_perform::{OPEN_LINE, tell_text};
 use abt_progress::{Cleared, Progress, Watched, draws_line};
-use abt_tasks::{carry_out_task, given_task};
 use std::env;
 use std::io::IsTerminal;
 use std::process::ExitCode;
 
 fn main(rt: HostRuntime) -> ExitCode {
-    let asked = match given_task(&rt) {
-        Ok(asked) => asked,
+    if fill_streams(&rt).is_err() {
+        tell_text(&mut rt.stderr(), OPEN_LINE);
+        return ExitCode::from(1);
+    }
+    let command = match given_command(&rt) {
+        Ok(command) => command,
         Err(fault) => {
             let status = answer_words(&fault, &mut rt.stdout(), &mut rt.stderr());
             return ExitCode::from(status);
@@ -23,7 +29,7 @@ fn main(rt: HostRuntime) -> ExitCode {
         Some(kind) => Some(kind.as_str()),
         None => None,
     };
-    let terminal = if draws_line(asked.shows_progress(), is_terminal, kind) {
+    let terminal = if draws_line(command.shows_progress(), is_terminal, kind) {
         Some(rt.stderr())
     } else {
         None
@@ -32,14 +38,7 @@ fn main(rt: HostRuntime) -> ExitCode {
     let mut input = Watched::new(rt.stdin(), &progress);
     let mut out = Cleared::new(rt.stdout(), &progress);
     let mut errors = Cleared::new(rt.stderr(), &progress);
-    let status = carry_out_task(
-        &rt,
-        &progress,
-        &asked.task,
-        &mut input,
-        &mut out,
-        &mut errors,
-    );
+    let status = carry_out_command(&rt, &progress, command, &mut input, &mut out, &mut errors);
     progress.clear();
     ExitCode::from(status)
 }

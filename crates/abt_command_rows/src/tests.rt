@@ -1,12 +1,16 @@
 //! Rows of the program from its words to its octets. Cells and their changes are those of docs/FORMATS.md, "Test cells".
 mod cells;
+mod command_told;
+mod command_words;
 mod explained;
 mod memory;
 mod plans;
 mod ports;
+mod process_words;
 mod rates;
 mod runs;
 mod said;
+mod steps;
 mod streams;
 mod threads;
 mod told;
@@ -14,7 +18,7 @@ mod told;
 ghost use Rattle.std.specs.Prelude.{IfOk};
 ghost use Rattle.abt_perform.specs.Plans.{IsWithinLimits};
 
-use abt_commands::plan_words;
+use abt_cli::plan_words;
 use abt_perform::{Plan, perform};
 use std::alloc::Global;
 use std::io::{self, Error, ErrorKind, Read, Write};

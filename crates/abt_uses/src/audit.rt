@@ -6,7 +6,7 @@ use abt_audit::perform_audit;
 use std::alloc::Global;
 use std::io::{Read, Write};
 
-/// Audits the texts that some readers have left, and says whether they are the logs of one run, of which the output then says so.
+/// Audits the texts that some readers have left, and says whether they are the logs of one run, as the output then does too.
 pub fn is_one_run<R: Read + Drop, W: Write, E: Write>(
     alloc: Global,
     names: &[String],

@@ -2,7 +2,7 @@
 ghost use Rattle.std.specs.Prelude.{◌≡◌, true, IfOk, IfSome};
 ghost use Rattle.abt_perform.specs.Plans.{IsWithinLimits};
 
-use abt_commands::plan_words;
+use abt_cli::plan_words;
 use abt_perform::{Plan, WordsFault};
 use std::alloc::Global;
 

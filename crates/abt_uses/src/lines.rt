@@ -13,9 +13,11 @@ use std::io::{Read, Write};
 pub struct LineNumbers;
 
 impl LineServer for LineNumbers {
-    ghost use Rattle.abt_uses.specs.Numbers.{numbers_from};
+    ghost use Rattle.abt_uses.specs.Numbers.{EndsNumbering, NumbersLine};
 
-    ghost answers = { λ _. numbers_from };
+    ghost steps = { NumbersLine };
+
+    ghost ends = { EndsNumbering };
 
     fn answer(
         &mut self,

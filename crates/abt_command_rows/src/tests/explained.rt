@@ -1,5 +1,5 @@
 //! A scenario with three sources and four ports, whose explanation was worked out by hand from docs/RULES.md and docs/EXPLAIN.md.
-use abt_explain::{ExplainPlan, explain_text, perform_explain};
+use abt_explain::{explain_text, perform_explain};
 use abt_scenario::EngineFault;
 use std::alloc::Global;
 use std::process::Abort;
@@ -73,7 +73,7 @@ const THREE_EXPLAINED: &str = "1 line 3 start 0 0: started\n\
     11 line 13 request 2 1 1: passed\n\
     12 line 14 request 2 2 1: refuses: asks 204800, holds 0, others hold 614400 of 614400\n\
     13 line 15 request 2 2 1: refuses: 1 was refused here\n\
-    14 line 16 told-yes 0 1: not-enabled NotSent: no such message lies there\n\
+    14 line 16 told-yes 0 1: not-enabled NotSent: request 1 lies at the end of the path: `turn 0 1` comes next\n\
     15 line 17 turn 0 1: turned\n\
     16 line 18 yes 0 2 1: passed\n\
     17 line 19 yes 0 1 1: passed\n\
@@ -127,10 +127,8 @@ fn three_sources_over_four_ports_are_explained(rt: HostRuntime) -> Result<(), Fa
 fn a_text_that_is_no_scenario_has_its_fault(rt: HostRuntime) -> Result<(), Fail> {
     let mut out = Vec::new(rt.alloc());
     let mut errors = Vec::new(rt.alloc());
-    let plan = ExplainPlan { file: None };
     let status = perform_explain(
         rt.alloc(),
-        &plan,
         &mut "ports = 1".as_bytes(),
         &mut out,
         &mut errors,

@@ -2,7 +2,7 @@
 //! told and nothing goes out, and the same call is done when it is made again.
 use super::runs::{EXAMPLE, EXAMPLE_REPORT};
 use super::{A, B, B2, Narrow, done_alone};
-use abt_commands::{answer_words, plan_words};
+use abt_cli::{answer_words, plan_words};
 use abt_perform::WordsFault;
 use std::alloc::Global;
 use std::process::Abort;

@@ -1,5 +1,5 @@
 use super::{A, planned};
-use abt_commands::plan_words;
+use abt_cli::plan_words;
 use abt_perform::{Plan, WordsFault};
 use std::alloc::Global;
 use std::process::Abort;

@@ -52,7 +52,7 @@ fn tells_a_part(rt: &impl Abort, alloc: Global, plan: &Plan, room: usize)
     assert!(rt; "fault: code\n".as_bytes().starts_with(errors.taken()));
 }
 
-/// A writer that takes at most seven octets a call, and none behind so many calls.
+/// A writer that takes at most seven octets a call, and nothing after so many calls.
 #[derive(Drop)]
 struct Stuck {
     calls: usize,
@@ -73,7 +73,7 @@ impl Write for Stuck {
     }
 }
 
-// Whether a plan is done over a writer that takes no octet behind so many calls; if not, that is told, and the beginning went out.
+// Whether a plan is done over a writer that takes nothing after so many calls; if not, that is told, and the beginning went out.
 fn is_done_before(rt: &impl Abort, alloc: Global, plan: &Plan, calls: usize, text: &str) -> bool
     requires { IsWithinLimits plan.now }
 {
@@ -93,7 +93,7 @@ fn is_done_before(rt: &impl Abort, alloc: Global, plan: &Plan, calls: usize, tex
     false
 }
 
-// Demands that a plan breaks off at each of its writes, of which there are so many, and at none behind them.
+// Demands that a plan makes so many writes, and that it breaks off at whichever one of them fails.
 fn breaks_off_at_each(rt: &impl Abort, alloc: Global, plan: &Plan, writes: usize, text: &str)
     requires { IsWithinLimits plan.now }
 {

@@ -1,6 +1,6 @@
 //! What is told where words are no plan.
 use super::Narrow;
-use abt_commands::answer_words;
+use abt_cli::answer_words;
 use abt_perform::WordsFault;
 use std::alloc::Global;
 use std::process::Abort;
