@@ -89,7 +89,9 @@ enum {
     ABT_CAPACITY_RANGE = 73, /* the capacity is above ABT_CAPACITY_MAX */
     ABT_KNOWN = 74,          /* the connection is in the table already */
     ABT_FULL = 75,           /* the table has ABT_TABLE_PLACES connections */
-    ABT_DAMAGED = 76         /* the table isn't in order: its memory was written by something else */
+    ABT_DAMAGED = 76,        /* the table isn't in order: its memory was written by something else */
+    ABT_HELD = 77,           /* the connection holds a rate */
+    ABT_NOT_INGRESS = 78     /* the connection's cells aren't policed here */
 };
 
 /* ---- limits ---- */
@@ -150,6 +152,11 @@ static inline abt_outcome abt_rm_read(const uint8_t *cell, size_t length, abt_rm
  * Answers ABT_OK, or ABT_NULL, ABT_LENGTH, ABT_KIND, ABT_VPI_RANGE, ABT_SEQ_ZERO, ABT_RATE_ORDER. */
 static inline abt_outcome abt_rm_write(const abt_rm *rm, uint8_t *cell, size_t length);
 
+/* Gives the yes to a request, which goes back from the end of its path: to be called of a request that the last port passed. Yes and rm may
+ * not be the same memory.
+ * Answers ABT_OK, or ABT_NULL, ABT_KIND (no request), ABT_VPI_RANGE, ABT_SEQ_ZERO, ABT_RATE_ORDER. */
+static inline abt_outcome abt_rm_turn(const abt_rm *rm, abt_rm *yes);
+
 /* ---- the generic cell rate algorithm (I.371) ---- */
 
 typedef struct abt_gcra { uint64_t private_[4]; } abt_gcra;
@@ -178,6 +185,14 @@ static inline abt_outcome abt_policer_init(abt_policer *policer, uint64_t tau);
  * Answers ABT_CONFORMING, ABT_TOO_EARLY, ABT_NO_RATE, or ABT_NULL, ABT_NO_STATE, ABT_CLOCK_BACK, ABT_TIME_RANGE. */
 static inline abt_outcome abt_policer_arrive(abt_policer *policer, uint64_t at, uint16_t held);
 
+/* The same for a burst of cells of one connection, at so many moments: just what as many calls of abt_policer_arrive do, in this order. Each
+ * verdict, ABT_CONFORMING, ABT_TOO_EARLY or ABT_NO_RATE, goes to the place of its cell. The first cell for which a single call is refused ends
+ * the burst with that fault: judged is its place, the cells before it have their verdicts, and the policer is as after these. Otherwise judged
+ * is the count. It is 0 after ABT_NO_STATE. Policer, at, verdicts and judged have to be different memory.
+ * Answers ABT_OK, or ABT_NULL, ABT_NO_STATE, ABT_CLOCK_BACK, ABT_TIME_RANGE. */
+static inline abt_outcome abt_policer_arrive_burst(abt_policer *policer, uint16_t held, const uint64_t *at, uint8_t *verdicts, size_t count,
+                                                   size_t *judged);
+
 /* ---- the shaper ---- */
 
 typedef struct abt_shaper { uint64_t private_[4]; } abt_shaper;
@@ -189,6 +204,10 @@ static inline abt_outcome abt_shaper_init(abt_shaper *shaper, uint64_t not_befor
 /* Lets a cell leave now, at a rate of this code, and gives the earliest moment of the next cell, also after ABT_TOO_SOON.
  * Answers ABT_OK, or ABT_NULL, ABT_NO_STATE, ABT_CLOCK_BACK, ABT_TIME_RANGE, ABT_ZERO, ABT_TOO_SOON. */
 static inline abt_outcome abt_shaper_emit(abt_shaper *shaper, uint64_t now, uint16_t rate, uint64_t *next);
+
+/* Gives the earliest moment at which the next cell may leave.
+ * Answers ABT_OK, or ABT_NULL, ABT_NO_STATE. */
+static inline abt_outcome abt_shaper_next(const abt_shaper *shaper, uint64_t *next);
 
 /* ---- a source ----
  *
@@ -245,6 +264,21 @@ static inline abt_outcome abt_source_crash(abt_source *source);
  * Answers ABT_OK, or ABT_NULL, ABT_NO_STATE. */
 static inline abt_outcome abt_source_rate(const abt_source *source, uint16_t *rate);
 
+/* What a source does: it isn't started, waits for nothing, waits for an answer, or for what became of a write. */
+enum { ABT_PHASE_DOWN = 0, ABT_PHASE_IDLE = 1, ABT_PHASE_ASKING = 2, ABT_PHASE_WRITING = 3 };
+
+/* Gives the phase of the source.
+ * Answers ABT_OK, or ABT_NULL, ABT_NO_STATE. */
+static inline abt_outcome abt_source_phase(const abt_source *source, uint32_t *phase);
+
+/* Gives the last number that is used up, by a request or by a start that passed over it: the next request has the one above it.
+ * Answers ABT_OK, or ABT_NULL, ABT_NO_STATE. */
+static inline abt_outcome abt_source_last(const abt_source *source, uint32_t *number);
+
+/* Gives the earliest moment at which abt_source_emit lets a cell leave, at the present rate, without trying: just from then on it does.
+ * Answers ABT_OK, or ABT_NULL, ABT_NO_STATE, ABT_DOWN, ABT_WRITING, ABT_ZERO, ABT_TIME_RANGE (it is above ABT_EMIT_MAX, so there is none). */
+static inline abt_outcome abt_source_next(const abt_source *source, uint64_t *next);
+
 /* ---- a port ----
  *
  * It decides the requests and answers of its connections, so that the sum of what they hold is never above the capacity of its link. The
@@ -287,16 +321,33 @@ static inline abt_outcome abt_port_total(const abt_port *port, uint64_t *total);
  * Answers ABT_OK, or ABT_NULL, ABT_NO_STATE. */
 static inline abt_outcome abt_connection_held(const abt_connection *connection, uint16_t *held);
 
+/* Gives the capacity of the port's link, in units.
+ * Answers ABT_OK, or ABT_NULL, ABT_NO_STATE. */
+static inline abt_outcome abt_port_capacity(const abt_port *port, uint64_t *capacity);
+
+/* What a port keeps of a connection: the newest request that it decided. While that is open, the connection holds ask, and else floor. */
+typedef struct abt_reservation {
+    uint32_t newest;  /* its number, 0 before the first */
+    uint32_t is_open; /* 1 if it is open, 0 if it is shut */
+    uint16_t floor;   /* a canonical code */
+    uint16_t ask;     /* a canonical code */
+} abt_reservation;
+
+/* Gives what the port keeps of a connection.
+ * Answers ABT_OK, or ABT_NULL, ABT_NO_STATE. */
+static inline abt_outcome abt_connection_reservation(const abt_connection *connection, abt_reservation *reservation);
+
 /* ---- a port with a table ----
  *
  * A port that finds the connection of a message itself. One state has the port and all of its connections, so what they hold adds up to the
- * port's sum, call by call, whatever messages come. Connections are taken in once, and stay. A connection is found along a chain of those
- * whose channels fall together: about one step where VPIs and VCIs differ as usual, and as many as there are connections at worst. */
+ * port's sum, call by call, whatever messages come. Where the port is a connection's ingress, it also polices the connection's cells. A
+ * connection is found along a chain of those whose channels fall together: about one step where VPIs and VCIs differ as usual, and as many
+ * as there are connections at worst. */
 
 /* The most connections of a table. */
 #define ABT_TABLE_PLACES 1024
 
-typedef struct abt_table { uint64_t private_[3589]; } abt_table;
+typedef struct abt_table { uint64_t private_[7685]; } abt_table;
 
 /* Makes a state that of a port of a link of a capacity in units, of which nothing is held, and that has no connection, whatever it was
  * before.
@@ -306,6 +357,15 @@ static inline abt_outcome abt_table_init(abt_table *table, uint64_t capacity);
 /* Takes a connection in, which has asked for nothing.
  * Answers ABT_OK, or ABT_NULL, ABT_NO_STATE, ABT_VPI_RANGE, ABT_KNOWN, ABT_FULL, ABT_DAMAGED. */
 static inline abt_outcome abt_table_add(abt_table *table, uint16_t vpi, uint16_t vci);
+
+/* The same for a connection whose ingress the port is: with a policer of this tolerance, which has met no cell.
+ * Answers ABT_OK, or ABT_NULL, ABT_TAU_RANGE, ABT_NO_STATE, ABT_VPI_RANGE, ABT_KNOWN, ABT_FULL, ABT_DAMAGED. */
+static inline abt_outcome abt_table_add_ingress(abt_table *table, uint16_t vpi, uint16_t vci, uint64_t tau);
+
+/* Takes a connection away, with its policer. One that holds a rate stays, with ABT_HELD: what was granted is given back by messages alone, as
+ * a request for the rate 0. So the sum is the same before and after. All others are linked anew, in some 1,024 steps at most.
+ * Answers ABT_OK, ABT_UNKNOWN_VC, or ABT_NULL, ABT_NO_STATE, ABT_VPI_RANGE, ABT_HELD, ABT_DAMAGED. */
+static inline abt_outcome abt_table_remove(abt_table *table, uint16_t vpi, uint16_t vci);
 
 /* Decides a request, as abt_port_request does, of the connection that has its VPI and VCI.
  * Answers ABT_PASS, ABT_REFUSE, ABT_UNKNOWN_VC, ABT_STALE, ABT_CONFLICT, ABT_FLOOR_ABOVE, or ABT_NULL, ABT_NO_STATE, ABT_KIND (no request),
@@ -337,6 +397,37 @@ static inline abt_outcome abt_table_total(const abt_table *table, uint64_t *tota
  * Answers ABT_OK, ABT_UNKNOWN_VC, or ABT_NULL, ABT_NO_STATE, ABT_VPI_RANGE, ABT_DAMAGED. */
 static inline abt_outcome abt_table_held(const abt_table *table, uint16_t vpi, uint16_t vci, uint16_t *held);
 
+/* Gives what the port keeps of a connection.
+ * Answers ABT_OK, ABT_UNKNOWN_VC, or ABT_NULL, ABT_NO_STATE, ABT_VPI_RANGE, ABT_DAMAGED. */
+static inline abt_outcome abt_table_reservation(const abt_table *table, uint16_t vpi, uint16_t vci, abt_reservation *reservation);
+
+/* Gives the capacity of the link, in units.
+ * Answers ABT_OK, or ABT_NULL, ABT_NO_STATE. */
+static inline abt_outcome abt_table_capacity(const abt_table *table, uint64_t *capacity);
+
+/* Gives how many connections the table has.
+ * Answers ABT_OK, or ABT_NULL, ABT_NO_STATE. */
+static inline abt_outcome abt_table_count(const abt_table *table, uint64_t *count);
+
+/* The verdict on a cell of a connection that arrives at a moment at the port, its ingress, at the rate that the connection holds.
+ * Answers ABT_CONFORMING, ABT_TOO_EARLY, ABT_NO_RATE, ABT_UNKNOWN_VC, or ABT_NULL, ABT_NO_STATE, ABT_VPI_RANGE, ABT_NOT_INGRESS,
+ * ABT_CLOCK_BACK (the connection's last cell came later), ABT_TIME_RANGE, ABT_DAMAGED. */
+static inline abt_outcome abt_table_arrive(abt_table *table, uint16_t vpi, uint16_t vci, uint64_t at);
+
+/* A cell of a connection that arrives at a moment. */
+typedef struct abt_arrival {
+    uint64_t at;
+    uint16_t vpi; /* up to 4095 */
+    uint16_t vci;
+} abt_arrival;
+
+/* The same for a burst of cells of any of the connections: just what as many calls of abt_table_arrive do, in this order. Each outcome below
+ * ABT_FAULTS goes to the place of its cell. The first cell for which a single call is refused ends the burst with that fault: judged is its
+ * place, the cells before it have their outcomes, and the table is as after these. Otherwise judged is the count. It is 0 after ABT_NO_STATE.
+ * Table, cells, outcomes and judged have to be different memory.
+ * Answers ABT_OK, or ABT_NULL, ABT_NO_STATE, ABT_VPI_RANGE, ABT_NOT_INGRESS, ABT_CLOCK_BACK, ABT_TIME_RANGE, ABT_DAMAGED. */
+static inline abt_outcome abt_table_arrive_burst(abt_table *table, const abt_arrival *cells, uint8_t *outcomes, size_t count, size_t *judged);
+
 /* ---- names ---- */
 
 /* The name of an outcome or a fault, for messages. */
@@ -350,14 +441,17 @@ abt_outcome abt_raw_rate_at_least(uint64_t units, uint16_t *code);
 abt_outcome abt_raw_crc10(const uint8_t *payload, size_t length, uint16_t *check);
 abt_outcome abt_raw_rm_read(const uint8_t *cell, size_t length, abt_rm *rm);
 abt_outcome abt_raw_rm_write(const abt_rm *rm, uint8_t *cell, size_t length);
+abt_outcome abt_raw_rm_turn(const abt_rm *rm, abt_rm *yes);
 abt_outcome abt_raw_gcra_init(abt_gcra *gcra, uint64_t tau);
 abt_outcome abt_raw_gcra_check(abt_gcra *gcra, uint64_t at, uint64_t spacing);
 abt_outcome abt_raw_bucket_init(abt_bucket *bucket, uint64_t tau);
 abt_outcome abt_raw_bucket_check(abt_bucket *bucket, uint64_t at, uint64_t spacing);
 abt_outcome abt_raw_policer_init(abt_policer *policer, uint64_t tau);
 abt_outcome abt_raw_policer_arrive(abt_policer *policer, uint64_t at, uint16_t held);
+abt_outcome abt_raw_policer_arrive_burst(abt_policer *policer, uint16_t held, const uint64_t *at, size_t count, uint8_t *verdicts, size_t room, size_t *judged);
 abt_outcome abt_raw_shaper_init(abt_shaper *shaper, uint64_t not_before);
 abt_outcome abt_raw_shaper_emit(abt_shaper *shaper, uint64_t now, uint16_t rate, uint64_t *next);
+abt_outcome abt_raw_shaper_next(const abt_shaper *shaper, uint64_t *next);
 abt_outcome abt_raw_source_init(abt_source *source, uint16_t vpi, uint16_t vci);
 abt_outcome abt_raw_source_start(abt_source *source, const uint8_t *record, size_t length, uint64_t now);
 abt_outcome abt_raw_source_ask(abt_source *source, uint16_t rate, uint8_t *record, size_t length, abt_rm *rm);
@@ -367,6 +461,9 @@ abt_outcome abt_raw_source_answer(abt_source *source, const abt_rm *rm);
 abt_outcome abt_raw_source_emit(abt_source *source, uint64_t now, uint64_t *next);
 abt_outcome abt_raw_source_crash(abt_source *source);
 abt_outcome abt_raw_source_rate(const abt_source *source, uint16_t *rate);
+abt_outcome abt_raw_source_phase(const abt_source *source, uint32_t *phase);
+abt_outcome abt_raw_source_last(const abt_source *source, uint32_t *number);
+abt_outcome abt_raw_source_next(const abt_source *source, uint64_t *next);
 abt_outcome abt_raw_port_init(abt_port *port, uint64_t capacity);
 abt_outcome abt_raw_connection_init(abt_connection *connection, uint16_t vpi, uint16_t vci);
 abt_outcome abt_raw_port_request(abt_port *port, abt_connection *connection, const abt_rm *rm, abt_rm *answer);
@@ -374,14 +471,23 @@ abt_outcome abt_raw_port_answer(abt_port *port, abt_connection *connection, cons
 abt_outcome abt_raw_port_set_capacity(abt_port *port, uint64_t capacity);
 abt_outcome abt_raw_port_total(const abt_port *port, uint64_t *total);
 abt_outcome abt_raw_connection_held(const abt_connection *connection, uint16_t *held);
+abt_outcome abt_raw_port_capacity(const abt_port *port, uint64_t *capacity);
+abt_outcome abt_raw_connection_reservation(const abt_connection *connection, abt_reservation *reservation);
 abt_outcome abt_raw_table_init(abt_table *table, uint64_t capacity);
 abt_outcome abt_raw_table_add(abt_table *table, uint16_t vpi, uint16_t vci);
+abt_outcome abt_raw_table_add_ingress(abt_table *table, uint16_t vpi, uint16_t vci, uint64_t tau);
+abt_outcome abt_raw_table_remove(abt_table *table, uint16_t vpi, uint16_t vci);
 abt_outcome abt_raw_table_request(abt_table *table, const abt_rm *rm, abt_rm *answer);
 abt_outcome abt_raw_table_answer(abt_table *table, const abt_rm *rm);
 abt_outcome abt_raw_table_cell(abt_table *table, const uint8_t *cell, size_t length, uint8_t *sent, size_t room);
 abt_outcome abt_raw_table_set_capacity(abt_table *table, uint64_t capacity);
 abt_outcome abt_raw_table_total(const abt_table *table, uint64_t *total);
 abt_outcome abt_raw_table_held(const abt_table *table, uint16_t vpi, uint16_t vci, uint16_t *held);
+abt_outcome abt_raw_table_reservation(const abt_table *table, uint16_t vpi, uint16_t vci, abt_reservation *reservation);
+abt_outcome abt_raw_table_capacity(const abt_table *table, uint64_t *capacity);
+abt_outcome abt_raw_table_count(const abt_table *table, uint64_t *count);
+abt_outcome abt_raw_table_arrive(abt_table *table, uint16_t vpi, uint16_t vci, uint64_t at);
+abt_outcome abt_raw_table_arrive_burst(abt_table *table, const abt_arrival *cells, size_t count, uint8_t *outcomes, size_t room, size_t *judged);
 
 static inline abt_outcome abt_rate_at_least(uint64_t units, uint16_t *code)
 {
@@ -401,6 +507,11 @@ static inline abt_outcome abt_rm_read(const uint8_t *cell, size_t length, abt_rm
 static inline abt_outcome abt_rm_write(const abt_rm *rm, uint8_t *cell, size_t length)
 {
     return rm && cell ? abt_raw_rm_write(rm, cell, length) : (abt_outcome)ABT_NULL;
+}
+
+static inline abt_outcome abt_rm_turn(const abt_rm *rm, abt_rm *yes)
+{
+    return rm && yes ? abt_raw_rm_turn(rm, yes) : (abt_outcome)ABT_NULL;
 }
 
 static inline abt_outcome abt_gcra_init(abt_gcra *gcra, uint64_t tau)
@@ -433,6 +544,13 @@ static inline abt_outcome abt_policer_arrive(abt_policer *policer, uint64_t at, 
     return policer ? abt_raw_policer_arrive(policer, at, held) : (abt_outcome)ABT_NULL;
 }
 
+static inline abt_outcome abt_policer_arrive_burst(abt_policer *policer, uint16_t held, const uint64_t *at, uint8_t *verdicts, size_t count,
+                                                   size_t *judged)
+{
+    return policer && at && verdicts && judged ? abt_raw_policer_arrive_burst(policer, held, at, count, verdicts, count, judged)
+                                               : (abt_outcome)ABT_NULL;
+}
+
 static inline abt_outcome abt_shaper_init(abt_shaper *shaper, uint64_t not_before)
 {
     return shaper ? abt_raw_shaper_init(shaper, not_before) : (abt_outcome)ABT_NULL;
@@ -441,6 +559,11 @@ static inline abt_outcome abt_shaper_init(abt_shaper *shaper, uint64_t not_befor
 static inline abt_outcome abt_shaper_emit(abt_shaper *shaper, uint64_t now, uint16_t rate, uint64_t *next)
 {
     return shaper && next ? abt_raw_shaper_emit(shaper, now, rate, next) : (abt_outcome)ABT_NULL;
+}
+
+static inline abt_outcome abt_shaper_next(const abt_shaper *shaper, uint64_t *next)
+{
+    return shaper && next ? abt_raw_shaper_next(shaper, next) : (abt_outcome)ABT_NULL;
 }
 
 static inline abt_outcome abt_source_init(abt_source *source, uint16_t vpi, uint16_t vci)
@@ -488,6 +611,21 @@ static inline abt_outcome abt_source_rate(const abt_source *source, uint16_t *ra
     return source && rate ? abt_raw_source_rate(source, rate) : (abt_outcome)ABT_NULL;
 }
 
+static inline abt_outcome abt_source_phase(const abt_source *source, uint32_t *phase)
+{
+    return source && phase ? abt_raw_source_phase(source, phase) : (abt_outcome)ABT_NULL;
+}
+
+static inline abt_outcome abt_source_last(const abt_source *source, uint32_t *number)
+{
+    return source && number ? abt_raw_source_last(source, number) : (abt_outcome)ABT_NULL;
+}
+
+static inline abt_outcome abt_source_next(const abt_source *source, uint64_t *next)
+{
+    return source && next ? abt_raw_source_next(source, next) : (abt_outcome)ABT_NULL;
+}
+
 static inline abt_outcome abt_port_init(abt_port *port, uint64_t capacity)
 {
     return port ? abt_raw_port_init(port, capacity) : (abt_outcome)ABT_NULL;
@@ -523,6 +661,16 @@ static inline abt_outcome abt_connection_held(const abt_connection *connection, 
     return connection && held ? abt_raw_connection_held(connection, held) : (abt_outcome)ABT_NULL;
 }
 
+static inline abt_outcome abt_port_capacity(const abt_port *port, uint64_t *capacity)
+{
+    return port && capacity ? abt_raw_port_capacity(port, capacity) : (abt_outcome)ABT_NULL;
+}
+
+static inline abt_outcome abt_connection_reservation(const abt_connection *connection, abt_reservation *reservation)
+{
+    return connection && reservation ? abt_raw_connection_reservation(connection, reservation) : (abt_outcome)ABT_NULL;
+}
+
 static inline abt_outcome abt_table_init(abt_table *table, uint64_t capacity)
 {
     return table ? abt_raw_table_init(table, capacity) : (abt_outcome)ABT_NULL;
@@ -531,6 +679,16 @@ static inline abt_outcome abt_table_init(abt_table *table, uint64_t capacity)
 static inline abt_outcome abt_table_add(abt_table *table, uint16_t vpi, uint16_t vci)
 {
     return table ? abt_raw_table_add(table, vpi, vci) : (abt_outcome)ABT_NULL;
+}
+
+static inline abt_outcome abt_table_add_ingress(abt_table *table, uint16_t vpi, uint16_t vci, uint64_t tau)
+{
+    return table ? abt_raw_table_add_ingress(table, vpi, vci, tau) : (abt_outcome)ABT_NULL;
+}
+
+static inline abt_outcome abt_table_remove(abt_table *table, uint16_t vpi, uint16_t vci)
+{
+    return table ? abt_raw_table_remove(table, vpi, vci) : (abt_outcome)ABT_NULL;
 }
 
 static inline abt_outcome abt_table_request(abt_table *table, const abt_rm *rm, abt_rm *answer)
@@ -561,6 +719,32 @@ static inline abt_outcome abt_table_total(const abt_table *table, uint64_t *tota
 static inline abt_outcome abt_table_held(const abt_table *table, uint16_t vpi, uint16_t vci, uint16_t *held)
 {
     return table && held ? abt_raw_table_held(table, vpi, vci, held) : (abt_outcome)ABT_NULL;
+}
+
+static inline abt_outcome abt_table_reservation(const abt_table *table, uint16_t vpi, uint16_t vci, abt_reservation *reservation)
+{
+    return table && reservation ? abt_raw_table_reservation(table, vpi, vci, reservation) : (abt_outcome)ABT_NULL;
+}
+
+static inline abt_outcome abt_table_capacity(const abt_table *table, uint64_t *capacity)
+{
+    return table && capacity ? abt_raw_table_capacity(table, capacity) : (abt_outcome)ABT_NULL;
+}
+
+static inline abt_outcome abt_table_count(const abt_table *table, uint64_t *count)
+{
+    return table && count ? abt_raw_table_count(table, count) : (abt_outcome)ABT_NULL;
+}
+
+static inline abt_outcome abt_table_arrive(abt_table *table, uint16_t vpi, uint16_t vci, uint64_t at)
+{
+    return table ? abt_raw_table_arrive(table, vpi, vci, at) : (abt_outcome)ABT_NULL;
+}
+
+static inline abt_outcome abt_table_arrive_burst(abt_table *table, const abt_arrival *cells, uint8_t *outcomes, size_t count, size_t *judged)
+{
+    return table && cells && outcomes && judged ? abt_raw_table_arrive_burst(table, cells, count, outcomes, count, judged)
+                                                : (abt_outcome)ABT_NULL;
 }
 
 static inline const char *abt_outcome_name(abt_outcome outcome)
@@ -614,6 +798,8 @@ static inline const char *abt_outcome_name(abt_outcome outcome)
     case ABT_KNOWN: return "Known";
     case ABT_FULL: return "Full";
     case ABT_DAMAGED: return "Damaged";
+    case ABT_HELD: return "Held";
+    case ABT_NOT_INGRESS: return "NotIngress";
     default: return "unknown";
     }
 }

@@ -129,9 +129,31 @@ inline result<rm> read(std::span<const std::uint8_t> octets) noexcept { return d
 inline result<cell> write(const request &it) noexcept { return detail::write(detail::raw_of(it)); }
 inline result<cell> write(const answer &it) noexcept { return detail::write(detail::raw_of(it)); }
 
+/* abt_rm_turn: the yes to a request that the last port of its path passed */
+inline result<answer> turn(const request &it) noexcept
+{
+    abt_rm raw = detail::raw_of(it), yes{};
+    abt_outcome outcome = abt_rm_turn(&raw, &yes);
+    return detail::checked(outcome, answer{detail::request_of(yes), true});
+}
+
 /* ---- GCRA, policer, shaper ---- */
 
 enum class verdict : abt_outcome { conforming = ABT_CONFORMING, too_early = ABT_TOO_EARLY, no_rate = ABT_NO_RATE };
+
+/* A burst: how many cells got a verdict, and why the one after them got none, if there is one. */
+struct burst {
+    std::size_t judged;
+    std::optional<fault> why;
+    explicit operator bool() const noexcept { return !why; }
+};
+
+namespace detail {
+inline burst burst_of(abt_outcome outcome, std::size_t judged) noexcept
+{
+    return {judged, refused(outcome) ? std::optional<fault>(why(outcome)) : std::nullopt};
+}
+} // namespace detail
 
 /* The algorithm by virtual scheduling. */
 class gcra {
@@ -192,6 +214,21 @@ public:
         abt_outcome outcome = abt_policer_arrive(&raw_, at.count(), static_cast<std::uint16_t>(held));
         return detail::checked(outcome, static_cast<verdict>(outcome));
     }
+    /* abt_policer_arrive_burst: of `count` moments in picoseconds, a verdict's number for each */
+    [[nodiscard]] burst arrive(const std::uint64_t *at, std::uint8_t *verdicts, std::size_t count, code held) noexcept
+    {
+        std::size_t judged = 0;
+        abt_outcome outcome = abt_policer_arrive_burst(&raw_, static_cast<std::uint16_t>(held), at, verdicts, count, &judged);
+        return detail::burst_of(outcome, judged);
+    }
+#if defined(__cpp_lib_span)
+    /* The same; fault::length if there isn't a place for each verdict. */
+    [[nodiscard]] burst arrive(std::span<const std::uint64_t> at, std::span<std::uint8_t> verdicts, code held) noexcept
+    {
+        if (at.size() != verdicts.size()) return {0, fault::length};
+        return arrive(at.data(), verdicts.data(), at.size(), held);
+    }
+#endif
 
 private:
     policer() noexcept = default;
@@ -227,6 +264,13 @@ public:
         std::uint64_t next = 0;
         abt_outcome outcome = abt_shaper_emit(&raw_, now.count(), static_cast<std::uint16_t>(rate), &next);
         return detail::emitted(outcome, next);
+    }
+    /* abt_shaper_next */
+    result<picoseconds> next() const noexcept
+    {
+        std::uint64_t next = 0;
+        abt_outcome outcome = abt_shaper_next(&raw_, &next);
+        return detail::checked(outcome, picoseconds(next));
     }
 
 private:

@@ -28,7 +28,30 @@ struct served {
     std::optional<cell> sent;
 };
 
+/* What a port keeps of a connection: the newest request that it decided. While it is open, the connection holds ask, and else floor. */
+struct reservation {
+    std::uint32_t newest;
+    bool is_open;
+    code floor, ask;
+    bool operator==(const reservation &o) const noexcept
+    {
+        return newest == o.newest && is_open == o.is_open && floor == o.floor && ask == o.ask;
+    }
+};
+
+/* What becomes of a cell at its ingress. */
+enum class policed : abt_outcome {
+    conforming = ABT_CONFORMING,
+    too_early = ABT_TOO_EARLY,
+    no_rate = ABT_NO_RATE,
+    unknown_vc = ABT_UNKNOWN_VC
+};
+
 namespace detail {
+inline reservation reservation_of(const abt_reservation &raw) noexcept
+{
+    return {raw.newest, raw.is_open != 0, static_cast<code>(raw.floor), static_cast<code>(raw.ask)};
+}
 inline result<decided> decided_by(abt_outcome outcome, const abt_rm &back) noexcept
 {
     if (refused(outcome)) return why(outcome);
@@ -55,6 +78,13 @@ public:
         std::uint16_t held = 0;
         abt_outcome outcome = abt_connection_held(&state_.raw, &held);
         return detail::checked(outcome, static_cast<code>(held));
+    }
+    /* abt_connection_reservation */
+    result<abt::reservation> reservation() const noexcept
+    {
+        abt_reservation raw{};
+        abt_outcome outcome = abt_connection_reservation(&state_.raw, &raw);
+        return detail::checked(outcome, detail::reservation_of(raw));
     }
 
 private:
@@ -98,13 +128,20 @@ public:
         abt_outcome outcome = abt_port_total(&state_.raw, &total);
         return detail::checked(outcome, static_cast<units>(total));
     }
+    /* abt_port_capacity */
+    result<units> capacity() const noexcept
+    {
+        std::uint64_t capacity = 0;
+        abt_outcome outcome = abt_port_capacity(&state_.raw, &capacity);
+        return detail::checked(outcome, static_cast<units>(capacity));
+    }
 
 private:
     port() noexcept = default;
     detail::owned<abt_port> state_;
 };
 
-/* A port with a table of up to ABT_TABLE_PLACES connections. It has 28,712 octets and stays where it is: it is neither copied nor moved.
+/* A port with a table of up to ABT_TABLE_PLACES connections. It has 61,480 octets and stays where it is: it is neither copied nor moved.
  * Until begin() it is no table, and its calls give fault::no_state. */
 class table {
 public:
@@ -116,6 +153,38 @@ public:
     result<done> begin(units capacity) noexcept { return detail::checked(abt_table_init(&raw_, static_cast<std::uint64_t>(capacity))); }
     /* abt_table_add */
     result<done> add(std::uint16_t vpi, std::uint16_t vci) noexcept { return detail::checked(abt_table_add(&raw_, vpi, vci)); }
+    /* abt_table_add_ingress */
+    result<done> add(std::uint16_t vpi, std::uint16_t vci, picoseconds tau) noexcept
+    {
+        return detail::checked(abt_table_add_ingress(&raw_, vpi, vci, tau.count()));
+    }
+    /* abt_table_remove: false if the connection isn't in the table */
+    result<bool> remove(std::uint16_t vpi, std::uint16_t vci) noexcept
+    {
+        abt_outcome outcome = abt_table_remove(&raw_, vpi, vci);
+        return detail::checked(outcome, outcome == ABT_OK);
+    }
+    /* abt_table_arrive */
+    result<policed> arrive(std::uint16_t vpi, std::uint16_t vci, picoseconds at) noexcept
+    {
+        abt_outcome outcome = abt_table_arrive(&raw_, vpi, vci, at.count());
+        return detail::checked(outcome, static_cast<policed>(outcome));
+    }
+    /* abt_table_arrive_burst: the number of what becomes of each of `count` cells */
+    [[nodiscard]] burst arrive(const abt_arrival *cells, std::uint8_t *outcomes, std::size_t count) noexcept
+    {
+        std::size_t judged = 0;
+        abt_outcome outcome = abt_table_arrive_burst(&raw_, cells, outcomes, count, &judged);
+        return detail::burst_of(outcome, judged);
+    }
+#if defined(__cpp_lib_span)
+    /* The same; fault::length if there isn't a place for each outcome. */
+    [[nodiscard]] burst arrive(std::span<const abt_arrival> cells, std::span<std::uint8_t> outcomes) noexcept
+    {
+        if (cells.size() != outcomes.size()) return {0, fault::length};
+        return arrive(cells.data(), outcomes.data(), cells.size());
+    }
+#endif
     /* abt_table_request */
     result<decided> take(const request &it) noexcept
     {
@@ -152,6 +221,27 @@ public:
         std::uint16_t held = 0;
         abt_outcome outcome = abt_table_held(&raw_, vpi, vci, &held);
         return detail::checked(outcome, outcome == ABT_OK ? std::optional<code>(static_cast<code>(held)) : std::nullopt);
+    }
+    /* abt_table_reservation: none if the connection isn't in the table */
+    result<std::optional<abt::reservation>> reservation(std::uint16_t vpi, std::uint16_t vci) const noexcept
+    {
+        abt_reservation raw{};
+        abt_outcome outcome = abt_table_reservation(&raw_, vpi, vci, &raw);
+        return detail::checked(outcome, outcome == ABT_OK ? std::optional<abt::reservation>(detail::reservation_of(raw)) : std::nullopt);
+    }
+    /* abt_table_capacity */
+    result<units> capacity() const noexcept
+    {
+        std::uint64_t capacity = 0;
+        abt_outcome outcome = abt_table_capacity(&raw_, &capacity);
+        return detail::checked(outcome, static_cast<units>(capacity));
+    }
+    /* abt_table_count */
+    result<std::uint64_t> count() const noexcept
+    {
+        std::uint64_t count = 0;
+        abt_outcome outcome = abt_table_count(&raw_, &count);
+        return detail::checked(outcome, count);
     }
 
 private:

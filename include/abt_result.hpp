@@ -46,7 +46,9 @@ enum class fault : abt_outcome {
     capacity_range = ABT_CAPACITY_RANGE,
     known = ABT_KNOWN,
     full = ABT_FULL,
-    damaged = ABT_DAMAGED
+    damaged = ABT_DAMAGED,
+    held = ABT_HELD,
+    not_ingress = ABT_NOT_INGRESS
 };
 
 /* abt_outcome_name */

@@ -33,6 +33,9 @@ struct asked;
 
 template <class Before> using ask_outcome = std::variant<asked, writing<Before>, refused<Before>>;
 
+/* What a source does. */
+enum class phase : std::uint32_t { down = ABT_PHASE_DOWN, idle = ABT_PHASE_IDLE, asking = ABT_PHASE_ASKING, writing = ABT_PHASE_WRITING };
+
 /* What all states have. */
 class source_state {
 public:
@@ -42,6 +45,20 @@ public:
         std::uint16_t rate = 0;
         abt_outcome outcome = abt_source_rate(&state_.raw, &rate);
         return detail::checked(outcome, static_cast<code>(rate));
+    }
+    /* abt_source_phase */
+    result<abt::phase> phase() const noexcept
+    {
+        std::uint32_t phase = 0;
+        abt_outcome outcome = abt_source_phase(&state_.raw, &phase);
+        return detail::checked(outcome, static_cast<abt::phase>(phase));
+    }
+    /* abt_source_last */
+    result<std::uint32_t> last() const noexcept
+    {
+        std::uint32_t number = 0;
+        abt_outcome outcome = abt_source_last(&state_.raw, &number);
+        return detail::checked(outcome, number);
     }
 
 protected:
@@ -86,6 +103,13 @@ public:
         std::uint64_t next = 0;
         abt_outcome outcome = abt_source_emit(&this->state_.raw, now.count(), &next);
         return detail::emitted(outcome, next);
+    }
+    /* abt_source_next */
+    result<picoseconds> next() const noexcept
+    {
+        std::uint64_t next = 0;
+        abt_outcome outcome = abt_source_next(&this->state_.raw, &next);
+        return detail::checked(outcome, picoseconds(next));
     }
     /* abt_source_crash */
     std::variant<down, refused<Self>> crash() && noexcept

@@ -1,4 +1,4 @@
-/* A port of a switch: it serves RM cells by a table of its connections, and polices their data cells by what they hold.
+/* A port of a switch: it serves RM cells by a table of its connections, and as their ingress polices their data cells by what they hold.
  *
  * usage: switch CAPACITY TAU VPI/VCI..
  *
@@ -16,14 +16,7 @@
 #include <stdlib.h>
 #include <string.h>
 
-struct channel {
-    uint16_t vpi, vci;
-    abt_policer policer;
-};
-
 static abt_table table;
-static struct channel channels[ABT_TABLE_PLACES];
-static size_t count;
 
 static int fault(const char *what, abt_outcome why)
 {
@@ -64,31 +57,17 @@ static void serve(const char *way, const char *text)
         printf("drop %s\n", abt_outcome_name(outcome));
 }
 
-static void police(uint16_t vpi, uint16_t vci, uint64_t at)
-{
-    uint16_t held = 0;
-    abt_outcome outcome = abt_table_held(&table, vpi, vci, &held);
-    for (size_t i = 0; i < count && outcome == ABT_OK; i++)
-        if (channels[i].vpi == vpi && channels[i].vci == vci)
-            outcome = abt_policer_arrive(&channels[i].policer, at, held);
-    puts(abt_outcome_name(outcome));
-}
-
 static int begin(int words, char **word)
 {
+    uint16_t vpi, vci;
     abt_outcome outcome = abt_table_init(&table, strtoull(word[1], NULL, 10));
     if (outcome != ABT_OK)
         return fault("capacity", outcome);
-    for (int i = 3; i < words; i++, count++) {
-        if (count == ABT_TABLE_PLACES)
-            return fault(word[i], ABT_FULL);
-        struct channel *channel = &channels[count];
-        if (sscanf(word[i], "%" SCNu16 "/%" SCNu16, &channel->vpi, &channel->vci) != 2)
+    for (int i = 3; i < words; i++) {
+        if (sscanf(word[i], "%" SCNu16 "/%" SCNu16, &vpi, &vci) != 2)
             return fault(word[i], ABT_VPI_RANGE);
-        if ((outcome = abt_table_add(&table, channel->vpi, channel->vci)) != ABT_OK)
+        if ((outcome = abt_table_add_ingress(&table, vpi, vci, strtoull(word[2], NULL, 10))) != ABT_OK)
             return fault(word[i], outcome);
-        if ((outcome = abt_policer_init(&channel->policer, strtoull(word[2], NULL, 10))) != ABT_OK)
-            return fault("tau", outcome);
     }
     return 0;
 }
@@ -108,7 +87,7 @@ int main(int words, char **word)
         if (strcmp(way, "cell"))
             serve(way, text);
         else if (sscanf(text, "%" SCNu16 "/%" SCNu16, &vpi, &vci) == 2 && scanf("%" SCNu64, &at) == 1)
-            police(vpi, vci, at);
+            puts(abt_outcome_name(abt_table_arrive(&table, vpi, vci, at)));
         fflush(stdout);
     }
     abt_table_total(&table, &total);

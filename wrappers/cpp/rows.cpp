@@ -38,6 +38,8 @@ static void cells()
     HOLDS(abt::read(abt::write(abt::answer{ASK, true}).value()) == abt::rm(abt::answer{ASK, true}));
     HOLDS(abt::read(abt::cell{}).is(fault::not_rm));
     HOLDS(abt::write(abt::request{4096, 0, 1, code(0), code(0)}).is(fault::vpi_range));
+    HOLDS(abt::turn(ASK) == (abt::answer{ASK, true}));
+    HOLDS(abt::turn(abt::request{1, 100, 0, code(0), code(0)}).is(fault::seq_zero));
 #if defined(__cpp_lib_span)
     HOLDS(abt::read(std::span(octets).first(51)).is(fault::length));
 #endif
@@ -60,6 +62,14 @@ static void policers()
     HOLDS(policer.arrive(picoseconds(5), code(0x5120)) == abt::verdict::conforming);
     HOLDS(policer.arrive(picoseconds(6), code(0x5120)) == abt::verdict::too_early);
     HOLDS(abt::policer::with(picoseconds(UINT64_MAX)).is(fault::tau_range));
+    const std::array<std::uint64_t, 3> at{7, 8, 6};
+    std::array<std::uint8_t, 3> verdicts{};
+    abt::burst stopped = policer.arrive(at.data(), verdicts.data(), at.size(), code(0x5120));
+    HOLDS(stopped.why == fault::clock_back && stopped.judged == 2 && verdicts[1] == ABT_TOO_EARLY && verdicts[2] == 0);
+#if defined(__cpp_lib_span)
+    HOLDS(policer.arrive(std::span(at).first(2), verdicts, code(0)).why == fault::length);
+    HOLDS(!policer.arrive(std::span(at).last(1), std::span(verdicts).last(1), code(0)));
+#endif
 }
 
 static void shapers()
@@ -67,7 +77,7 @@ static void shapers()
     auto shaper = abt::shaper::not_before(picoseconds(7)).value();
     abt::emission first = shaper.emit(picoseconds(7), code(0x53e8)), second = shaper.emit(picoseconds(8), code(0x53e8));
     HOLDS(first && first.next == picoseconds(1000000007));
-    HOLDS(second.why == fault::too_soon && second.next == first.next);
+    HOLDS(second.why == fault::too_soon && second.next == first.next && shaper.next() == first.next);
     HOLDS(abt::shaper::not_before(picoseconds(UINT64_MAX)).is(fault::time_range));
 }
 
@@ -95,6 +105,7 @@ static void sources()
     heard = std::move(asking).hear(abt::answer{asked.out, true});
     abt::idle raised = std::move(std::get<abt::raised>(heard).source);
     HOLDS(raised.rate() == code(0x5120));
+    HOLDS(raised.phase() == abt::phase::idle && raised.last() == std::uint32_t(1) && raised.next() == std::chrono::seconds(1));
     HOLDS(raised.emit(picoseconds(2)).why == fault::too_soon); /* a store without a spacing holds off for the longest one */
     HOLDS(raised.emit(std::chrono::seconds(1)).next == picoseconds(1002500000000));
     HOLDS(asking.rate().is(fault::no_state)); /* it was given away */
@@ -117,7 +128,8 @@ static void ports()
     HOLDS(no.what == abt::decision::refuse && *no.back == (abt::answer{more, false}));
     HOLDS(port.take(two, ASK)->what == abt::decision::unknown_vc);
     HOLDS(port.take(one, abt::answer{ASK, true}) == abt::decision::pass);
-    HOLDS(port.total() == units(307200) && one.held() == code(0x5258));
+    HOLDS(port.total() == units(307200) && one.held() == code(0x5258) && port.capacity() == units(512000));
+    HOLDS(one.reservation() == (abt::reservation{1, true, code(0), code(0x5258)}));
     HOLDS(port.set_capacity(units(1)).is(fault::below_sum) && port.set_capacity(units(307200)));
     HOLDS(abt::port::of(units(UINT64_MAX)).is(fault::capacity_range));
     auto moved = std::move(port);
@@ -143,6 +155,19 @@ static void tables()
     HOLDS(table.held(1, 100) == std::optional<code>(code(0)) && table.held(1, 102) == std::optional<code>());
     HOLDS(table.total() == units(0) && table.set_capacity(units(0)));
     HOLDS(table.take(abt::cell{}).is(fault::not_rm));
+    HOLDS(table.capacity() == units(0) && table.count() == std::uint64_t(2));
+    HOLDS(table.reservation(1, 100) == std::optional(abt::reservation{1, false, code(0), code(0x5258)}));
+    HOLDS(table.remove(1, 100) == true && table.remove(1, 100) == false);
+    HOLDS(table.add(1, 100, picoseconds(200)) && table.arrive(1, 100, picoseconds(5)) == abt::policed::no_rate);
+    HOLDS(table.arrive(1, 101, picoseconds(5)).is(fault::not_ingress));
+    HOLDS(table.set_capacity(units(512000)) && table.take(ASK) && table.remove(1, 100).is(fault::held));
+    const std::array<abt_arrival, 3> arrivals{abt_arrival{6, 1, 100}, {6, 1, 7}, {5, 1, 100}};
+    std::array<std::uint8_t, 3> outcomes{};
+    abt::burst burst = table.arrive(arrivals.data(), outcomes.data(), arrivals.size());
+    HOLDS(burst.why == fault::clock_back && burst.judged == 2 && outcomes[0] == ABT_CONFORMING && outcomes[1] == ABT_UNKNOWN_VC);
+#if defined(__cpp_lib_span)
+    HOLDS(table.arrive(arrivals, std::span(outcomes).first(1)).why == fault::length);
+#endif
 }
 
 int main()

@@ -6,3 +6,6 @@ pub mod Ports
 pub mod Tables
 pub mod TableCells
 pub mod Lifetimes
+pub mod Bursts
+pub mod Looks
+pub mod TableArrivals

@@ -144,3 +144,10 @@ full = 75
 
 abbrev pub damaged : ℕ
 damaged = 76
+
+-- the connection holds a rate, or its cells aren't policed here
+abbrev pub held : ℕ
+held = 77
+
+abbrev pub not_ingress : ℕ
+not_ingress = 78

@@ -30,6 +30,10 @@ policing_of s = record { tau = s.tau; tat = if s.tat == 0 then None else Some s.
 abbrev pub IsPolicing : (kind : ℕ) → AbtPolicing → Type 0
 IsPolicing kind s = (s.kind ≡ kind) × IsKept (policing_of s)
 
+-- the state of no kind
+abbrev pub no_policer : AbtPolicing
+no_policer = record { kind = 0; tau = 0; tat = 0; clock = 0 }
+
 -- a spacing that is handed in with a cell
 abbrev pub IsChecked : ℕ → Type 0
 IsChecked spacing = (1 ≤ spacing) × (spacing ≤ spacing_max)

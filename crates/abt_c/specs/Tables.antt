@@ -2,7 +2,9 @@
 use Rattle.std.specs.Prelude.{◌≡◌, ◌≢◌, ℕ, zero, suc, ◌+◌, ◌*◌, ◌/◌, ◌%◌, ◌^◌, ◌<◌, ◌≤◌, ◌==◌, List, take, sum_by, slice_index, slice_index_or, if◌then◌else◌}
 use Rattle.abt_cell.specs.Channel.{Channel}
 use Rattle.abt_c.specs.Ports.{IsPort, IsConnection, channel_in, held_in}
+use Rattle.abt_c.specs.States.{no_policer}
 use Rattle.abt_c.specs.declared.port_state.AbtConnection.{AbtConnection}
+use Rattle.abt_c.specs.declared.state.AbtPolicing.{AbtPolicing}
 use Rattle.abt_c.specs.declared.table_state.AbtTable.{AbtTable}
 use Rattle.abt_c.specs.declared.table_state.Found.{Found}
 use Rattle.abt_c.specs.declared.table_state.Found.TheVariants.{Row, Unknown, Damaged}
@@ -25,6 +27,9 @@ no_connection = record { kind = 0; newest = 0; is_open = 0; vpi = 0; vci = 0; fl
 
 abbrev pub row_of : List AbtConnection → ℕ → AbtConnection
 row_of rows i = slice_index_or rows i no_connection
+
+abbrev pub policer_of : List AbtPolicing → ℕ → AbtPolicing
+policer_of policers i = slice_index_or policers i no_policer
 
 abbrev pub channel_of : List AbtConnection → ℕ → Channel
 channel_of rows i = channel_in (row_of rows i)
@@ -76,5 +81,18 @@ pub record IsTable (t : AbtTable) : Type 0 where
 pub record LeavesOthers (vc : Channel) (old new : AbtTable) : Type 0 where
   pub capacity : new.port.capacity ≡ old.port.capacity
   pub count : new.count ≡ old.count
+  pub policers : new.policers ≡ old.policers
   pub channels : (i : ℕ) → i < old.count → channel_of new.rows i ≡ channel_of old.rows i
   pub rows : (i : ℕ) → i < old.count → channel_of old.rows i ≢ vc → row_of new.rows i ≡ row_of old.rows i
+
+-- a row with its policer stands in another table too
+abbrev pub HasAlso : AbtTable → (row : ℕ) → AbtTable → Type 0
+HasAlso old i new =
+    (j : ℕ) × (j < new.count) × (row_of new.rows j ≡ row_of old.rows i) × (policer_of new.policers j ≡ policer_of old.policers i)
+
+-- A connection went, and all others are there still, with what they hold and their policers; and no more than these.
+pub record KeepsOthers (vc : Channel) (old new : AbtTable) : Type 0 where
+  pub port : new.port ≡ old.port
+  pub count : new.count + 1 ≡ old.count
+  pub kept : (i : ℕ) → i < old.count → channel_of old.rows i ≢ vc → HasAlso old i new
+  pub only : (i : ℕ) → i < new.count → (channel_of new.rows i ≢ vc) × HasAlso new i old

@@ -77,6 +77,10 @@ pub const FULL: u32 = 75;
 
 pub const DAMAGED: u32 = 76;
 
+pub const HELD: u32 = 77;
+
+pub const NOT_INGRESS: u32 = 78;
+
 /// The number of a verdict.
 pub fn of_verdict(verdict: Verdict) -> u32
     ensures value { result ≡ verdict_number verdict }

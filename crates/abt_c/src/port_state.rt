@@ -109,6 +109,16 @@ impl AbtConnection {
         }
     }
 
+    /// A code of that rate.
+    pub fn held_code(&self) -> u16
+        ensures { units_of result ≡ held_in self.now }
+    {
+        match self.is_open {
+            0 => self.floor,
+            _ => self.ask,
+        }
+    }
+
     /// Whether the state is that of the connection.
     pub fn is_of(&self, vc: Vc) -> bool
         ensures { IsTrue result ↔ (channel_in self.now ≡ vc) }

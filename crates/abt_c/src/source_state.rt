@@ -12,7 +12,7 @@ use abt_source::{AnySource, Phase, SourceParts};
 /// Eight letters (docs/C.md, "States").
 const SOURCE_KIND: u64 = 0x6162_7420_736f_7572;
 
-const DOWN: u32 = 0;
+pub const DOWN: u32 = 0;
 
 const IDLE: u32 = 1;
 
@@ -55,7 +55,8 @@ impl AbtSource {
     /// The parts of that source.
     pub fn parts(&self) -> Option<SourceParts>
         ensures some { IsSome result ↔ IsSource self.now }
-        ensures phase { IfSome result (λ parts. phase_by self.now.phase (units_of self.now.ask) ≡ Some parts.phase) }
+        ensures phase { IfSome result (λ parts.
+            phase_by self.now.phase (units_of self.now.ask) ≡ Some parts.phase) }
         ensures source { IfSome result (λ parts. parts.source ≡ source_in self.now) }
     {
         if self.kind != SOURCE_KIND {

@@ -3,7 +3,8 @@ ghost use Rattle.std.specs.Prelude.{◌≡◌, ◌+◌, ◌≤◌, ◌↔◌, �
 ghost use Rattle.abt_rate.specs.Limits.{arrive_max, spacing_max};
 ghost use Rattle.abt_rate.specs.Rate.{units_of};
 ghost use Rattle.abt_gcra.specs.Policing.{IsKept, checked, policed};
-ghost use Rattle.abt_c.specs.States.{policing_of, gcra_kind, policer_kind, IsPolicing, bucket_of, bucket_kind, IsBucket, shaping_of, shaper_kind, IsShaper};
+ghost use Rattle.abt_c.specs.Bursts.{policed_by};
+ghost use Rattle.abt_c.specs.States.{policing_of, no_policer, gcra_kind, policer_kind, IsPolicing, bucket_of, bucket_kind, IsBucket, shaping_of, shaper_kind, IsShaper};
 
 use crate::spacing::spacing_of_code;
 use abt_gcra::{ARRIVE_MAX, Bucket, SPACING_MAX, Verdict};
@@ -55,6 +56,18 @@ pub struct AbtShaper {
 }
 
 impl AbtPolicing {
+    /// The state of no kind.
+    pub fn none() -> AbtPolicing
+        ensures { result ≡ no_policer }
+    {
+        AbtPolicing {
+            kind: 0,
+            tau: 0,
+            tat: 0,
+            clock: 0,
+        }
+    }
+
     /// Whether the state is one of that kind, an algorithm's or a policer's.
     pub fn is(&self, kind: u64) -> bool
         ensures { IsTrue result ↔ IsPolicing kind self.now }
@@ -94,14 +107,24 @@ impl AbtPolicing {
     }
 
     /// Gives a cell at a moment its verdict, if a rate of this code is held.
-    #[tactic(auto, unfolding(abt_gcra::specs::Policing::policed))]
     pub fn police(&mut self, at: u64, held: u16) -> Verdict
         requires kept { IsKept (policing_of self.old) }
         requires arrival { at ≤ arrive_max }
         ensures value { (result, policing_of self.new) ≡ policed (policing_of self.old) at (units_of held) }
         ensures state { IsPolicing self.old.kind self.new }
     {
-        match spacing_of_code(held) {
+        self.police_by(at, spacing_of_code(held))
+    }
+
+    /// Gives a cell at a moment its verdict, by the spacing of the rate that is held, if one is.
+    pub fn police_by(&mut self, at: u64, spacing: Option<u64>) -> Verdict
+        requires kept { IsKept (policing_of self.old) }
+        requires arrival { at ≤ arrive_max }
+        requires range { IfSome spacing (λ t. (1 ≤ t) × (t ≤ spacing_max)) }
+        ensures value { (result, policing_of self.new) ≡ policed_by (policing_of self.old) at spacing }
+        ensures state { IsPolicing self.old.kind self.new }
+    {
+        match spacing {
             Some(spacing) => self.check(at, spacing),
             None => {
                 self.clock = at;

@@ -1,11 +1,12 @@
 //! A port of a switch with a table of its connections, for C: the table, its capacity and its sum.
-ghost use Rattle.std.specs.Prelude.{◌≡◌, ◌≢◌, ℕ, ◌+◌, ◌<◌, ◌≤◌, ◌^◌, ◌↔◌, take, sum_by};
+ghost use Rattle.std.specs.Prelude.{◌≡◌, ◌≢◌, ℕ, ◌+◌, ◌<◌, ◌≤◌, ◌^◌, ◌↔◌, take, sum_by, slice_set};
 ghost use Rattle.abt_rate.specs.Limits.{capacity_max};
 ghost use Rattle.abt_rate.specs.Rate.{units_of, IsCanonical};
 ghost use Rattle.abt_node.specs.declared.reply.DropCause.TheVariants.{UnknownVc};
 ghost use Rattle.abt_node.specs.Reservation.{first_reservation};
-ghost use Rattle.abt_c.specs.Outcome.{done, drop_number, no_state, vpi_range, below_sum, capacity_range, known, full, damaged};
+ghost use Rattle.abt_c.specs.Outcome.{done, drop_number, no_state, tau_range, vpi_range, below_sum, capacity_range, known, full, damaged};
 ghost use Rattle.abt_c.specs.Ports.{port_kind, reservation_in, held_in};
+ghost use Rattle.abt_c.specs.States.{no_policer};
 ghost use Rattle.abt_c.specs.Tables.{HasHead, IsTable, IsRowOf, IsUnknown, places, row_of};
 
 use crate::outcome::{
@@ -49,6 +50,9 @@ pub extern "C" fn abt_raw_table_add(table: &mut AbtTable, vpi: u16, vci: u16) ->
     ensures others { result ≡ done → (table.new.port ≡ table.old.port) ×
         (table.new.count ≡ table.old.count + 1) ×
         ((i : ℕ) → i < table.old.count → row_of table.new.rows i ≡ row_of table.old.rows i) }
+    ensures policers { result ≡ done → (table.old.count < places) ×
+        (table.new.policers ≡ slice_set table.old.policers table.old.count no_policer) }
+    ensures kind { result ≢ tau_range }
     ensures state { IsTable table.old → IsTable table.new }
     ensures same { result ≢ done → table.new ≡ table.old }
 {

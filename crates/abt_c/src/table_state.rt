@@ -1,23 +1,25 @@
 //! The state of a port that finds its connections itself, in a table of up to 1,024.
-ghost use Rattle.std.specs.Prelude.{◌≡◌, ◌≢◌, ℕ, ◌+◌, ◌<◌, ◌≤◌, ◌↔◌, ◌⊎◌, IsTrue, Some, None};
+ghost use Rattle.std.specs.Prelude.{◌≡◌, ◌≢◌, ℕ, ◌+◌, ◌<◌, ◌≤◌, ◌↔◌, ◌⊎◌, IsTrue, Some, None, slice_set};
 ghost use Rattle.abt_rate.specs.Limits.{capacity_max};
 ghost use Rattle.abt_cell.specs.Message.{Reply};
 ghost use Rattle.abt_node.specs.Reservation.{first_reservation, answer_of, no_to};
 ghost use Rattle.abt_c.specs.Ports.{reservation_in, decision_at, port_kind};
 ghost use Rattle.abt_c.specs.Tables.{HasHead, IsTable, HasRow, IsRowOf, IsFound, IsUnknown, LeavesOthers, places, chain_of, row_of};
+ghost use Rattle.abt_c.specs.States.{no_policer};
 
 use crate::port_state::{AbtConnection, AbtPort, PORT_KIND};
+use crate::state::AbtPolicing;
 use abt_cell::{Answer, Request, Vc};
 use abt_node::{Back, DropCause, Onward};
 
 /// The kind, eight letters (docs/C.md, "States").
 pub const TABLE_KIND: u64 = 0x6162_7420_7461_626c;
 
-// Stands for no row.
-const NOWHERE: u16 = 1024;
+/// Stands for no row.
+pub const NOWHERE: u16 = 1024;
 
 /// The state of a port with a table. Each connection has a row. Rows whose channels fall together make a chain: `last` has the last row of each
-/// chain, and `before` the row before each row in its chain.
+/// chain, and `before` the row before each row in its chain. Where the port is a connection's ingress, `policers` has a policer at its row.
 #[repr(C)]
 pub struct AbtTable {
     pub kind: u64,
@@ -26,6 +28,7 @@ pub struct AbtTable {
     pub last: [u16; 1024],
     pub before: [u16; 1024],
     pub rows: [AbtConnection; 1024],
+    pub policers: [AbtPolicing; 1024],
 }
 
 /// The outcome of a look for a connection. Only a table that isn't in order is found to be damaged.
@@ -101,10 +104,12 @@ impl AbtTable {
         ensures row { IsRowOf self.new vc self.old.count }
         ensures first { reservation_in (row_of self.new.rows self.old.count) ≡ first_reservation }
         ensures port { self.new.port ≡ self.old.port }
+        ensures policers { self.new.policers ≡ slice_set self.old.policers self.old.count no_policer }
     {
         let place = self.count as usize;
         let chain = chain_of(vc);
         self.rows[place] = AbtConnection::first(vc);
+        self.policers[place] = AbtPolicing::none();
         self.before[place] = self.last[chain];
         self.last[chain] = place as u16;
         self.count += 1;
@@ -201,12 +206,20 @@ impl AbtTable {
     }
 }
 
-// The chain of a connection. The factor is 2^32 over the golden ratio, which spreads channels in order.
-#[tactic(auto, unfolding(crate::specs::Tables::chain_of))]
+// The chain of a connection.
 fn chain_of(vc: Vc) -> usize
     ensures value { result ≡ chain_of vc }
     ensures within { result < places }
 {
-    let channel = 65536 * u64::from(vc.vpi()) + u64::from(vc.vci());
+    chain_by(vc.vpi(), vc.vci())
+}
+
+/// The chain of a VPI and a VCI. The factor is 2^32 over the golden ratio, which spreads channels in order.
+#[tactic(auto, unfolding(crate::specs::Tables::chain_of))]
+pub fn chain_by(vpi: u16, vci: u16) -> usize
+    ensures value { result ≡ chain_of (record { vpi = vpi; vci = vci }) }
+    ensures within { result < places }
+{
+    let channel = 65536 * u64::from(vpi) + u64::from(vci);
     (channel * 2_654_435_769 % (1 << 32) / (1 << 22)) as usize
 }

@@ -15,19 +15,19 @@ refused is raised as Fault, with its name in C.
 The shared library libabt.so.0 is looked for in the file ABT_LIBRARY, in the release that this package is a part of, and where the system
 looks for libraries. An object isn't for two threads at once.
 """
-from .cells import Answer, Request, crc10, read_cell, write_cell
+from .cells import Answer, Request, crc10, read_cell, turn, write_cell
 from .faults import Fault
 from .gcra import Bucket, Gcra, Policer, Verdict
 from .library import VERSION, LibraryError, library_version
-from .port import Connection, Decision, Port, Served, Table
+from .port import Connection, Decision, Port, Reservation, Served, Table
 from .rates import canonical, rate, spacing, units
 from .shaper import Shaper
-from .source import Heard, Source
+from .source import Heard, Phase, Source
 from .store import FileStore, MemoryStore, Store, StoreFailed
 
 __all__ = [
-    "Answer", "Bucket", "Connection", "Decision", "Fault", "FileStore", "Gcra", "Heard", "LibraryError", "MemoryStore", "Policer", "Port",
-    "Request", "Served", "Shaper", "Source", "Store", "StoreFailed", "Table", "VERSION", "Verdict", "canonical", "crc10", "library_version",
-    "rate", "read_cell", "spacing", "units", "write_cell",
+    "Answer", "Bucket", "Connection", "Decision", "Fault", "FileStore", "Gcra", "Heard", "LibraryError", "MemoryStore", "Phase", "Policer",
+    "Port", "Request", "Reservation", "Served", "Shaper", "Source", "Store", "StoreFailed", "Table", "VERSION", "Verdict", "canonical", "crc10",
+    "library_version", "rate", "read_cell", "spacing", "turn", "units", "write_cell",
 ]
 __version__ = VERSION

@@ -78,6 +78,17 @@ def write_cell(message: Message) -> bytes:
     return octets.raw
 
 
+def turn(request: Request) -> Answer:
+    """The yes to a request that the last port of its path passed: `abt_rm_turn`.
+
+    >>> turn(Request(1, 100, 1, 0, 0x5120)).granted
+    True
+    """
+    raw = Rm()
+    carried_out(LIB.abt_raw_rm_turn(byref(raw_of(request)), byref(raw)))
+    return message_of(raw)
+
+
 def crc10(payload: bytes) -> int:
     """The CRC-10 of a payload of 48 octets, of its first 374 bits: `abt_crc10`.
 

@@ -35,13 +35,15 @@ NAMES = {
     74: "Known",
     75: "Full",
     76: "Damaged",
+    77: "Held",
+    78: "NotIngress",
 }
 FIRST = 32
 
 
 class Fault(Exception):
     """A call was refused, and nothing that was handed in has changed. `name` is that of `abt_outcome_name`, `number` that of abt.h; `next` is
-    the earliest moment of the next cell, after TooSoon.
+    the earliest moment of the next cell, after TooSoon; `judged` what became of the cells of a burst before the one that was refused.
 
     >>> Fault(41, 7)
     Fault('TooSoon')
@@ -49,8 +51,8 @@ class Fault(Exception):
     7
     """
 
-    def __init__(self, number: int, next: int | None = None):
-        self.number, self.name, self.next = number, NAMES.get(number, f"unknown {number}"), next
+    def __init__(self, number: int, next: int | None = None, judged: list | None = None):
+        self.number, self.name, self.next, self.judged = number, NAMES.get(number, f"unknown {number}"), next, judged
         super().__init__(self.name)
 
 

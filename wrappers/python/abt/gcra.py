@@ -2,9 +2,10 @@
 from __future__ import annotations
 
 import enum
-from ctypes import byref
+from collections.abc import Sequence
+from ctypes import byref, c_size_t, c_uint64, create_string_buffer
 
-from .faults import carried_out, moment
+from .faults import FIRST, Fault, carried_out, moment
 from .library import BUCKET, GCRA, LIB, POLICER
 from .rates import Rate, code_of
 
@@ -69,3 +70,22 @@ class Policer:
         abt.faults.Fault: ClockBack
         """
         return Verdict(carried_out(LIB.abt_raw_policer_arrive(byref(self._state), moment(at), code_of(held))))
+
+    def arrive_burst(self, at: Sequence[int], held: Rate) -> list[Verdict]:
+        """The verdicts on a burst of cells at these moments, where this rate is held: what as many calls of `arrive` do, up to the first that
+        is refused; its Fault has the verdicts before it as `judged`: `abt_policer_arrive_burst`.
+
+        >>> policer = Policer(tau=200)
+        >>> [verdict.name for verdict in policer.arrive_burst([5, 6, 10**9 + 5], "1000cps")]
+        ['CONFORMING', 'TOO_EARLY', 'CONFORMING']
+        >>> policer.arrive_burst([10**9 + 6, 0], "1000cps")
+        Traceback (most recent call last):
+        abt.faults.Fault: ClockBack
+        """
+        count, judged = len(at), c_size_t()
+        moments, verdicts = (c_uint64 * max(count, 1))(*map(moment, at)), create_string_buffer(max(count, 1))
+        outcome = LIB.abt_raw_policer_arrive_burst(byref(self._state), code_of(held), moments, count, verdicts, count, byref(judged))
+        found = [Verdict(number) for number in verdicts.raw[: judged.value]]
+        if outcome >= FIRST:
+            raise Fault(outcome, judged=found)
+        return found

@@ -19,15 +19,24 @@ class Rm(Structure):
     _fields_ = [("kind", c_uint32), ("seq", c_uint32), ("vpi", c_uint16), ("vci", c_uint16), ("floor", c_uint16), ("ask", c_uint16)]
 
 
+class Reservation(Structure):
+    _fields_ = [("newest", c_uint32), ("is_open", c_uint32), ("floor", c_uint16), ("ask", c_uint16)]
+
+
+class Arrival(Structure):
+    _fields_ = [("at", c_uint64), ("vpi", c_uint16), ("vci", c_uint16)]
+
+
 def state(name: str, words: int) -> type[Structure]:
     """A state of so many words of 64 bits; it begins as zeros, which is the state of no kind."""
     return type(name, (Structure,), {"_fields_": [("words", c_uint64 * words)]})
 
 
 GCRA, BUCKET, POLICER, SHAPER = state("GCRA", 4), state("BUCKET", 6), state("POLICER", 4), state("SHAPER", 4)
-SOURCE, PORT, CONNECTION, TABLE = state("SOURCE", 9), state("PORT", 3), state("CONNECTION", 3), state("TABLE", 3589)
+SOURCE, PORT, CONNECTION, TABLE = state("SOURCE", 9), state("PORT", 3), state("CONNECTION", 3), state("TABLE", 7685)
 _octets = c_char_p
-_rm, _code, _number = POINTER(Rm), POINTER(c_uint16), POINTER(c_uint64)
+_rm, _code, _word, _number, _size = POINTER(Rm), POINTER(c_uint16), POINTER(c_uint32), POINTER(c_uint64), POINTER(c_size_t)
+_reservation, _arrivals = POINTER(Reservation), POINTER(Arrival)
 
 # What each call gives and takes, as in abt.h.
 CALLS: dict[str, tuple] = {
@@ -40,14 +49,17 @@ CALLS: dict[str, tuple] = {
     "abt_raw_crc10": (c_uint32, _octets, c_size_t, _code),
     "abt_raw_rm_read": (c_uint32, _octets, c_size_t, _rm),
     "abt_raw_rm_write": (c_uint32, _rm, _octets, c_size_t),
+    "abt_raw_rm_turn": (c_uint32, _rm, _rm),
     "abt_raw_gcra_init": (c_uint32, POINTER(GCRA), c_uint64),
     "abt_raw_gcra_check": (c_uint32, POINTER(GCRA), c_uint64, c_uint64),
     "abt_raw_bucket_init": (c_uint32, POINTER(BUCKET), c_uint64),
     "abt_raw_bucket_check": (c_uint32, POINTER(BUCKET), c_uint64, c_uint64),
     "abt_raw_policer_init": (c_uint32, POINTER(POLICER), c_uint64),
     "abt_raw_policer_arrive": (c_uint32, POINTER(POLICER), c_uint64, c_uint16),
+    "abt_raw_policer_arrive_burst": (c_uint32, POINTER(POLICER), c_uint16, _number, c_size_t, _octets, c_size_t, _size),
     "abt_raw_shaper_init": (c_uint32, POINTER(SHAPER), c_uint64),
     "abt_raw_shaper_emit": (c_uint32, POINTER(SHAPER), c_uint64, c_uint16, _number),
+    "abt_raw_shaper_next": (c_uint32, POINTER(SHAPER), _number),
     "abt_raw_source_init": (c_uint32, POINTER(SOURCE), c_uint16, c_uint16),
     "abt_raw_source_start": (c_uint32, POINTER(SOURCE), _octets, c_size_t, c_uint64),
     "abt_raw_source_ask": (c_uint32, POINTER(SOURCE), c_uint16, _octets, c_size_t, _rm),
@@ -57,6 +69,9 @@ CALLS: dict[str, tuple] = {
     "abt_raw_source_emit": (c_uint32, POINTER(SOURCE), c_uint64, _number),
     "abt_raw_source_crash": (c_uint32, POINTER(SOURCE)),
     "abt_raw_source_rate": (c_uint32, POINTER(SOURCE), _code),
+    "abt_raw_source_phase": (c_uint32, POINTER(SOURCE), _word),
+    "abt_raw_source_last": (c_uint32, POINTER(SOURCE), _word),
+    "abt_raw_source_next": (c_uint32, POINTER(SOURCE), _number),
     "abt_raw_port_init": (c_uint32, POINTER(PORT), c_uint64),
     "abt_raw_connection_init": (c_uint32, POINTER(CONNECTION), c_uint16, c_uint16),
     "abt_raw_port_request": (c_uint32, POINTER(PORT), POINTER(CONNECTION), _rm, _rm),
@@ -64,14 +79,23 @@ CALLS: dict[str, tuple] = {
     "abt_raw_port_set_capacity": (c_uint32, POINTER(PORT), c_uint64),
     "abt_raw_port_total": (c_uint32, POINTER(PORT), _number),
     "abt_raw_connection_held": (c_uint32, POINTER(CONNECTION), _code),
+    "abt_raw_port_capacity": (c_uint32, POINTER(PORT), _number),
+    "abt_raw_connection_reservation": (c_uint32, POINTER(CONNECTION), _reservation),
     "abt_raw_table_init": (c_uint32, POINTER(TABLE), c_uint64),
     "abt_raw_table_add": (c_uint32, POINTER(TABLE), c_uint16, c_uint16),
+    "abt_raw_table_add_ingress": (c_uint32, POINTER(TABLE), c_uint16, c_uint16, c_uint64),
+    "abt_raw_table_remove": (c_uint32, POINTER(TABLE), c_uint16, c_uint16),
     "abt_raw_table_request": (c_uint32, POINTER(TABLE), _rm, _rm),
     "abt_raw_table_answer": (c_uint32, POINTER(TABLE), _rm),
     "abt_raw_table_cell": (c_uint32, POINTER(TABLE), _octets, c_size_t, _octets, c_size_t),
     "abt_raw_table_set_capacity": (c_uint32, POINTER(TABLE), c_uint64),
     "abt_raw_table_total": (c_uint32, POINTER(TABLE), _number),
     "abt_raw_table_held": (c_uint32, POINTER(TABLE), c_uint16, c_uint16, _code),
+    "abt_raw_table_reservation": (c_uint32, POINTER(TABLE), c_uint16, c_uint16, _reservation),
+    "abt_raw_table_capacity": (c_uint32, POINTER(TABLE), _number),
+    "abt_raw_table_count": (c_uint32, POINTER(TABLE), _number),
+    "abt_raw_table_arrive": (c_uint32, POINTER(TABLE), c_uint16, c_uint16, c_uint64),
+    "abt_raw_table_arrive_burst": (c_uint32, POINTER(TABLE), _arrivals, c_size_t, _octets, c_size_t, _size),
 }
 
 

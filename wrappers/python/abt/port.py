@@ -2,12 +2,16 @@
 from __future__ import annotations
 
 import enum
-from ctypes import byref, c_uint16, c_uint64, create_string_buffer
+from collections.abc import Sequence
+from ctypes import byref, c_size_t, c_uint16, c_uint64, create_string_buffer
 from typing import NamedTuple
 
 from .cells import CELL_LENGTH, Answer, Message, Request, message_of, octets_of, raw_of
-from .faults import carried_out, whole
-from .library import CONNECTION, LIB, PORT, TABLE, Rm
+from .faults import FIRST, Fault, carried_out, moment, whole
+from .gcra import Verdict
+from .library import CONNECTION, LIB, PORT, TABLE, Arrival, Reservation as RawReservation, Rm
+
+_UNKNOWN_VC = 18
 
 
 class Decision(enum.IntEnum):
@@ -33,6 +37,19 @@ class Taken(NamedTuple):
 
     decision: Decision
     back: Message | None
+
+
+class Reservation(NamedTuple):
+    """What a port keeps of a connection: the newest request that it decided. While it is open, the connection holds ask, and else floor."""
+
+    newest: int
+    is_open: bool
+    floor: int
+    ask: int
+
+
+def _reservation(raw: RawReservation) -> Reservation:
+    return Reservation(raw.newest, raw.is_open != 0, raw.floor, raw.ask)
 
 
 def _taken(outcome: int, back: Rm) -> Taken:
@@ -67,6 +84,13 @@ class Connection(_Unmovable):
         carried_out(LIB.abt_raw_connection_held(byref(self._state), byref(held)))
         return held.value
 
+    @property
+    def reservation(self) -> Reservation:
+        """What the port keeps of it: `abt_connection_reservation`."""
+        raw = RawReservation()
+        carried_out(LIB.abt_raw_connection_reservation(byref(self._state), byref(raw)))
+        return _reservation(raw)
+
 
 class Port(_Unmovable):
     """A port of a link of a capacity in units: `abt_port_init`. Its sum is that of its connections while each is used at it alone.
@@ -76,6 +100,8 @@ class Port(_Unmovable):
     <Decision.PASS: 16>
     >>> port.total, hex(connection.held)
     (307200, '0x5258')
+    >>> port.capacity, connection.reservation
+    (512000, Reservation(newest=1, is_open=True, floor=0, ask=21080))
     """
 
     def __init__(self, capacity: int):
@@ -102,6 +128,13 @@ class Port(_Unmovable):
         carried_out(LIB.abt_raw_port_total(byref(self._state), byref(total)))
         return total.value
 
+    @property
+    def capacity(self) -> int:
+        """The capacity of its link, in units: `abt_port_capacity`."""
+        capacity = c_uint64()
+        carried_out(LIB.abt_raw_port_capacity(byref(self._state), byref(capacity)))
+        return capacity.value
+
 
 class Table(_Unmovable):
     """A port with a table of up to 1,024 connections: `abt_table_init`.
@@ -120,9 +153,47 @@ class Table(_Unmovable):
         self._state = TABLE()
         carried_out(LIB.abt_raw_table_init(byref(self._state), whole(capacity, 64, "a capacity")))
 
-    def add(self, vpi: int, vci: int) -> None:
-        """Takes a connection in: `abt_table_add`."""
-        carried_out(LIB.abt_raw_table_add(byref(self._state), whole(vpi, 16, "vpi"), whole(vci, 16, "vci")))
+    def add(self, vpi: int, vci: int, tau: int | None = None) -> None:
+        """Takes a connection in: `abt_table_add`, or with a tolerance, where the port is its ingress, `abt_table_add_ingress`."""
+        channel = whole(vpi, 16, "vpi"), whole(vci, 16, "vci")
+        if tau is None:
+            carried_out(LIB.abt_raw_table_add(byref(self._state), *channel))
+        else:
+            carried_out(LIB.abt_raw_table_add_ingress(byref(self._state), *channel, moment(tau, "tau")))
+
+    def remove(self, vpi: int, vci: int) -> bool:
+        """Takes a connection away that holds no rate, and says whether it was there: `abt_table_remove`.
+
+        >>> table = Table(512000)
+        >>> table.add(1, 100)
+        >>> table.remove(1, 100), table.remove(1, 100), table.count
+        (True, False, 0)
+        """
+        return carried_out(LIB.abt_raw_table_remove(byref(self._state), whole(vpi, 16, "vpi"), whole(vci, 16, "vci"))) == 0
+
+    def arrive(self, vpi: int, vci: int, at: int) -> Verdict | None:
+        """The verdict on a cell of a connection at its ingress, None if the connection isn't in the table: `abt_table_arrive`."""
+        outcome = carried_out(LIB.abt_raw_table_arrive(byref(self._state), whole(vpi, 16, "vpi"), whole(vci, 16, "vci"), moment(at)))
+        return None if outcome == _UNKNOWN_VC else Verdict(outcome)
+
+    def arrive_burst(self, cells: Sequence[tuple[int, int, int]]) -> list[Verdict | None]:
+        """What becomes of a burst of cells, each a VPI, a VCI and a moment: what as many calls of `arrive` do, up to the first that is
+        refused; its Fault has what became of those before it as `judged`: `abt_table_arrive_burst`.
+
+        >>> table = Table(512000)
+        >>> table.add(1, 100, tau=200)
+        >>> _ = table.take(Request(1, 100, 1, 0, 0x5258))
+        >>> table.arrive_burst([(1, 100, 5), (1, 101, 5), (1, 100, 6)])
+        [<Verdict.CONFORMING: 1>, None, <Verdict.TOO_EARLY: 2>]
+        """
+        count, judged = len(cells), c_size_t()
+        given = (Arrival * max(count, 1))(*((moment(at), whole(vpi, 16, "vpi"), whole(vci, 16, "vci")) for vpi, vci, at in cells))
+        outcomes = create_string_buffer(max(count, 1))
+        outcome = LIB.abt_raw_table_arrive_burst(byref(self._state), given, count, outcomes, count, byref(judged))
+        found = [None if number == _UNKNOWN_VC else Verdict(number) for number in outcomes.raw[: judged.value]]
+        if outcome >= FIRST:
+            raise Fault(outcome, judged=found)
+        return found
 
     def take(self, message: Message) -> Taken:
         """Decides a request, or takes an answer: `abt_table_request`, `abt_table_answer`."""
@@ -153,3 +224,23 @@ class Table(_Unmovable):
         held = c_uint16()
         outcome = carried_out(LIB.abt_raw_table_held(byref(self._state), whole(vpi, 16, "vpi"), whole(vci, 16, "vci"), byref(held)))
         return held.value if outcome == 0 else None
+
+    def reservation(self, vpi: int, vci: int) -> Reservation | None:
+        """What the port keeps of a connection, None if it isn't in the table: `abt_table_reservation`."""
+        raw = RawReservation()
+        outcome = carried_out(LIB.abt_raw_table_reservation(byref(self._state), whole(vpi, 16, "vpi"), whole(vci, 16, "vci"), byref(raw)))
+        return _reservation(raw) if outcome == 0 else None
+
+    @property
+    def capacity(self) -> int:
+        """The capacity of its link, in units: `abt_table_capacity`."""
+        capacity = c_uint64()
+        carried_out(LIB.abt_raw_table_capacity(byref(self._state), byref(capacity)))
+        return capacity.value
+
+    @property
+    def count(self) -> int:
+        """How many connections it has: `abt_table_count`."""
+        count = c_uint64()
+        carried_out(LIB.abt_raw_table_count(byref(self._state), byref(count)))
+        return count.value

@@ -36,3 +36,14 @@ class Shaper:
         """
         next_moment = c_uint64()
         return emission(LIB.abt_raw_shaper_emit(byref(self._state), moment(now), code_of(rate), byref(next_moment)), next_moment)
+
+    @property
+    def next(self) -> int:
+        """The earliest moment at which the next cell may leave: `abt_shaper_next`.
+
+        >>> Shaper(7).next
+        7
+        """
+        next_moment = c_uint64()
+        carried_out(LIB.abt_raw_shaper_next(byref(self._state), byref(next_moment)))
+        return next_moment.value

@@ -3,7 +3,7 @@ from __future__ import annotations
 
 import enum
 import os
-from ctypes import byref, c_uint16, c_uint64, create_string_buffer
+from ctypes import byref, c_uint16, c_uint32, c_uint64, create_string_buffer
 
 from .cells import Answer, Request, message_of, raw_of
 from .faults import carried_out, moment, whole
@@ -25,6 +25,15 @@ class Heard(enum.IntEnum):
     IGNORED = 12
 
 
+class Phase(enum.IntEnum):
+    """What a source does: it isn't started, waits for nothing, for an answer, or for what became of a write."""
+
+    DOWN = 0
+    IDLE = 1
+    ASKING = 2
+    WRITING = 3
+
+
 class Source(_Unmovable):
     """A source of a connection, down at first: `abt_source_init`. Its store is a path, or any object with `read` and `write` (abt.Store).
 
@@ -34,6 +43,8 @@ class Source(_Unmovable):
     >>> request = source.ask("400cps")
     >>> source.answer(request.answered(True))
     <Heard.RAISED: 10>
+    >>> source.phase.name, source.last, source.next
+    ('IDLE', 1, 1000000000000)
     >>> source.emit(now=10 ** 12)
     1002500000000
     """
@@ -89,3 +100,24 @@ class Source(_Unmovable):
         rate = c_uint16()
         carried_out(LIB.abt_raw_source_rate(byref(self._state), byref(rate)))
         return rate.value
+
+    @property
+    def phase(self) -> Phase:
+        """What it does: `abt_source_phase`."""
+        phase = c_uint32()
+        carried_out(LIB.abt_raw_source_phase(byref(self._state), byref(phase)))
+        return Phase(phase.value)
+
+    @property
+    def last(self) -> int:
+        """The last number that is used up, by a request or by a start that passed over it: `abt_source_last`."""
+        number = c_uint32()
+        carried_out(LIB.abt_raw_source_last(byref(self._state), byref(number)))
+        return number.value
+
+    @property
+    def next(self) -> int:
+        """The earliest moment at which it emits a cell, at its present rate, without trying: `abt_source_next`."""
+        next_moment = c_uint64()
+        carried_out(LIB.abt_raw_source_next(byref(self._state), byref(next_moment)))
+        return next_moment.value

@@ -52,9 +52,17 @@ class Misuse(unittest.TestCase):
         table = abt.Table(512000)
         table.add(1, 100)
         self.refused("Known", table.add, 1, 100)
+        self.refused("TauRange", table.add, 1, 101, 10**12 + 1)
+        self.refused("NotIngress", table.arrive, 1, 100, 0)
+        self.refused("SeqZero", abt.turn, abt.Request(1, 100, 0, 0, 0))
         self.refused("NotRm", table.cell, bytes(52))
         table.take(ASK)
         self.refused("BelowSum", table.set_capacity, 0)
+        self.refused("Held", table.remove, 1, 100)
+        table.add(1, 102, tau=0)
+        with self.assertRaises(abt.Fault) as raised:
+            table.arrive_burst([(1, 102, 5), (1, 7, 5), (1, 102, 4)])
+        self.assertEqual((raised.exception.name, raised.exception.judged), ("ClockBack", [abt.Verdict.NO_RATE, None]))
         with self.assertRaises(TypeError):
             abt.Port(1).take(table, ASK)
         for it in (table, abt.Port(1), abt.Connection(0, 1), abt.Source(abt.MemoryStore(), 0, 1)):
@@ -120,6 +128,9 @@ class Misuse(unittest.TestCase):
                     lambda: table.set_capacity(number), lambda: table.held(1, number), lambda: port.take(connection, message),
                     lambda: port.take(connection, answer), lambda: port.set_capacity(number), lambda: source.start(number),
                     lambda: source.ask(number), lambda: source.answer(answer), source.again, lambda: source.emit(number), source.crash,
+                    lambda: table.add(1, number, tau=number), lambda: table.remove(1, number), lambda: table.arrive(1, 100, number),
+                    lambda: table.arrive_burst([(1, 100, 1), (1, number, number)]), lambda: abt.Policer(200).arrive_burst([1, number], 0x5120),
+                    lambda: table.reservation(1, number), lambda: source.next, lambda: abt.turn(message),
                     lambda: abt.Policer(200).arrive(number, 0x5120), lambda: abt.rate(f"{number}cps", "below"),
                 ])
                 try:

@@ -95,6 +95,23 @@ impl Request {
         raw::Rm { kind: 1, seq: self.seq, vpi: self.vpi, vci: self.vci, floor: self.floor.0, ask: self.ask.0 }
     }
 
+    /// The yes to this request, if the last port of its path passed it: `abt_rm_turn`.
+    ///
+    /// ```
+    /// use abt::{Code, Fault, Request};
+    ///
+    /// let request = Request { vpi: 1, vci: 100, seq: 1, floor: Code(0), ask: Code(0x5120) };
+    /// assert_eq!(request.turned()?, request.answered(true));
+    /// assert_eq!(Request { seq: 0, ..request }.turned(), Err(Fault::SeqZero));
+    /// # Ok::<(), Fault>(())
+    /// ```
+    pub fn turned(&self) -> Result<Answer, Fault> {
+        let mut yes = raw::Rm::default();
+        // SAFETY: references (raw.rs).
+        carried_out(unsafe { raw::abt_raw_rm_turn(&self.raw(), &mut yes) })?;
+        Ok(Request::of(yes).answered(true))
+    }
+
     /// The answer to this request.
     pub fn answered(self, granted: bool) -> Answer {
         Answer { request: self, granted }

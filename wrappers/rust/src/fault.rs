@@ -67,6 +67,8 @@ faults! {
     Known = 74: "The connection is in the table already.",
     Full = 75: "The table has `ABT_TABLE_PLACES` connections.",
     Damaged = 76: "The table isn't in order: its memory was written by something else.",
+    Held = 77: "The connection holds a rate.",
+    NotIngress = 78: "The connection's cells aren't policed here.",
 }
 
 impl fmt::Display for Fault {

@@ -2,6 +2,8 @@
 use crate::fault::{carried_out, Fault};
 use crate::rate::{Code, Picoseconds};
 use crate::raw;
+use std::error::Error;
+use std::fmt;
 
 /// What a policer finds of a cell.
 #[derive(Clone, Copy, Debug, PartialEq, Eq, Hash)]
@@ -22,6 +24,38 @@ impl Verdict {
             3 => Ok(Verdict::NoRate),
             other => Err(Fault::Other(other)),
         }
+    }
+
+    /// The verdict of a number that a burst wrote, none of another number.
+    pub fn of_number(number: u8) -> Option<Self> {
+        Verdict::of(number.into()).ok()
+    }
+}
+
+/// Why a burst ended at a cell: those before it have their outcomes, and the state is as after them.
+#[derive(Clone, Copy, Debug, PartialEq, Eq, Hash)]
+pub struct Stopped {
+    /// How many cells were judged, and so the place of the cell that wasn't.
+    pub judged: usize,
+    /// Why it wasn't.
+    pub fault: Fault,
+}
+
+impl Stopped {
+    pub(crate) fn of(outcome: u32, judged: usize) -> Result<(), Self> {
+        carried_out(outcome).map(|_| ()).map_err(|fault| Stopped { judged, fault })
+    }
+}
+
+impl fmt::Display for Stopped {
+    fn fmt(&self, to: &mut fmt::Formatter<'_>) -> fmt::Result {
+        write!(to, "{} at cell {}", self.fault, self.judged)
+    }
+}
+
+impl Error for Stopped {
+    fn source(&self) -> Option<&(dyn Error + 'static)> {
+        Some(&self.fault)
     }
 }
 
@@ -102,5 +136,28 @@ impl Policer {
     pub fn arrive(&mut self, at: Picoseconds, held: Code) -> Result<Verdict, Fault> {
         // SAFETY: a reference (raw.rs).
         Verdict::of(unsafe { raw::abt_raw_policer_arrive(&mut self.0, at.0, held.0) })
+    }
+
+    /// The verdicts on a burst of cells at these moments, in picoseconds, where this rate is held: what as many calls of `arrive` do, up to
+    /// the first that is refused: `abt_policer_arrive_burst`. `verdicts` gets the number of each, as [`Verdict::of_number`] reads it; if it
+    /// isn't as long as `at`, nothing is judged.
+    ///
+    /// ```
+    /// use abt::{Code, Fault, Picoseconds, Policer, Stopped, Verdict};
+    ///
+    /// let (mut policer, mut verdicts) = (Policer::new(Picoseconds(200))?, [0; 3]);
+    /// assert_eq!(policer.arrive_burst(Code(0x5120), &[5, 6, 7], &mut verdicts), Ok(()));
+    /// assert_eq!(verdicts.map(Verdict::of_number), [Some(Verdict::Conforming), Some(Verdict::TooEarly), Some(Verdict::TooEarly)]);
+    /// let stopped = Stopped { judged: 1, fault: Fault::ClockBack };
+    /// assert_eq!(policer.arrive_burst(Code(0x5120), &[8, 7, 9], &mut verdicts), Err(stopped));
+    /// # Ok::<(), Fault>(())
+    /// ```
+    pub fn arrive_burst(&mut self, held: Code, at: &[u64], verdicts: &mut [u8]) -> Result<(), Stopped> {
+        let (verdicts, mut judged) = ((verdicts.as_mut_ptr(), verdicts.len()), 0);
+        // SAFETY: references (raw.rs), and the lengths are the slices'.
+        let outcome = unsafe {
+            raw::abt_raw_policer_arrive_burst(&mut self.0, held.0, at.as_ptr(), at.len(), verdicts.0, verdicts.1, &mut judged)
+        };
+        Stopped::of(outcome, judged)
     }
 }

@@ -68,6 +68,25 @@ impl Reply {
     }
 }
 
+/// What a port keeps of a connection: the newest request that it decided.
+#[derive(Clone, Copy, Debug, PartialEq, Eq, Hash)]
+pub struct Reservation {
+    /// Its number, 0 before the first.
+    pub newest: u32,
+    /// Whether it is open: then the connection holds `ask`, and otherwise `floor`.
+    pub is_open: bool,
+    /// The rate that the source keeps.
+    pub floor: Code,
+    /// The rate that was asked for.
+    pub ask: Code,
+}
+
+impl Reservation {
+    pub(crate) fn of(raw: raw::Reservation) -> Self {
+        Reservation { newest: raw.newest, is_open: raw.is_open != 0, floor: Code(raw.floor), ask: Code(raw.ask) }
+    }
+}
+
 /// What a connection holds at one port. It can't be copied: the port's sum counts it once.
 ///
 /// ```compile_fail,E0599
@@ -93,6 +112,14 @@ impl Connection {
         carried_out(unsafe { raw::abt_raw_connection_held(&self.0, &mut held) })?;
         Ok(Code(held))
     }
+
+    /// What the port keeps of it: `abt_connection_reservation`.
+    pub fn reservation(&self) -> Result<Reservation, Fault> {
+        let mut kept = raw::Reservation::default();
+        // SAFETY: references (raw.rs).
+        carried_out(unsafe { raw::abt_raw_connection_reservation(&self.0, &mut kept) })?;
+        Ok(Reservation::of(kept))
+    }
 }
 
 /// A port. Its sum is that of its connections only while each is used at it alone, which no type says.
@@ -105,6 +132,7 @@ impl Connection {
 /// let request = Request { vpi: 1, vci: 100, seq: 1, floor: Code(0), ask: Code(0x5258) };
 /// assert_eq!(port.request(&mut connection, &request)?, Decision::Pass);
 /// assert_eq!((port.total()?, connection.held()?), (Units(307_200), Code(0x5258)));
+/// assert_eq!((port.capacity()?, connection.reservation()?.newest), (Units(512_000), 1));
 /// assert_eq!(port.set_capacity(Units(1)), Err(Fault::BelowSum));
 /// # Ok::<(), Fault>(())
 /// ```
@@ -146,5 +174,13 @@ impl Port {
         // SAFETY: references (raw.rs).
         carried_out(unsafe { raw::abt_raw_port_total(&self.0, &mut total) })?;
         Ok(Units(total))
+    }
+
+    /// The capacity of its link: `abt_port_capacity`.
+    pub fn capacity(&self) -> Result<Units, Fault> {
+        let mut capacity = 0;
+        // SAFETY: references (raw.rs).
+        carried_out(unsafe { raw::abt_raw_port_capacity(&self.0, &mut capacity) })?;
+        Ok(Units(capacity))
     }
 }

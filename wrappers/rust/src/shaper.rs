@@ -12,6 +12,7 @@ use crate::raw;
 /// let next = shaper.emit(Picoseconds(0), Code(0x53e8))?;
 /// assert_eq!(next, Picoseconds(1_000_000_000));
 /// assert_eq!(shaper.emit(Picoseconds(1), Code(0x53e8)), Err(EmitFault::TooSoon { next }));
+/// assert_eq!(shaper.next(), Ok(next));
 /// # Ok::<(), Box<dyn std::error::Error>>(())
 /// ```
 #[derive(Clone, Debug)]
@@ -31,5 +32,13 @@ impl Shaper {
         let mut next = 0;
         // SAFETY: references (raw.rs).
         emission(unsafe { raw::abt_raw_shaper_emit(&mut self.0, now.0, rate.0, &mut next) }, next)
+    }
+
+    /// The earliest moment at which the next cell may leave: `abt_shaper_next`.
+    pub fn next(&self) -> Result<Picoseconds, Fault> {
+        let mut next = 0;
+        // SAFETY: references (raw.rs).
+        carried_out(unsafe { raw::abt_raw_shaper_next(&self.0, &mut next) })?;
+        Ok(Picoseconds(next))
     }
 }

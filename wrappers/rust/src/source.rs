@@ -43,7 +43,7 @@ mod sealed {
 /// A source in a state.
 ///
 /// ```
-/// use abt::{Ask, Became, Code, Down, Heard, Picoseconds, Source};
+/// use abt::{Ask, Became, Code, Down, Heard, Phase, Picoseconds, Source};
 ///
 /// let source = Source::<Down>::new(1, 100)?;
 /// let source = source.start(&[0; 4], Picoseconds(0))?;
@@ -52,6 +52,9 @@ mod sealed {
 /// let (source, request) = writing.wrote(Became::Written)?;
 /// let Heard::Raised(mut source) = source.answer(&request.answered(true))? else { panic!("it is the answer") };
 /// assert_eq!((source.rate()?, stored.len()), (Code(0x5120), 12));
+/// assert_eq!((source.phase()?, source.last()?), (Phase::Idle, 1));
+/// let next = source.next()?; // a store without a spacing holds off for the longest one, a second
+/// assert!(source.emit(Picoseconds(next.0 - 1)).is_err() && source.emit(next).is_ok());
 /// # Ok::<(), Box<dyn std::error::Error>>(())
 /// ```
 ///
@@ -148,6 +151,19 @@ pub enum Heard {
     Ignored(Source<Asking>),
 }
 
+/// What a source does, as the library tells it; the type of a source says the same.
+#[derive(Clone, Copy, Debug, PartialEq, Eq, Hash)]
+pub enum Phase {
+    /// It isn't started.
+    Down,
+    /// It waits for no answer.
+    Idle,
+    /// It waits for an answer.
+    Asking,
+    /// It waits for what became of a write.
+    Writing,
+}
+
 impl<S> Source<S> {
     fn become_<T>(self) -> Source<T> {
         Source { raw: self.raw, record: self.record, state: PhantomData }
@@ -163,6 +179,28 @@ impl<S> Source<S> {
         // SAFETY: references (raw.rs).
         carried_out(unsafe { raw::abt_raw_source_rate(&self.raw, &mut rate) })?;
         Ok(Code(rate))
+    }
+
+    /// What it does: `abt_source_phase`.
+    pub fn phase(&self) -> Result<Phase, Fault> {
+        let mut phase = 0;
+        // SAFETY: references (raw.rs).
+        carried_out(unsafe { raw::abt_raw_source_phase(&self.raw, &mut phase) })?;
+        match phase {
+            0 => Ok(Phase::Down),
+            1 => Ok(Phase::Idle),
+            2 => Ok(Phase::Asking),
+            3 => Ok(Phase::Writing),
+            other => Err(Fault::Other(other)),
+        }
+    }
+
+    /// The last number that is used up, by a request or by a start that passed over it: `abt_source_last`.
+    pub fn last(&self) -> Result<u32, Fault> {
+        let mut number = 0;
+        // SAFETY: references (raw.rs).
+        carried_out(unsafe { raw::abt_raw_source_last(&self.raw, &mut number) })?;
+        Ok(number)
     }
 
     fn crashed(mut self) -> Result<Source<Down>, Refused<S>> {
@@ -212,6 +250,14 @@ impl<S: Up> Source<S> {
         let mut next = 0;
         // SAFETY: references (raw.rs).
         emission(unsafe { raw::abt_raw_source_emit(&mut self.raw, now.0, &mut next) }, next)
+    }
+
+    /// The earliest moment at which it emits a cell, at its present rate, without trying: `abt_source_next`.
+    pub fn next(&self) -> Result<Picoseconds, Fault> {
+        let mut next = 0;
+        // SAFETY: references (raw.rs).
+        carried_out(unsafe { raw::abt_raw_source_next(&self.raw, &mut next) })?;
+        Ok(Picoseconds(next))
     }
 
     /// Loses the rate and the newest request: `abt_source_crash`.

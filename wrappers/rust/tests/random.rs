@@ -35,7 +35,12 @@ fn ports_and_cells() {
             let answer = request.answered(random.draw() % 2 == 0);
             let mut cell = Rm::Request(request).write().unwrap_or([0; CELL_LENGTH]);
             cell[(random.draw() % 52) as usize] ^= (random.draw() % 2) as u8;
+            let (vci, tau) = (random.number() as u16, Picoseconds(random.number()));
             let _ = (table.add(1, random.number() as u16), table.request(&request), table.answer(&answer), table.cell(&cell));
+            let _ = (table.add_ingress(1, vci, tau), table.remove(1, random.number() as u16), request.turned());
+            let cells = [tau, Picoseconds(random.number())].map(|at| Arrival { at, vpi: 1, vci });
+            let _ = (table.arrive_burst(&cells, &mut [None; 2]), table.arrive(1, vci, tau), table.reservation(1, vci));
+            assert!(table.count().unwrap() <= 1024);
             let _ = (port.request(&mut connection, &request), port.answer(&mut connection, &answer), Rm::read(&cell));
             let _ = table.held(1, random.number() as u16);
             assert!(table.total().unwrap() <= Units(512_000) && port.total().unwrap() <= Units(512_000));
@@ -52,7 +57,18 @@ fn policers_and_shapers() {
         for _ in 0..20 {
             let (at, spacing, code) = (Picoseconds(random.number()), Picoseconds(random.number()), Code(random.number() as u16));
             assert_eq!(gcra.check(at, spacing), bucket.check(at, spacing));
-            let _ = (policer.arrive(at, code), shaper.emit(at, code), Code::at_least(Units(at.0)));
+            let (mut single, moments, mut verdicts) = (policer.clone(), [at.0, random.number(), random.number()], [0; 3]);
+            let stopped = policer.arrive_burst(code, &moments, &mut verdicts);
+            for (i, moment) in moments.into_iter().enumerate() {
+                match single.arrive(Picoseconds(moment), code) {
+                    Ok(verdict) => assert_eq!(Verdict::of_number(verdicts[i]), Some(verdict)),
+                    Err(fault) => {
+                        assert_eq!(stopped, Err(Stopped { judged: i, fault }));
+                        break;
+                    }
+                }
+            }
+            let _ = (policer.arrive(at, code), shaper.emit(at, code), shaper.next(), Code::at_least(Units(at.0)));
         }
     }
 }
