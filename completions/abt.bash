@@ -2,7 +2,7 @@
 _abt() {
     local word=${COMP_WORDS[COMP_CWORD]}
     if [ "$COMP_CWORD" -eq 1 ]; then
-        COMPREPLY=($(compgen -W "rate cell port run threads explain check audit police shape code write draw help -h --help -V --version" -- "$word"))
+        COMPREPLY=($(compgen -W "rate cell port run threads explain check audit police shape step play code write draw switch source help -h --help -V --version" -- "$word"))
         return
     fi
     case ${COMP_WORDS[1]} in
@@ -16,10 +16,14 @@ _abt() {
         audit) COMPREPLY=($(compgen -f -W "--events --draw --only --from --to --quiet -h --help" -- "$word")) ;;
         police) COMPREPLY=($(compgen -W "--tau --rate -h --help" -- "$word")) ;;
         shape) COMPREPLY=($(compgen -W "--rate -h --help" -- "$word")) ;;
+        step) COMPREPLY=($(compgen -f -W "--json --state --possible -h --help" -- "$word")) ;;
+        play) COMPREPLY=($(compgen -f -W "--seed --loss --repeat --delay --events -h --help" -- "$word")) ;;
         code) COMPREPLY=($(compgen -W "-h --help" -- "$word")) ;;
-        write) COMPREPLY=($(compgen -W "-h --help" -- "$word")) ;;
+        write) COMPREPLY=($(compgen -W "$([ "$COMP_CWORD" -eq 2 ] && echo request yes no) -h --help" -- "$word")) ;;
         draw) COMPREPLY=($(compgen -f -W "-o --output --only --from --to --workers --events -h --help" -- "$word")) ;;
-        help) COMPREPLY=($(compgen -W "rate cell port run threads explain check audit police shape code write draw help" -- "$word")) ;;
+        switch) COMPREPLY=($(compgen -f -W "--port --journal -h --help" -- "$word")) ;;
+        source) COMPREPLY=($(compgen -f -W "--store --journal --new -h --help" -- "$word")) ;;
+        help) COMPREPLY=($(compgen -W "rate cell port run threads explain check audit police shape step play code write draw switch source help" -- "$word")) ;;
         *) COMPREPLY=() ;;
     esac
 }
