@@ -1,54 +1,42 @@
-"""Audits journals: the run of docs/JOURNALS.md, those that the slow model writes of each sample of scenarios/, and the same with one entry wrong.
-Those that `abt threads --journals` writes of each sample for threads come back through `abt audit`.
+"""Audits journals: the run of docs/JOURNALS.md, those that the slow model writes of each sample of scenarios/, and the same with one
+entry wrong. Those that `abt threads --journals` writes of each sample for threads come back through `abt audit`.
 
-Journals that the model writes are woven, also with the lines of different actors mixed anew and spread over two files. With one reply or outcome
-changed no list of events is woven from them; if the changed entry is named, what the protocol answers there is what it had before. A step of a port
-that comes twice, is missing or stands before the one before it is a fault of the text, at a line that is known. What is told of each fault of a text is
-compared too.
-
-Journals that are damaged in other ways too (`tests/damage.py`) are beside a slow search of scenarios/model: where entries are in no order, the lines
-that are told are just those at which it ends, and an entry that mismatches is one of them.
+Damaged journals (`tests/damage.py`) are beside a slow search of scenarios/model, which is given the entries that sources lack
+(`tests/completing.py`): where entries are in no order, the lines that are told are just those at which it ends, and an entry that
+mismatches is one of them.
 
 usage: audits.py PROGRAM..
 """
 import json
 import random
-import re
 from pathlib import Path
 
-from harness import ROOT, SCENARIOS, End, Trial, main
-from damage import actor, changed, damaged
-from journals import journals
-from reading import Fault
+from harness import SCENARIOS, End, Trial, main, sample_runs, samples, worked
+from completing import stuck_lines
+from damage import actor, changed, damaged, later, swapped
+from journals import entries, journals, texts_of
 from search import Search
 
 WHOLE = End(0, "woven\nsafe\n")
 END = '{"end":true}'
-WORKED = (ROOT / "docs" / "JOURNALS.md").read_text()
+# The longest line.
+LONGEST = b" " * 16_777_215
 
 
 def worked_run():
     """The lines of the run that docs/JOURNALS.md shows."""
-    found = re.search(r"^```\n(\{\"net\".*?)^```$", WORKED, re.M | re.S)
-    if not found:
-        raise SystemExit("audits: the run of docs/JOURNALS.md isn't found")
-    return found[1].splitlines()
+    return worked("JOURNALS.md", r"\A.*?^```\n(\{\"net\".*?)^```$")[0].splitlines()
 
 
 def worked_faults():
     """The logs of docs/JOURNALS.md in which something is wrong: their names, their texts, and what is told of them."""
     shown = r"^```\n(\{\"net\"[^`]*)^```\n\n```console\n\$ abt audit (\S+)\n(fault:[^`]*)^```$"
-    return [(name, text.encode(), told) for text, name, told in re.findall(shown, WORKED, re.M)]
+    return [(name, text.encode(), told) for text, name, told in worked("JOURNALS.md", shown, 2)]
 
 
-def samples():
+def sample_journals():
     """The journals that the events of each sample leave, by its name."""
-    for sample in sorted(SCENARIOS.glob("*.toml")):
-        try:
-            lines = journals(sample.read_bytes())
-        except Fault:
-            continue
-        yield sample.name, lines
+    return ((name, texts_of(entries(*run))) for name, *run in sample_runs())
 
 
 class Auditor(Trial):
@@ -68,19 +56,23 @@ class Auditor(Trial):
         """The same, where the events go out to a file."""
         return self.run("audit", *self.put(texts), "--events", out)
 
-    def wants_unwoven(self, what, text, line, right):
-        """A fault of weaving. If it is a mismatch at the entry of this line, what the protocol answers there is what the right entry has."""
+    def unwoven(self, what, text):
+        """What is told of a text, which has to be a fault of weaving."""
         status, out, told = self.audit(text)
         if status != 1 or out or not told.startswith(("fault: Mismatch\n", "fault: NoOrder\n")):
             self.fail(f"{what}: {(status, out, told)} in place of a fault of weaving")
-        elif told.startswith("fault: Mismatch\n"):
+        return told
+
+    def wants_unwoven(self, what, text, line, right):
+        """A fault of weaving. If it is a mismatch at the entry of this line, what the protocol answers there is what the right entry
+        has."""
+        told = self.unwoven(what, text)
+        if told.startswith("fault: Mismatch\n"):
             _, entry, protocol, *more = told.splitlines()
-            if more or not protocol.startswith("protocol: "):
-                self.fail(f"{what}: {told} has no answer of the protocol")
-            elif entry.startswith(f"0:{line}: "):
-                self.answers += 1
-                if json.loads(protocol.removeprefix("protocol: ")) != answer_in(right):
-                    self.fail(f"{what}: {protocol} in place of that of {right}")
+            is_told = all(one.startswith("why: ") for one in more) and len(more) < 2 and protocol.startswith("protocol: ")
+            self.answers += is_told and entry.startswith(f"0:{line}: ")
+            if not is_told or entry.startswith(f"0:{line}: ") and json.loads(protocol.removeprefix("protocol: ")) != answer_in(right):
+                self.fail(f"{what}: {told} in place of the answer of {right}")
 
 
 def text_of(lines):
@@ -111,14 +103,7 @@ def answer_in(one):
 
 def by_actor(lines):
     """The entries of each actor, in its order, but for who had a step done; a store that is missing works."""
-    found = {}
-    for one in lines[1:-1]:
-        entry = json.loads(one)
-        entry.pop("caller", None)
-        if "ask" in entry.get("did", ()):
-            entry["did"].setdefault("store", "works")
-        found.setdefault(actor(one), []).append(entry)
-    return found
+    return Search(lines).journals
 
 
 def try_events(auditor, name, lines):
@@ -147,21 +132,19 @@ def try_sample(auditor, name, lines):
             auditor.wants_unwoven(f"{name}, line {at + 1} changed", text, at + 1, lines[at])
         if '"port"' not in lines[at]:
             continue
-        place = lambda line: (1, "", f"fault: 0:{line}: Place\n")
-        auditor.wants(f"{name}, line {at + 1} twice", place(at + 2), auditor.audit(text_of([*lines[: at + 1], *lines[at:]])))
-        later = [k for k in range(at + 1, len(lines) - 1) if actor(lines[k]) == actor(lines[at])]
-        if later:
-            auditor.wants(f"{name}, line {at + 1} missing", place(later[0]), auditor.audit(text_of([*lines[:at], *lines[at + 1 :]])))
-            swapped = list(lines)
-            swapped[at], swapped[later[0]] = lines[later[0]], lines[at]
-            auditor.wants(f"{name}, line {at + 1} later", place(at + 1), auditor.audit(text_of(swapped)))
+        wrong = [("twice", at + 2, [*lines[: at + 1], *lines[at:]])]
+        if behind := later(lines, at):
+            wrong += [("missing", behind[0], [*lines[:at], *lines[at + 1 :]]), ("later", at + 1, swapped(lines, at, behind[0]))]
+        for what, line, left in wrong:
+            wanted = (1, "", f"fault: 0:{line}: Place\n")
+            auditor.wants(f"{name}, line {at + 1} {what}", wanted, auditor.audit(text_of(left)))
 
 
 def try_damaged(auditor, name, lines):
     """Journals with one entry changed, missing, there twice or elsewhere are stuck just where a slow search ends."""
     for what, left in damaged(lines, random.Random(name), 2):
         auditor.damaged += 1
-        stuck = list(Search(left).run().values())
+        stuck = stuck_lines(left)
         status, out, told = auditor.audit(text_of(left))
         fault, *entries = told.splitlines() or [""]
         spots = [int(one.split(":")[1]) for one in entries if one.startswith("0:")]
@@ -175,88 +158,38 @@ def try_damaged(auditor, name, lines):
             auditor.fail(f"{name}, {what}: {(status, out, told)}, and the slow search ends at the lines {stuck}")
 
 
-def try_texts(auditor, lines):
-    """Each fault of a text."""
-    net, *entries, end = lines
+def try_texts(auditor, lines, faults):
+    """Each fault of a text, files that aren't there or can't be written; and texts that no case file can have."""
+    net, *entries, end = (one + "\n" for one in lines)
+    far = json.dumps({"net": {**json.loads(net)["net"], "ports": []}}) + "\n"
     step = next(one for one in entries if '"port"' in one)
-    turned = lambda one, **members: json.dumps({**json.loads(one), **members}, separators=(",", ":"))
-    far = json.dumps({"net": {**json.loads(net)["net"], "ports": []}}, separators=(",", ":"))
-    rows = [
-        (b"", "1: NoEnd"),
-        (text_of([net, *entries]), f"{len(lines)}: NoEnd"),
-        (text_of([end]), "1: NoNet"),
-        (text_of([*entries, end]), "1: NoNet"),
-        (text_of([net, net, end]), "2: SecondNet"),
-        (text_of([far, end]), "1: Net NoPort 0"),
-        (text_of([net, end, step]), "3: Behind"),
-        (text_of([net, end])[:-1], "2: Cut"),
-        (text_of([net]) + b'{"end"', "2: Cut"),
-        (text_of([net]) + b"\xff\n", "2: NotUtf8"),
-        (text_of([net, "{]"]), "2: Json"),
-        (text_of([net, ""]), "2: Json"),
-        (text_of([net, "{}"]), "2: Kind"),
-        (text_of([net, '{"end":true,"end":true}']), "2: Twice"),
-        (text_of([net, '{"end":1}']), "2: Member end"),
-        (text_of([net, turned(step, place="0")]), "2: Member place"),
-        (text_of([net, turned(step, port=1)]), "2: NoPort"),
-        (text_of([net, turned(step, place=1)]), "2: Place"),
-        (text_of([net, '{"source":1,"sent":0}']), "2: NoSource"),
-        (text_of([net, turned(step, input={"request": "00"})]), "2: hex"),
-        (text_of([net, turned(step, input={"request": "00" * 52})]), "2: NotRm"),
-        (text_of([net]) + b" " * 16777216 + b"\n", "2: TooLong"),
-        (text_of([net]) + b" " * 16777216, "2: TooLong"),
-        (text_of([net]) + b" " * 16777215, "2: Cut"),
-    ]
-    for octets, told in rows:
-        auditor.wants(f"a text that is {told}", (1, "", f"fault: 0:{told}\n"), auditor.audit(octets))
-    auditor.wants("a second text without its end", (1, "", "fault: 1:1: NoEnd\n"), auditor.audit(text_of(lines), b""))
-    auditor.wants("a second text with a net", (1, "", "fault: 1:1: SecondNet\n"), auditor.audit(text_of(lines), text_of([net, end])))
-
-
-def try_other_ways(auditor, lines):
-    """Files that aren't there, and the standard input."""
-    auditor.wants("the standard input", WHOLE, auditor.run("audit", text=text_of(lines)))
-    auditor.wants("the standard input without an end", (1, "", f"fault: -:{len(lines)}: NoEnd\n"), auditor.run("audit", text=text_of(lines[:-1])))
-    auditor.wants("a file that isn't there", (1, "", "fault: open\nnone: there is no such file\n"), auditor.run("audit", "0", "none"))
-    auditor.wants("a folder", (1, "", "fault: read\n.: it is a folder\n"), auditor.run("audit", "0", "."))
-
-
-def try_no_events(auditor, lines, faults):
-    """Each way in which events don't go out."""
+    crossing = SCENARIOS / "threads_crossing.toml"
+    auditor.cases("audits", run=text_of(lines).decode(), net=net, far=far, step=step, end=end, crossing=crossing)
+    for line, fault in [(b"\xff\n", "NotUtf8"), (LONGEST + b" \n", "TooLong"), (LONGEST + b" ", "TooLong")]:
+        auditor.wants(f"a line that is {fault}", (1, "", f"fault: 0:2: {fault}\n"), auditor.audit(net.encode() + line))
+    cut = (0, "woven\nsafe\nnote: text 1 ends in the middle of line 2\n", "")
+    auditor.wants("a line that is cut, as long as one can be", cut, auditor.audit(net.encode() + LONGEST))
     kept = auditor.folder / "kept.toml"
-    late = '{"source":0,"did":{"start":10000000000000000000},"outcome":{"refused":"TimeRange"}}'
-    told = lambda fault: (1, "woven\nsafe\n", fault)
-    for what, to, answer, text in [
-        ("a folder that isn't there", auditor.folder / "none" / "events", told("fault: events open\n"), text_of(lines)),
-        ("a full disk", "/dev/full", told("fault: events write\n"), text_of(lines)),
-        ("a moment of 20 digits", kept, told("fault: events Unsaid\n"), text_of([lines[0], late, END])),
-        ("no text", kept, (1, "", "fault: 0:1: NoEnd\n"), b""),
-        *((name, kept, (1, "", told.replace(f"{name}:", "0:")), text) for name, text, told in faults),
-    ]:
+    for name, text, told in faults:
         kept.write_text("kept")
-        auditor.wants(f"events of {what}", answer, auditor.save(to, text))
-        if answer[1] == "" and kept.read_text() != "kept":
-            auditor.fail(f"events of {what}: the file isn't left as it was")
-    kept.unlink()
-    auditor.save(kept, faults[0][1])
-    if kept.exists():
-        auditor.fail("events of a log in which something is wrong: the file is made")
-    auditor.wants("events of the standard input", WHOLE, auditor.run("audit", "--events", kept, text=text_of(lines)))
+        wanted = (1, "", told.replace(f"{name}:", "0:"))
+        auditor.wants(f"{name} of docs/JOURNALS.md", wanted, auditor.audit(text))
+        auditor.wants(f"events of {name}", (*wanted, "kept"), (*auditor.save(kept, text), kept.read_text()))
+    auditor.run("audit", "--events", kept, text=text_of(lines))
     if not kept.read_bytes().startswith(b"ports = ["):
         auditor.fail("events of the standard input: they aren't in the file")
 
 
 def try_threads(auditor):
-    """The journals of each sample for threads go out and come back; and each way in which they don't go out."""
+    """The journals of each sample for threads go out and come back."""
     runs, out = 0, auditor.folder / "journals"
-    run = lambda sample, workers, to: auditor.run("threads", sample, "--workers", workers, "--journals", to)
-    for sample in sorted(SCENARIOS.glob("threads_*.toml")):
+    for sample in samples("threads_*"):
         shown = Path(f"{sample}.stdout").read_text()
         for workers in (1, 4, 64):
             out.unlink(missing_ok=True)
-            done = run(sample, workers, out)
+            done = auditor.run("threads", sample, "--workers", workers, "--journals", out)
             if not shown:
-                if done.status != 1 or done.output or not done.told or out.read_bytes():
+                if done.status != 1 or done.output or not done.told or out.exists():
                     auditor.fail(f"{sample.name}, which can't run: {done}")
                 continue
             runs += 1
@@ -264,34 +197,18 @@ def try_threads(auditor):
             text = out.read_bytes()
             auditor.wants(f"the journals of {sample.name}", WHOLE, auditor.audit(text))
             auditor.wants(f"the journals of {sample.name}, mixed", WHOLE, auditor.audit(*mixed(text.decode().splitlines(), sample.name)))
-    sample = SCENARIOS / "threads_crossing.toml"
-    for what, read, to, wanted in [
-        ("a folder that isn't there", sample, auditor.folder / "none" / "journals", (1, "", "fault: open\n")),
-        ("a full disk", sample, "/dev/full", (1, "gathered\nwoven\nsafe\n", "fault: journals\n")),
-        ("no scenario", ROOT / "README.md", auditor.folder / "unmade", (1, "", "fault: Toml\n")),
-    ]:
-        auditor.wants(f"journals to {what}", wanted, run(read, 4, to))
-    if (auditor.folder / "unmade").exists():
-        auditor.fail("journals of no scenario: the file is made")
     return runs
 
 
 def look(auditor):
     worked, faults = worked_run(), worked_faults()
-    every = [("docs/JOURNALS.md", worked), *samples()]
+    every = [("docs/JOURNALS.md", worked), *sample_journals()]
     for name, lines in every:
         try_sample(auditor, name, lines)
         try_damaged(auditor, name, lines)
-    if len(faults) != 3:
-        auditor.fail(f"docs/JOURNALS.md has {len(faults)} logs in which something is wrong")
-    for name, text, told in faults:
-        auditor.wants(f"{name} of docs/JOURNALS.md", (1, "", told.replace(f"{name}:", "0:")), auditor.audit(text))
-    try_texts(auditor, worked)
-    try_other_ways(auditor, worked)
-    try_no_events(auditor, worked, faults)
-    runs = try_threads(auditor)
-    beside = f"{auditor.answers} answers of the protocol, {auditor.damaged} damaged journals beside a slow search"
-    return f"{len(every)} runs, {runs} in threads, {beside}"
+    try_texts(auditor, worked, faults)
+    told = f"{len(every)} runs, {try_threads(auditor)} in threads, {auditor.answers} answers of the protocol"
+    return f"{told}, {auditor.damaged} damaged journals beside a slow search"
 
 
 if __name__ == "__main__":

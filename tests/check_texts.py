@@ -1,61 +1,58 @@
-"""Runs `abt check` and `abt explain` over scenarios in many layouts, and compares lines and places with those that were written by hand,
-most of them in tests/cases/check.toml.
-
-The proof says that the first fault is the one of `abt run`, and that a place is the line and column behind so many octets. Where a key or an item
-stands in a text is told by no clause of the TOML reader: that is what these layouts are for. Over every sample of scenarios/ the first fault that is
-told has to be the one that `abt run` prints, and `abt explain` has to tell the lines in which the events stand.
+"""Runs `abt check` and `abt explain` over scenarios in many layouts, and compares lines and places with those that were written by hand
+(tests/cases/check.toml, tests/cases/layouts.toml): where a key or an item stands in a text is told by no clause of the TOML reader.
 
 usage: check_texts.py PROGRAM..
 """
 import re
 import tomllib
 
-from harness import SCENARIOS, End, main
+from harness import End, case_file, main, samples, section
 
-CONNECTION = "[[connection]]\nvpi = 1\nvci = 100\npath = [0]\ndelay = 0\ntau = 5\n"
-NET = "ports = [512000]\n" + CONNECTION
-# name, text, the lines that are printed but for the last one, and the numbers in that: as many faults and warnings as are told, and one fewer
-MANY = [
-    ("more than are told", "ports = []\nevents = [" + "'z'," * 101 + "]\n", [
-        f"line 2, column {11 + 4 * i}: fault EventText {i + 1}: no event begins with `z`" for i in range(100)
-    ], ("100 or more", 0)),
-    ("more warnings than are told", "ports = []\nevents = ['start 0 0']\n" + "".join(f"k{i} = 1\n" for i in range(101)), [
-        f"line {i + 3}, column 1: warning: nothing reads the key `k{i}`" for i in range(100)
-    ], (0, "100 or more")),
-    ("one warning fewer", "ports = []\nevents = ['start 0 0']\n" + "".join(f"k{i} = 1\n" for i in range(99)), [
-        f"line {i + 3}, column 1: warning: nothing reads the key `k{i}`" for i in range(99)
-    ], (0, 99)),
-    ("one fault fewer", "ports = []\nevents = [" + "'z'," * 99 + "]\n", [
-        f"line 2, column {11 + 4 * i}: fault EventText {i + 1}: no event begins with `z`" for i in range(99)
-    ], (99, 0)),
-]
-# name, text, the lines in which `abt explain` says that its events stand
-LAYOUTS = [
-    ("no events", NET, []),
-    ("scripts alone", NET + 'script = ["start 0"]\n', []),
-    ("events behind a connection, explained", NET + 'events = ["again 0"]\n', []),
-    ("all in one line", 'events = ["again 0", "again 1", "again 0"]\nports = [1]\n', [1, 1, 1]),
-    ("one a line", 'ports = [\n 1]\nevents = [\n"again 0",\n"again 0",\n"again 1"]\n', [4, 5, 6]),
-    ("comments between", 'ports = []\n# events = ["again 7"]\nevents = [ # "again 8"\n"again 0", # ] , "\n# "again 9",\n\n   "again 1"\n,"again 2" ]\n',
-     [4, 7, 8]),
-    ("strings of all kinds", "ports = []\nevents = ['again 0', \"again \\u0031\",\n\"\"\"again \\\n  2\"\"\", '''\nagain 3''',\n\"\"\"\nagain 4\"\"\",\n'again 5']\n",
-     [2, 2, 3, 4, 6, 8]),
-    ("brackets and commas in strings", 'ports = []\n"events" = ["again 0",\n\n"again 1", ]\nother = "]]"\n', [2, 4]),
-    ("connections in brackets before", "ports = [1]\nconnection = [ { vpi = 1, vci = 2, path = [\n0], delay = 0, tau = 0, 'events' = ['again 9'] } ]\n"
-     "events = [\n'again 0']\n", [5]),
-    ("a byte order mark and carriage returns", "\ufeffports = []\r\nevents = [\r\n'again 0',\r\n'again 1']\r\n", [3, 4]),
-    ("letters of two octets", "ports = [] # \u00e4\n# \u00e4\u00f6\nevents = ['again 0'] # \u00fc\n", [3]),
-    ("words that end at each mark", "ports = [1,2]\na = {b = 1}\nc = [[1],[{d = 2}],{e = {f = 3}}]\ng = 1# ' \" [ {\nh=true\ni = {j = 'x'}\n"
-     "events = [\n'again 0']\n", [8]),
-    ("a table in braces in a list", "ports = []\nevents = ['again 0',\n'again 1']\n[[other]]\na = [{b = 1}, {c = 2}]\n", [2, 3]),
-    ("another table's events", "ports = []\nevents = ['again 0']\n[other]\nevents = ['again 1']\n", [2]),
-]
+# As many faults and warnings as are told, and one fewer.
+MOST = 100
+LIMITS = ((256, "ports"), (1024, "connections"))
+# What is told of a word that no event begins with, and that is near none.
+WORDS = "`start`, `ask`, `again`, `crash`, `emit`, `arrive`, `request`, `turn`, `yes`, `no`, `told-yes`, `told-no` or `capacity`"
+WANTED = f"; one of {WORDS} is wanted"
+# A connection over one port, from whose beginning on another one could follow.
+ONE = "[[connection]]\nvpi = 1\nvci = 1\npath = [0]\ndelay = 0\ntau = 5\n"
 
 
 def try_many(trial):
-    for name, text, lines, (faults, warnings) in MANY:
-        told = "".join(f"{line}\n" for line in [*lines, f"faults: {faults}, warnings: {warnings}"])
-        trial.wants(name, End(0 if faults == 0 else 1, told), trial.run("check", text=text))
+    """Texts with more faults or warnings than are told, and with one fewer."""
+    for count in (MOST + 1, MOST - 1):
+        told, number = min(count, MOST), f"{MOST} or more" if count > MOST else count
+        faults = [f"line 2, column {11 + 4 * i}: fault EventText {i + 1}: no event begins with `z`{WANTED}\n" for i in range(told)]
+        wanted = End(1, "".join([*faults, f"faults: {number}, warnings: 0\n"]))
+        trial.wants(f"{count} faults", wanted, trial.run("check", text="ports = []\nevents = [" + "'z'," * count + "]\n"))
+        keys = "".join(f"k{i} = 1\n" for i in range(count))
+        warnings = [f"line {i + 3}, column 1: warning: nothing reads the key `k{i}`\n" for i in range(told)]
+        wanted = End(0, "".join([*warnings, f"faults: 0, warnings: {number}\n"]))
+        trial.wants(f"{count} warnings", wanted, trial.run("check", text="ports = [1]\nevents = ['start 0 0']\n" + keys + ONE))
+        try_not_enabled(trial, count, number)
+
+
+def try_not_enabled(trial, count, number):
+    """So many events that aren't enabled, beside one key that nothing reads, and events that are enabled between them."""
+    told = min(count, MOST) - 1
+    warnings = [f"line {2 * i + 5}, column 1: warning: event {2 * i + 2} is not-enabled Running: the source is up\n" for i in range(told)]
+    wanted = End(0, "".join(["line 1, column 1: warning: nothing reads the key `k`\n", *warnings, f"faults: 0, warnings: {number}\n"]))
+    events = "'start 0 0',\n" + "'start 0 0',\n'ask 0 53e8',\n" * (count - 1)
+    text = f"k = 1\nports = [1]\nevents = [\n{events}]\n{ONE}"
+    trial.wants(f"{count} events that aren't enabled", wanted, trial.run("check", text=text))
+
+
+def try_limits(trial):
+    """As many ports and connections as are allowed, beside another fault, and one too many."""
+    other = f"line 2, column 11: fault EventText 1: no event begins with `x`{WANTED}"
+    ports, lines = (f"fault Net Limit: the net has {most + 1} {what}; at most {most} are allowed" for most, what in LIMITS)
+    for text, told in [
+        (f"ports = {[1] * 256}\nevents = ['x']\n", other),
+        (f"ports = {[1] * 257}\n", f"line 1, column {10 + 3 * 256}: {ports}"),
+        ("ports = [1]\nevents = ['x']\n" + "".join(map(section, range(1024))), other),
+        ("ports = [1]\n" + "".join(map(section, range(1025))), f"line {2 + 6 * 1024}, column 1: {lines}"),
+    ]:
+        trial.wants(told, End(1, f"{told}\nfaults: 1, warnings: 0\n"), trial.run("check", text=text))
 
 
 def try_lines(trial, name, text, wanted):
@@ -82,14 +79,14 @@ def try_first_fault(trial, sample, text):
     if check.told:
         trial.wants(f"{sample.name}, checked", (run.status, run.told), (check.status, check.told))
         return
-    faults = [line.split("fault ", 1)[1].split(":")[0] for line in check.output.split("\n") if line.startswith("fault ") or ": fault " in line]
+    faults = re.findall(r"^(?:.*?: )?fault ([^:\n]*)", check.output, re.M)
     wanted = [run.told.removeprefix("fault: ").rstrip("\n")] if run.status == 1 else []
     trial.wants(f"{sample.name}, its first fault", (run.status, wanted), (check.status, faults[:1]))
 
 
 def try_explained(trial, sample, text):
-    """`run --explain` and `threads --explain` print what they print without it, and the lines of `abt check`; before these a run in threads tells
-    its events, at which tests/woven.py looks."""
+    """`run --explain` and `threads --explain` print what they print without it, and the lines of `abt check`; before these a run in
+    threads tells its events, at which tests/woven.py looks."""
     lines = trial.run("check", text=text).output
     for words in (["run"], ["threads", "--workers", "2"]):
         plain, given = trial.run(*words, text=text), trial.run(*words, "--explain", text=text)
@@ -100,18 +97,19 @@ def try_explained(trial, sample, text):
 
 
 def look(trial):
-    samples = sorted(SCENARIOS.glob("*.toml"))
+    layouts = case_file("layouts")["case"]
     count = trial.cases("check")
     try_many(trial)
-    for layout in LAYOUTS:
-        try_lines(trial, *layout)
-    for sample in samples:
+    try_limits(trial)
+    for layout in layouts:
+        try_lines(trial, layout["what"], layout["input"], layout["lines"])
+    for sample in samples():
         text = sample.read_bytes()
         try_first_fault(trial, sample, text)
         try_explained(trial, sample, text)
         if not trial.run("run", text=text).status:
             try_lines(trial, sample.name, text, lines_of(text.decode()))
-    return f"{count + len(MANY) + len(LAYOUTS)} texts and {len(samples)} samples"
+    return f"{count + 6 + len(layouts)} texts and {len(samples())} samples"
 
 
 main(look)

@@ -3,6 +3,7 @@
 The places of ports' steps are numbered anew, so that the texts stay journals.
 """
 import json
+from itertools import islice
 
 
 def actor(one):
@@ -26,6 +27,17 @@ def changed(one):
     return json.dumps(read, separators=(",", ":"))
 
 
+def later(lines, at):
+    """Where the later entries of an entry's actor stand."""
+    return [other for other in range(at + 1, len(lines) - 1) if actor(lines[other]) == actor(lines[at])]
+
+
+def swapped(lines, at, other):
+    left = list(lines)
+    left[at], left[other] = lines[other], lines[at]
+    return left
+
+
 def numbered(lines):
     """The lines with the steps of each port numbered by their order."""
     counts, found = {}, [lines[0]]
@@ -38,41 +50,24 @@ def numbered(lines):
     return [*found, lines[-1]]
 
 
-def with_change(lines, at, draw):
-    other = changed(lines[at])
-    return other and [*lines[:at], other, *lines[at + 1 :]]
-
-
-def with_drop(lines, at, draw):
-    return numbered([*lines[:at], *lines[at + 1 :]])
-
-
-def with_double(lines, at, draw):
-    return numbered([*lines[: at + 1], *lines[at:]])
-
-
-def with_swap(lines, at, draw):
-    """The entry changes places with a later one of its actor."""
-    later = [k for k in range(at + 1, len(lines) - 1) if actor(lines[k]) == actor(lines[at])]
-    if not later:
-        return None
-    other, swapped = draw.choice(later), list(lines)
-    swapped[at], swapped[other] = lines[other], lines[at]
-    return numbered(swapped)
-
-
-DAMAGES = {"changed": with_change, "dropped": with_drop, "doubled": with_double, "swapped": with_swap}
+def left_by(kind, lines, at, draw):
+    """The lines that a damage of an entry leaves, or None if it has none of this kind."""
+    match kind:
+        case "changed":
+            other = changed(lines[at])
+            return other and [*lines[:at], other, *lines[at + 1 :]]
+        case "dropped":
+            return numbered([*lines[:at], *lines[at + 1 :]])
+        case "doubled":
+            return numbered([*lines[: at + 1], *lines[at:]])
+    places = later(lines, at)
+    return numbered(swapped(lines, at, draw.choice(places))) if places else None
 
 
 def damaged(lines, draw, most):
-    """Of each kind of damage some, at lines that are drawn: its name, the line, and the lines that it leaves."""
-    for name, damage in DAMAGES.items():
+    """Of each kind of damage at most so many, at lines that are drawn: its name, the line, and the lines that it leaves."""
+    for kind in ("changed", "dropped", "doubled", "swapped"):
         places = list(range(1, len(lines) - 1))
         draw.shuffle(places)
-        found = 0
-        for at in places:
-            if found == most:
-                break
-            if left := damage(lines, at, draw):
-                found += 1
-                yield f"line {at + 1} {name}", left
+        left = ((at, left) for at in places if (left := left_by(kind, lines, at, draw)))
+        yield from ((f"line {at + 1} {kind}", lines) for at, lines in islice(left, most))

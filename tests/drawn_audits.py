@@ -1,9 +1,8 @@
-"""Draws audits by `abt audit --draw`, reads the pictures by Python's own XML parser, and compares them with the slow model of scenarios/model.
+"""Draws audits by `abt audit --draw`, reads the pictures by Python's own XML parser, and compares them with the slow model.
 
-The journals that the model writes of each sample are drawn whole: the picture has to be that of the events that `--events` writes. Damaged ones
-(`tests/damage.py`) are drawn up to the entries at which they are stuck: a slow search says which these are, and each has to have its mark on its
-actor's lifeline, and one alone; the events of the picture have to be just the entries before them, by the model. What is printed is what
-`abt audit` prints without a picture.
+The journals of each sample are drawn whole: the picture has to be that of the events that `--events` writes. Damaged ones
+(`tests/damage.py`) are drawn up to the entries at which they are stuck: a slow search says which these are, and each has to have its mark
+on its actor's lifeline.
 
 usage: drawn_audits.py PROGRAM..
 """
@@ -11,13 +10,14 @@ import json
 import random
 import re
 
-from harness import Trial, main
-from audits import END, WHOLE, samples, text_of, worked_faults, worked_run
+from harness import SCENARIOS, Trial, main, scenario
+from audits import END, WHOLE, sample_journals, text_of, worked_faults, worked_run
+from completing import CompletedSearch
 from damage import damaged
-from journals import Writer
-from pictures import SVG, Page, Picture, Run, tenths
+from journals import entries, texts_of
+from picture import SVG, Page, Picture, Run, tenths
 from reading import event, read
-from search import Search, actor_of, bare
+from search import bare
 
 
 class Drawer(Trial):
@@ -41,11 +41,10 @@ class Drawer(Trial):
         assert answer == WHOLE, answer
         assert self.drawn(text) == (answer, picture), "the picture without --events"
         ports, conns, woven, _ = read((self.folder / "woven.toml").read_bytes())
-        explained = self.run("explain", "woven.toml").output
         seen = Picture(picture, Run(ports, conns, woven), 0, len(woven), ())
         assert seen.stuck == [], "marks of journals that are woven"
         seen.check()
-        assert words_of(seen) == re.sub(r"^(\d+) line \d+ ", r"\1 ", explained, flags=re.M), "the words of a picture"
+        assert seen.words == self.explained("woven.toml"), "the words of a picture"
         if len(woven) > 4:
             words = ("--from", "3", "--to", str(len(woven) - 1), "--only", "0")
             Picture(self.drawn(text, *words)[1], Run(ports, conns, woven), 2, len(woven) - 1, (0,)).check()
@@ -53,34 +52,28 @@ class Drawer(Trial):
         self.events += len(woven)
 
     def check_stuck(self, lines, text):
-        search = Search(lines)
+        search = CompletedSearch(lines)
         stuck = search.run()
         if not stuck:
             self.check_whole(text)
             return
         answer, picture = self.drawn(text)
         assert answer[0] == 1 and not answer[1], answer
-        root = Picture(picture, None, 0, 0, ()).root
-        told = [line for line in root.find(SVG + "desc").text.splitlines() if not line.startswith("stuck: ")]
+        told = [line for line in Picture(picture, None, 0, 0, ()).words.splitlines() if not line.startswith("stuck: ")]
         events = [event(found[1]) for line in told if (found := re.match(r"\d+ ([^:]*): ", line))]
         assert None not in events, told
         seen = Picture(picture, Run(search.ports, search.conns, events), 0, len(events), ())
         seen.check()
-        self.check_marks(seen, stuck, lines)
-        writer = Writer(search.ports, search.conns)
-        for one in events:
-            writer.happen(one)
-        made = {}
-        for one in map(bare, writer.lines[1:]):
-            made.setdefault(actor_of(one), []).append(one)
-        wanted = {actor: search.journals[actor][:count] for actor, count in search.placed.items() if count}
+        self.check_marks(seen, stuck, search)
+        made = CompletedSearch(texts_of(entries(search.ports, search.conns, events))).journals
+        wanted = {actor: search.journals[actor][:number] for actor, number in search.placed.items() if number}
         assert made == wanted, ("events", made, wanted)
         first = [line.split(" ", 1)[0] for line in answer[2].splitlines()[1:2]]
-        assert words_of(seen).splitlines()[-len(stuck)].split(" ")[1:2] == first, "the first mark isn't the entry that is told first"
+        assert seen.words.splitlines()[-len(stuck)].split(" ")[1:2] == first, "the first mark isn't the entry that is told first"
         self.stuck += 1
         self.events += len(events)
 
-    def check_marks(self, picture, stuck, lines):
+    def check_marks(self, picture, stuck, search):
         """Each actor that is stuck has one mark: on its lifeline, in a row of its own, with the entry."""
         places = picture.lifelines()
         found = {}
@@ -96,24 +89,18 @@ class Drawer(Trial):
             level = picture.last - picture.first + 1 + number
             assert tenths(circle.get("cy")) == picture.y(level), ("the row of a mark", who)
             text, line, entry = group.find(SVG + "title").text.split(":", 2)
-            assert text == "0" and bare(json.loads(entry)) == bare(json.loads(lines[int(line) - 1])), ("the words of a mark", who)
+            assert text == "0" and bare(json.loads(entry)) == search.next(who), ("the words of a mark", who)
             found[who] = int(line)
         assert found == stuck, ("marks", found, stuck)
-
-
-def words_of(picture):
-    return picture.root.find(SVG + "desc").text
 
 
 def check_documents(drawer):
     """The logs of docs/JOURNALS.md in which something is wrong, as pages too."""
     for name, text, told in worked_faults():
-        if "failed" not in text.decode():
-            drawer.check_stuck(text.decode().splitlines(), text)
+        drawer.check_stuck(text.decode().splitlines(), text)
         status, out, errors = drawer.audit(text, "--draw", "page.html")
         assert (status, out, errors) == (1, "", told.replace(f"{name}:", "0:")), (status, out, errors)
-        page = Page()
-        page.feed((drawer.folder / "page.html").read_text())
+        page = Page((drawer.folder / "page.html").read_text())
         assert page.outside == [] and "\nstuck: 0:" in page.words, name
     check_escapes(drawer, worked_faults()[0][1])
 
@@ -126,47 +113,35 @@ def check_escapes(drawer, text):
         done = drawer.run("audit", name, "--draw", out)
         octets = (drawer.folder / out).read_text()
         assert done.status == 1 and "<b>" not in octets and "&lt;b&gt;&amp;amp;" in octets, (out, done)
-    page = Page()
-    page.feed((drawer.folder / "signs.html").read_text())
+    page = Page((drawer.folder / "signs.html").read_text())
     assert f"\nstuck: {name}:" in page.words, page.words[-300:]
 
 
 def check_refusals(drawer, lines):
-    """Each way in which there is no picture, which leaves the file as it was."""
-    kept, folder = drawer.folder / "kept.svg", drawer.folder / "folder.svg"
-    folder.mkdir()
-    text, wrong = text_of(lines), worked_faults()[0]
-    told = wrong[2].replace(f"{wrong[0]}:", "0:")
-    rows = [
-        (text, ("--draw", "none/kept.svg"), (1, WHOLE[1], "fault: open\n")),
-        (text, ("--draw", "folder.svg"), (1, WHOLE[1], "fault: write\n")),
-        (text, ("--draw", "kept.svg", "--to", "99"), (1, WHOLE[1], "fault: Range: --from and --to are to name some of the 8 events\n")),
-        (text, ("--draw", "kept.svg", "--only", "7"), (1, WHOLE[1], "fault: Only 7: the net has no such connection\n")),
-        (wrong[1], ("--draw", "none/kept.svg"), (1, "", told + "fault: open\n")),
-        (wrong[1], ("--draw", "kept.svg", "--only", "7"), (1, "", told + "fault: Only 7: the net has no such connection\n")),
-        (text_of(lines[:-1]), ("--draw", "kept.svg"), (1, "", f"fault: 0:{len(lines)}: NoEnd\n")),
-        (text_of([END]), ("--draw", "kept.svg"), (1, "", "fault: 0:1: NoNet\n")),
-    ]
-    for octets, words, answer in rows:
-        kept.write_text("kept")
-        assert (given := drawer.audit(octets, *words)) == answer, (words, given, answer)
-        assert kept.read_text() == "kept" and not list(drawer.folder.glob("*.part")), words
-    for words in (("--draw", "kept.txt"), ("--only", "0"), ("--draw", "kept.svg", "--from", "0")):
-        assert drawer.audit(text, *words)[0] == 2 and kept.read_text() == "kept", words
-    assert drawer.audit(text, "--draw", "kept.svg", "--events", "none/x.toml") == (1, WHOLE[1], "fault: events open\n")
-    assert kept.read_text().endswith("</svg>\n"), "the picture where its events can't be written"
-    done = drawer.run("audit", "--draw", kept, text=wrong[1])
-    assert done.status == 1 and "stuck: -:6: " in kept.read_text(), done
+    """Each way in which there is no picture, which leaves the file as it was; and a picture whose events can't be written, which is
+    whole."""
+    text, (name, wrong, told) = text_of(lines), worked_faults()[0]
+    (drawer.folder / "many.toml").write_text(scenario([1], ["capacity 0 1"] * 2001))
+    files = {"sample": SCENARIOS / "two_ports.toml", "threads": SCENARIOS / "threads_crossing.toml", "many": drawer.folder / "many.toml"}
+    texts = {"run": text.decode(), "net": f"{lines[0]}\n", "end": f"{END}\n", "wrong": wrong.decode()}
+    drawer.cases("undrawn", scenarios=SCENARIOS, **files, **texts, told=told.replace(f"{name}:", "wrong:"))
+    drawer.run("audit", "--draw", "kept.svg", "--events", "none/x.toml", text=text)
+    assert (drawer.folder / "kept.svg").read_text().endswith("</svg>\n"), "the picture where its events can't be written"
+    done = drawer.run("audit", "--draw", "kept.svg", text=wrong)
+    assert done.status == 1 and "stuck: -:4: " in (drawer.folder / "kept.svg").read_text(), done
+
+
+def check_run(drawer, name, lines):
+    drawer.check_whole(text_of(lines))
+    for _, left in damaged(lines, random.Random(f"{name}, drawn"), 1):
+        drawer.check_stuck(left, text_of(left))
 
 
 def look(drawer):
-    worked = worked_run()
-    for name, lines in [("docs/JOURNALS.md", worked), *samples()]:
-        drawer.check_whole(text_of(lines))
-        for _, left in damaged(lines, random.Random(f"{name}, drawn"), 1):
-            drawer.check_stuck(left, text_of(left))
-    check_documents(drawer)
-    check_refusals(drawer, worked)
+    for name, lines in [("docs/JOURNALS.md", worked_run()), *sample_journals()]:
+        drawer.checks(name, check_run, drawer, name, lines)
+    drawer.checks("the logs of docs/JOURNALS.md", check_documents, drawer)
+    drawer.checks("no picture", check_refusals, drawer, worked_run())
     return f"{drawer.whole} pictures of woven journals, {drawer.stuck} of stuck ones, {drawer.events} events"
 
 

@@ -1,4 +1,5 @@
-"""Compares the help that `./abt` shows before there is a program, in man/help, with what the program shows, and its version with CHANGELOG.md.
+"""Compares the help that `./abt` shows before there is a program, in man/help, with what the program shows, and its version with
+CHANGELOG.md.
 
 usage: help_texts.py PROGRAM            compares
        help_texts.py PROGRAM --write    writes the texts anew
@@ -7,7 +8,7 @@ import re
 import sys
 from pathlib import Path
 
-from harness import ROOT, run
+from harness import ROOT, report, run
 
 FOLDER = ROOT / "man" / "help"
 
@@ -35,15 +36,11 @@ def main(program, *options):
         for name, text in texts.items():
             (FOLDER / name).write_text(text)
     kept = {file.name: file.read_text() for file in FOLDER.iterdir()}
-    found = sorted(name for name in texts.keys() | kept.keys() if texts.get(name) != kept.get(name))
-    for name in found:
-        print(f"help_texts: man/help/{name} isn't what the program shows")
+    found = [f"man/help/{name} isn't what the program shows" for name in sorted({*texts, *kept}) if texts.get(name) != kept.get(name)]
     version = re.search(r"^## ([0-9.]+)", (ROOT / "CHANGELOG.md").read_text(), re.M)[1]
     if texts["version"] != f"abt {version}\n":
-        print("help_texts: CHANGELOG.md begins with another version than the program tells")
-        found.append("CHANGELOG.md")
-    print(f"help_texts: {len(texts)} texts, {len(found)} differences")
-    sys.exit(1 if found else 0)
+        found.append("CHANGELOG.md begins with another version than the program tells")
+    report(f"{len(texts)} texts", found)
 
 
 main(*sys.argv[1:])

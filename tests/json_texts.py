@@ -1,39 +1,34 @@
-"""Reads what `--json` prints by Python's parser, and compares it with what the same command prints in words.
-
-Each object is put into the words of docs/FORMATS.md, and these have to be what the command prints without `--json`, with the same faults and
-the same status. Looked at are `run` of each sample that is run, from its file and from the standard input, and of a file that isn't there;
-`explain` of the same, whose objects have to be those of `run` with the lines, the texts and the words of `explain` in them; `check` of all
-samples and of texts with faults of every kind; `rate` of every 97th code, of the codes that the documents name and of words that are none;
-`cell` of the test cells and of texts that are none.
+"""Reads what `--json` prints by Python's parser, puts each object into the words of docs/FORMATS.md, and compares these with what the
+same command prints without it, with the same faults and the same status. Objects of `explain` have to be those of `run` too. Each object
+has to be as docs/abt.schema.json says, by which each object that is spoilt in one member is refused.
 
 usage: json_texts.py PROGRAM..
 """
 import json
 import re
 
-from harness import ROOT, SCENARIOS, main
+from harness import ROOT, SCENARIOS, case_file, main, samples
+from json_schema import Kinds
 
 FORMATS = ROOT / "docs" / "FORMATS.md"
 CODES = [f"{code:04x}" for code in range(0, 65536, 97)] + ["0000", "53e8", "5258", "ffff", "53E8", "", "5", "53e8 ", "g000"]
-CONNECTION = "[[connection]]\nvpi = 1\nvci = 2\npath = [0]\ndelay = 0\ntau = 0\n"
-# Texts with faults of every kind, and with warnings.
-FAULTY = [
-    "", "ports = [", "ports = 'x'\n", "ports = [-1]\nevnts = []\n", "ports = []\n" + CONNECTION, "ports = [1]\n" + 2 * CONNECTION,
-    "ports = [1]\n" + CONNECTION.replace("[0]", "[0, 0]"), "ports = [1]\n" + CONNECTION.replace("[0]", "[]"), "ports = [9223372036854775807]\n",
-    "ports = [1]\nevents = ['akk \"0\" \\\\']\noperator = ['x']\n" + CONNECTION + "script = ['start 0', 'stop']\n", "ports = []\nevents = [" + "'x'," * 150 + "]\n",
-]
 CELLS = ["", "0", "00", "zz", "6a" * 51, "00" * 52]
 
 
-def objects(text):
-    """The objects of a text, one a line, with no key that comes twice."""
+KINDS = Kinds("rate", "cell", "run", "explain", "check")
+
+
+def objects(command, text):
+    """The objects of what a command prints, one a line, each of a kind of this command, with no key that comes twice."""
 
     def members(pairs):
         if len({key for key, _ in pairs}) != len(pairs):
             raise ValueError("a key comes twice")
         return dict(pairs)
 
-    return [json.loads(line, object_pairs_hook=members) for line in text.splitlines()]
+    found = [json.loads(line, object_pairs_hook=members) for line in text.splitlines()]
+    KINDS.look(command, found)
+    return found
 
 
 def pairs(members):
@@ -69,24 +64,33 @@ def cell_of(found):
 def try_words(trial, words, said, text=b""):
     """A command says as JSON what it says in words."""
     in_words, as_json = run(trial, words, text), run(trial, [*words, "--json"], text)
-    try:
-        trial.wants(words, in_words, as_json._replace(output=said(objects(as_json.output))))
-    except (ValueError, TypeError, KeyError) as error:
-        trial.fail(f"{words}: {error}: {as_json.output[:200]!r}")
+    trial.wants(words, in_words, as_json._replace(output=said(objects(words[0], as_json.output))))
+
+
+# How a reason says at which hop a message lies, and what comes next of it.
+LIES = re.compile(r": (request|yes|no) (\d+) lies at (hop (\d+)|its source|the end of the path): `([^`]*)` comes next$")
+
+
+def try_sighting(trial, words, event):
+    """What an event says of its message as numbers is what it says in words; both are taken out."""
+    at, following = event.pop("lies_at", None), event.pop("comes_next", None)
+    found = LIES.search(event["words"])
+    said = (found[3], found[5]) if found else ()
+    place = "its source" if at == 0 else "the end of the path" if following and following.startswith("turn ") else f"hop {at}"
+    trial.wants(f"explain {words}, where a message lies", said, () if at is None else (place, following))
 
 
 def try_explained(trial, words, text=b""):
     """`explain` says as JSON what `explain` and `run` say in words."""
     as_json, in_words, report = (run(trial, given, text) for given in (["explain", *words, "--json"], ["explain", *words], ["run", *words]))
-    try:
-        found = objects(as_json.output)
-        events = [each for each in found if "event" in each]
-        told = [f"{each['event']} line {each.pop('line')} {each.pop('text')}: {each.pop('words')}" for each in events]
-    except (ValueError, TypeError, KeyError) as error:
-        trial.fail(f"explain {words}: {error}: {as_json.output[:200]!r}")
-        return
+    found = objects("explain", as_json.output)
+    events = [each for each in found if "event" in each]
+    for each in events:
+        try_sighting(trial, words, each)
+    told = [f"{each['event']} line {each.pop('line')} {each.pop('text')}: {each.pop('words')}" for each in events]
+    explained = in_words.output.splitlines()[: len(told)]
     trial.wants(f"explain {words}, and run", (report.status, report.output), (as_json.status, report_of(found)))
-    trial.wants(f"explain {words}", (in_words.status, in_words.told, in_words.output.splitlines()[: len(told)]), (as_json.status, as_json.told, told))
+    trial.wants(f"explain {words}", (in_words.status, in_words.told, explained), (as_json.status, as_json.told, told))
     trial.wants(f"explain {words}, and what run tells", [True], [as_json.told.startswith(report.told)])
 
 
@@ -111,22 +115,22 @@ def run(trial, words, text):
 
 
 def look(trial):
-    samples = [it for it in sorted(SCENARIOS.glob("*.toml")) if not it.with_name(it.name + ".args").is_file()]
+    run_ones = [it for it in samples() if not it.with_name(it.name + ".args").is_file()]
     cells = re.findall(r"\b[0-9a-f]{104}\b", FORMATS.read_text()) + CELLS
-    if not samples or len(cells) == len(CELLS):
+    if not run_ones or len(cells) == len(CELLS):
         raise SystemExit("json_texts: there is no sample, or no cell")
-    runs = [([sample.name], b"") for sample in samples] + [([], sample.read_bytes()) for sample in samples] + [(["none.toml"], b"")]
-    for words, text in runs:
-        try_words(trial, ["run", *words], report_of, text)
-        try_explained(trial, words, text)
-    for code in CODES:
-        try_words(trial, ["rate", code], rate_of)
-    for cell in cells:
-        try_words(trial, ["cell", cell], cell_of)
-    lines = lambda found: "".join(map(line_of, found))
-    for words, text in [*(([], text.encode()) for text in FAULTY), *(([sample.name], b"") for sample in sorted(SCENARIOS.glob("*.toml"))), (["none.toml"], b"")]:
-        try_words(trial, ["check", *words], lines, text)
-    return f"{len(samples)} samples, {len(CODES)} codes, {len(cells)} cells, {len(FAULTY)} texts with faults"
+    runs = [([sample.name], b"") for sample in run_ones] + [([], sample.read_bytes()) for sample in run_ones] + [(["none.toml"], b"")]
+    faulty = [case.get("input", "") for case in case_file("check")["case"] if case["words"] == "check"]
+    faulty.append("ports = []\nevents = [" + "'x'," * 150 + "]\n")
+    tried = [(["run", *words], report_of, text) for words, text in runs]
+    tried += [(["rate", code], rate_of) for code in CODES] + [(["cell", cell], cell_of) for cell in cells]
+    checked = [*(([], text) for text in faulty), *(([sample.name], b"") for sample in samples()), (["none.toml"], b"")]
+    tried += [(["check", *words], lambda found: "".join(map(line_of, found)), text) for words, text in checked]
+    for check, all_given in ((try_words, tried), (try_explained, runs)):
+        for given in all_given:
+            trial.checks(given, check, trial, *given)
+    trial.wants("kinds of objects that nothing printed", [], KINDS.missing())
+    return f"{len(run_ones)} samples, {len(CODES)} codes, {len(cells)} cells, {len(faulty)} texts with faults"
 
 
 main(look)

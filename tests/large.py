@@ -1,46 +1,39 @@
-"""Gives the program inputs that are large, and wants the whole answer: no clause says that a call doesn't tell want of memory though there is
-enough, or begins to do so from some size on.
-
-70,000 changes of a capacity are run, explained, checked, and audited as journals: in one text, in 70 texts, and with their events written. A port
-has its 1,024 connections, each of which is started and asks. A source is audited whose store failed 20 times, each of which what it does next
-settles. The slow model says what is wanted, but for the reasons, of which the numbers are: each event has its line.
+"""Gives the program inputs that are large, and wants the whole answer: no clause says that a call doesn't tell want of memory though
+there is enough, or begins to do so from some size on. The slow model says what is wanted, but for the reasons, of which the numbers are.
 
 usage: large.py PROGRAM..
 """
-from harness import Trial, main
+from harness import Trial, main, scenario, section
 from audits import WHOLE, text_of
-from journals import Writer
+from journals import entries, journals, texts_of
 from model import run as model_run
-from open_writes import opened, texts_of
-from reading import rate, read
+from open_writes import CONNS, opened
+from reading import rate
 
 CHANGES, TEXTS, CONNECTIONS, FAILURES = 70_000, 70, 1_024, 20
 
 
 def changes():
     """A scenario that sets one capacity many times."""
-    return "ports = [512000]\nevents = [\n" + "".join(f' "capacity 0 {units}",\n' for units in range(CHANGES)) + "]\n"
+    return scenario([512000], [f"capacity 0 {units}" for units in range(CHANGES)])
 
 
 def connections():
     """A scenario in which each connection of a full port is started, and asks for a cell each second."""
     events = [f"{word} {conn} {rest}" for conn in range(CONNECTIONS) for word, rest in (("start", "0"), ("ask", "4000"))]
-    sections = "".join(
-        f"[[connection]]\nvpi = 1\nvci = {32 + conn}\npath = [0]\ndelay = 1000\ntau = 200\n" for conn in range(CONNECTIONS)
-    )
-    return "ports = [1048576]\nevents = [\n" + "".join(f' "{event}",\n' for event in events) + "]\n" + sections
+    return scenario([1048576], events, [section(32 + conn) for conn in range(CONNECTIONS)])
 
 
 def stores():
-    """The journals of a source that asks over a store that fails, now behind writing and now before, and asks once more behind a crash; and the same
-    that say that the store failed and no more."""
-    writer = Writer([512_000], [{"vc": (1, 100), "path": [0], "delay": 1000, "tau": 200, "script": []}])
-    asked = ("ask", 0, rate("5120"))
+    """The journals of a source that asks over a store that fails, now behind writing and now before, and asks once more behind a crash;
+    and the same that say that the store failed and no more."""
+    asked, events = ("ask", 0, rate("5120")), []
     for number in range(FAILURES):
-        plan = "before" if number % 2 else "after"
-        for event in (("start", 0, 2 * number * 10**13), (*asked, plan), ("crash", 0), ("start", 0, (2 * number + 1) * 10**13), (*asked, "works"), ("crash", 0)):
-            writer.happen(event)
-    return texts_of(writer.lines), texts_of(opened(writer.lines)[0])
+        began, again = 2 * number * 10**13, (2 * number + 1) * 10**13
+        events += [("start", 0, began), (*asked, "before" if number % 2 else "after"), ("crash", 0)]
+        events += [("start", 0, again), (*asked, "works"), ("crash", 0)]
+    lines = entries([512_000], CONNS, events)
+    return texts_of(lines), texts_of(opened(lines)[0])
 
 
 class Giver(Trial):
@@ -53,7 +46,7 @@ class Giver(Trial):
 def give_scenarios(giver):
     for name, text in (("changes", changes()), ("connections", connections())):
         (giver.folder / name).write_text(text)
-        events = text.count(' "')
+        events = text.count('  "')
         status, report, _ = model_run(text.encode())
         giver.wants(f"a run of {name}", (status, report, ""), giver.run("run", name))
         # The first line, which counts the events, is of the report alone.
@@ -71,11 +64,7 @@ def give_scenarios(giver):
 
 def give_journals(giver):
     text = changes().encode()
-    ports, conns, events, _ = read(text)
-    writer = Writer(ports, conns)
-    for event in events:
-        writer.happen(event)
-    net, *lines, end = texts_of(writer.lines)
+    net, *lines, end = journals(text)
     (giver.folder / "whole").write_bytes(text_of([net, *lines, end]))
     giver.wants("many entries in one text", WHOLE, giver.run("audit", "whole", "--events", "again"))
     giver.wants("their events, run", model_run(text), giver.run("run", "again"))

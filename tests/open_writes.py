@@ -1,20 +1,19 @@
 """Audits logs that can't tell whether a write that failed was stored.
 
-Sources are drawn that start, ask over a store which fails, emit and crash. The slow model writes their journals, and those of each sample. Then
-each store that failed says no more than that. The model tries all ways to settle these, `before` first: of those in which every source answers
-what the log tells, the first is wanted, in the scenario that `abt audit --events` writes. With a number that no way shows, no list of events is
-woven.
+Sources are drawn that start, ask over a store which fails, emit and crash. The slow model writes their journals, and those of each
+sample. Then each store that failed says no more than that. The model tries all ways to settle these, `before` first: of those in which
+every source answers what the log tells, the first is wanted, in the scenario that `abt audit --events` writes. With a number that no way
+shows, no list of events is woven.
 
 usage: open_writes.py PROGRAM..
 """
 import itertools
-import json
 import random
 
-from harness import SCENARIOS, main
-from audits import END, WHOLE, Auditor, by_actor, text_of
-from journals import Writer, journals
-from reading import Fault, rate, read
+from harness import main, sample_runs
+from audits import WHOLE, Auditor, by_actor, text_of
+from journals import Writer, entries, journals, texts_of
+from reading import rate
 
 DRAWN = 400
 TOGETHER = 8
@@ -22,14 +21,6 @@ PORTS = [512000]
 CONNS = [{"vc": (1, 100), "path": [0], "delay": 1000, "tau": 200, "script": []}]
 RATES = [rate(one) for one in ("0000", "4000", "5120", "5258", "53e8")]
 GAPS = [0, 1, 10**9, 2_500_000_000, 10**12]
-
-
-def entries(ports, conns, events):
-    """The lines of the journals that events leave, as objects, without the end."""
-    writer = Writer(ports, conns)
-    for event in events:
-        writer.happen(event)
-    return writer.lines
 
 
 def fails(event):
@@ -83,11 +74,9 @@ class Draw:
         asked = self.writer.lines[-1]["outcome"]
         if type(asked) is dict and "asked" in asked and self.draw.random() < 0.6:
             seq = asked["asked"]["seq"]
-            self.happen("request", 0, 1, seq)
-            if self.draw.random() < 0.8:
-                self.happen("turn", 0, seq)
-                self.happen("answer", 0, 1, seq, True)
-                self.happen("told", 0, seq, True)
+            answers = [("turn", 0, seq), ("answer", 0, 1, seq, True), ("told", 0, seq, True)] if self.draw.random() < 0.8 else []
+            for event in (("request", 0, 1, seq), *answers):
+                self.happen(*event)
         if asked == {"refused": "Keep"} and self.draw.random() < 0.5:
             self.happen("crash", 0)
             self.happen("start", 0, self.later())
@@ -106,20 +95,12 @@ class Draw:
         if self.draw.random() < 0.3:
             self.stride()
         for _ in range(self.draw.randrange(4, 20)):
-            match self.draw.choice(("start", "ask", "ask", "ask", "crash", "emit", "emit", "again")):
-                case "start":
-                    self.happen("start", 0, self.later())
-                case "ask":
-                    self.ask()
-                case "emit":
-                    self.happen("emit", 0, self.later())
-                case other:
-                    self.happen(other, 0)
+            kind = self.draw.choice(("start", "ask", "ask", "ask", "crash", "emit", "emit", "again"))
+            if kind == "ask":
+                self.ask()
+            else:
+                self.happen(kind, 0, *([self.later()] if kind in ("start", "emit") else []))
         return self.events
-
-
-def texts_of(lines):
-    return [*(json.dumps(one, separators=(",", ":")) for one in lines), END]
 
 
 def try_run(auditor, name, ports, conns, events):
@@ -146,21 +127,12 @@ def try_strange(auditor, name, ports, conns, events):
         return 0
     cell = lines[asked[-1]]["outcome"]["asked"]
     cell["seq"] += 100_000
-    status, out, told = auditor.audit(text_of(texts_of(lines)))
-    if status != 1 or out or not told.startswith(("fault: Mismatch\n", "fault: NoOrder\n")):
-        auditor.fail(f"{name}, a number changed: {(status, out, told)} in place of a fault of weaving")
+    auditor.unwoven(f"{name}, a number changed", text_of(texts_of(lines)))
     return 1
 
 
 def look(auditor):
-    runs = []
-    for sample in sorted(SCENARIOS.glob("*.toml")):
-        try:
-            ports, conns, events, _ = read(sample.read_bytes())
-        except Fault:
-            continue
-        runs.append((sample.name, ports, conns, events))
-    runs += [(f"draw {seed}", PORTS, CONNS, Draw(seed).live()) for seed in range(DRAWN)]
+    runs = [*sample_runs(), *((f"draw {seed}", PORTS, CONNS, Draw(seed).live()) for seed in range(DRAWN))]
     counts = [try_run(auditor, *run) for run in runs]
     strange = sum(try_strange(auditor, *run) for run in runs)
     return f"{sum(map(bool, counts))} logs with {sum(counts)} open writes settled, {strange} with a number changed"

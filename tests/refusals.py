@@ -1,189 +1,106 @@
-"""Runs the program with each of its allocations refused in turn, and wants want of memory told as just that.
+"""Lets allocations of the program fail in turn, and wants want of memory told as just that; with --all, calls of each kind and more
+commands.
 
-A run with an allocation refused has to end as one without (the C library can do without some of its own), or with status 1,
-`fault: memory` on standard error and nothing on standard output. A picture is then the same as without, or there is none. Of `abt threads`
-the lines before may stay, and a thread that isn't started for want of memory is `fault: Thread`; its allocations come in no fixed order, so
-of these only some are tried. It is tried once more with each later allocation refused too, and has to end then as well. With `--explain` what
-is told behind the lines may be want of memory too, in place of the events or of the check, and each is told or that.
+Which ends are right says tests/fault_trials.py. Calls fail by the preloaded library tools/faults.c, which needs a C compiler. The
+allocations of `abt threads` come in no fixed order, so of these only some are tried. It is tried once more with each later allocation
+refused too, and has to end then as well. Behind `gathered` its journals are written whatever is refused. With --stack nothing fails, but the stack is so small, also for the largest nets.
 
-usage: refusals.py [PROGRAM]    of this program, else the one that `./abt --prove` makes
+usage: refusals.py PROGRAM..                                         (the program itself: `./abt` is a script, whose shell would be refused)
+       refusals.py PROGRAM.. --all [--faults KIND,..] [--every N]    (KIND: one of tests/fault_trials.py; N: the first of each N calls)
+       refusals.py PROGRAM.. --stack KIB
 """
-import re
-import shutil
+import argparse
+import os
 import subprocess
 import sys
-import tempfile
-from concurrent.futures import ThreadPoolExecutor
-from pathlib import Path
+from itertools import count
 
-ROOT = Path(__file__).resolve().parent.parent
-sys.path.insert(0, str(ROOT / "tools"))
-from preload import library
+from fault_commands import Command, all_commands, commands
+from fault_trials import KINDS, SECONDS, Sweep, run
+from harness import SCENARIOS, main, samples
+from preload import Faults
 
-FOLDER = ROOT / "scenarios"
-CELL = "0010064c02045258000000000000000000000001" + "6a" * 30 + "038c"
-MEMORY = "fault: memory\n"
-LINES = ("", "gathered\n", "gathered\nwoven\n")
-WOVEN = b'{"net":{"ports":[1],"connections":[]}}\n{"port":0,"place":0,"input":{"capacity":2},"reply":"set"}\n{"end":true}\n'
-# The words of a command, and what it is given on standard input.
-COMMANDS = [
-    (["rate", "53e8"], b""),
-    (["rate", "none"], b""),
-    (["cell", CELL], b""),
-    (["cell", "00"], b""),
-    (["port", "512000", CELL, "zz", CELL], b""),
-    (["port", "+5", CELL], b""),
-    (["port", "--help"], b""),
-    (["none"], b""),
-    (["rate", b"\xff"], b""),
-    (["run"], b"ports = []\nevents = [\"crash\"]\n"),
-    (["run"], b"ports = [\n"),
-    (["run"], b"\xff"),
-    (["run", "none.toml"], b""),
-    (["run", "."], b""),
-    (["police", "--tau", "0", "--rate", "53e8"], b"5\n"),
-    (["audit"], WOVEN),
-    (["audit"], WOVEN.replace(b'"set"', b'"passed"')),
-    (["audit", "--draw", "PICTURE.svg"], WOVEN),
-    (["audit", "--draw", "PICTURE.svg"], WOVEN.replace(b'"set"', b'"passed"')),
-    (["shape", "--rate", "53e8"], b"x\n"),
-    (["shape", "--rate", "53e"], b""),
-    (["check"], b"ports = [\n"),
-    (["check"], b"ports = [1]\nevents = ['akk 0 5120']\n[[connection]]\nevent = 1\n"),
-    (["check", "threads_fault_jitter.toml"], b""),
-    (["cell", "--stdin"], CELL.encode() + b"\nzz\n"),
-    (["port", "512000", "--stdin"], CELL.encode() + b"\nzz\n"),
-    (["code", "1.3Mbps"], b""),
-    (["code", "5"], b""),
-    (["write", "request", "1", "100", "1", "0000", "5258"], b""),
-    (["write", "no", "1", "100", "0", "0000", "5258"], b""),
-    (["explain"], b"ports = [\n"),
-    (["explain", "none.toml"], b""),
-    (["explain", "one_source.toml"], b""),
-    (["explain", "every_cause.toml"], b""),
-    (["draw", "two_ports.toml", "-o", "PICTURE.svg"], b""),
-    (["draw", "every_cause.toml", "--from", "3", "-o", "PICTURE.html"], b""),
-    (["draw", "two_ports.toml", "--only", "2", "-o", "PICTURE.svg"], b""),
-    (["draw", "two_ports.toml", "-o", "PICTURE.txt"], b""),
-    (["draw", "none.toml", "-o", "PICTURE.svg"], b""),
-    *((["run", sample.name], b"") for sample in sorted(FOLDER.glob("*.toml")) if not sample.name.startswith("threads_")),
-]
-THREADS = (["threads", "threads_one_source.toml", "--workers", "1"], b"")
-TOLD_THREADS = (["threads", "threads_one_source.toml", "--workers", "1", "--explain"], b"")
-DRAWN_THREADS = (["draw", "threads_one_source.toml", "--workers", "1", "-o", "PICTURE.svg"], b"")
-# Each later allocation is refused too.
-LASTING = {"FAULTS_LASTING": "1"}
-TRIALS = [*((command, {}) for command in COMMANDS), (THREADS, {}), (TOLD_THREADS, {}), (DRAWN_THREADS, {}), (THREADS, LASTING)]
-THREADS_TRIED = 400
-MOST_TRIED = 5_000
+THREADS = ("threads", "threads_one_source.toml", "--workers", "1")
+# The last line of a text of journals.
+LAST = '{"end":true}\n'
 AT_ONCE = 2
-BATCH = 32
-SECONDS = 60
-# The events of a run: how many, a line for each, and more lines that are no fault's and not the last one of a check.
-EVENTS = re.compile(r"events: (\d+), granted: \d+, refused: \d+\n((?:\d+ .*\n)*)(?:(?!faults?:).*\n)*")
-HANG = ("", f"no end after {SECONDS} seconds", None, {})
+SOME, ALL = 400, 5_000
 
 
-def run(program, preload, command, **more):
-    words, text = command
-    environment = {"LD_PRELOAD": str(preload), **more}
-    with tempfile.TemporaryDirectory(prefix="refusals.") as room:
-        words = [word.replace("PICTURE", f"{room}/picture") if isinstance(word, str) else word for word in words]
-        done = subprocess.run([program, *words], cwd=FOLDER, input=text, capture_output=True, timeout=SECONDS, env=environment)
-        drawn = {file.suffix: file.read_text() for file in Path(room).iterdir()}
-    if command is DRAWN_THREADS:
-        # A run in threads goes otherwise each time: that its picture is whole must do.
-        drawn = {kind: text.endswith("</svg>\n") for kind, text in drawn.items()}
-    told = done.stderr.decode()
-    return done.stdout.decode(), in_short(told) if command is TOLD_THREADS else told, done.returncode, drawn
-
-
-def in_short(told):
-    """What a run in threads tells, its events as one word where they are told whole: they are others each time."""
-    events = EVENTS.match(told)
-    is_whole = events and int(events[1]) == events[2].count("\n") > 0
-    return "events\n" + told[events.end():] if is_whole else told
-
-
-def refused(program, preload, folder, command, more, number):
-    """How a command ends with this allocation refused, if it has so many; `HANG` also if it doesn't end though none is refused."""
-    mark = Path(folder) / "refused" / str(number)
-    try:
-        end = run(program, preload, command, FAULTS_ALLOCATION=str(number), FAULTS_AT=str(mark), **more)
-    except subprocess.TimeoutExpired:
-        return HANG
-    return end if mark.exists() else None
-
-
-def ends_of(program, preload, folder, command, more, most):
-    """How a command ends with each of its allocations refused in turn. No more are tried behind a batch in which one run doesn't end."""
-    ends = []
-    (Path(folder) / "refused").mkdir()
-    with ThreadPoolExecutor(AT_ONCE) as pool:
-        while len(ends) < most:
-            numbers = range(len(ends) + 1, len(ends) + 1 + BATCH)
-            batch = list(pool.map(lambda number: refused(program, preload, folder, command, more, number), numbers))
-            ends += [end for end in batch if end is not None]
-            if None in batch or HANG in batch:
-                break
-    shutil.rmtree(Path(folder) / "refused")
-    return ends
-
-
-def beginnings(text):
-    """What may have gone out where lines are answered one by one: none of the answers, or some."""
-    lines = text.splitlines(keepends=True)
-    return ["".join(lines[:count]) for count in range(len(lines))]
-
-
-def faults(program, preload, folder, command, more):
-    """The refusals of a command that end otherwise, how many there are, and how many are told."""
-    without = run(program, preload, command)
-    with_threads = command in (THREADS, TOLD_THREADS, DRAWN_THREADS)
-    texts = LINES if command in (THREADS, TOLD_THREADS) else beginnings(without[0]) if "--stdin" in command[0] else ("",)
-    allowed = [(text, MEMORY, 1, {}) for text in texts]
-    if "--draw" in command[0]:
-        # The picture comes behind what is printed; and it is drawn though the words of a fault were refused memory.
-        allowed += [(without[0], MEMORY, 1, {}), (without[0], without[1] + MEMORY, 1, {}), ("", MEMORY, 1, without[3])]
-    if command is TOLD_THREADS:
-        check = without[1].removeprefix("events\n")
-        allowed += [(text, fault + check, 1, {}) for text in texts for fault in (MEMORY, "fault: Thread\n")]
-        allowed += [(without[0], MEMORY + check, 0, {}), (without[0], "events\n" + MEMORY, 0, {})]
-    if with_threads:
-        allowed.append(("", "fault: Thread\n", 1, {}))
+def trials():
+    """Each command with what is refused, and at how many places at most."""
+    names = [sample.name for sample in samples() if not sample.name.startswith("threads_")]
+    for command in [*commands("case"), *(Command(("run", name)) for name in names)]:
+        yield command, "allocation", ALL
+    yield Command(THREADS), "allocation", SOME
     # What is told comes last, so of that run all are tried.
-    is_cut = with_threads and command is not TOLD_THREADS
-    ends = ends_of(program, preload, folder, command, more, THREADS_TRIED if is_cut else MOST_TRIED)
-    others = [(number, end) for number, end in enumerate(ends, 1) if end != without and end not in allowed]
-    return others, len(ends), sum(end in allowed for end in ends)
+    yield Command((*THREADS, "--explain")), "allocation", ALL
+    yield Command(("draw", *THREADS[1:], "-o", "ROOM/picture.svg")), "allocation", SOME
+    yield Command(THREADS), "memory", SOME
 
 
-def main(program):
-    wrong = tried = told = 0
-    with tempfile.TemporaryDirectory(prefix="refusals.") as folder:
-        preload = library(folder)
-        if preload is None:
-            print("refusals: not run, as there is no C compiler")
-            return
-        for command, more in TRIALS:
-            others, count, memory = faults(program, preload, folder, command, more)
-            tried += count
-            told += memory
-            lasting = " and all after it" if more else ""
-            for number, end in others[:5]:
-                print(f"refusals: {command[0]}, allocation {number} of {count}{lasting}: {end!r}")
-            wrong += len(others)
-            if not memory:
-                wrong += 1
-                print(f"refusals: {command[0]}: no refusal of {count}{lasting} is told")
-    print(f"refusals: {tried} allocations refused, {told} told as want of memory, {wrong} otherwise")
-    sys.exit(1 if wrong else 0)
+def keeps_journals(trial, faults):
+    """Refuses each allocation of a run whose journals are written: once it is gathered, their file is whole and is audited as woven and
+    safe, unless memory is refused for that text, behind all lines."""
+    file = trial.folder / "journals.jsonl"
+    words = (trial.program, *THREADS[:1], SCENARIOS / THREADS[1], *THREADS[2:], "--journals", file)
+    gathered = kept = 0
+    for number in count(1):
+        file.unlink(missing_ok=True)
+        end, refused = faults.during({"FAULTS_ALLOCATION": str(number)}, lambda environment: ended(words, environment))
+        if refused is None:
+            break
+        status, lines = end
+        text = file.read_text() if file.exists() else ""
+        if status == 0 or lines == "" or lines == "gathered\nwoven\nsafe\n":
+            continue
+        gathered += 1
+        if text.endswith(LAST) and trial.run("audit", file) == (0, "woven\nsafe\n", ""):
+            kept += 1
+        else:
+            trial.fail(f"threads --journals, allocation {number}: printed {lines!r}, and the file ends with {text[-80:]!r}")
+    if not gathered:
+        trial.fail("threads --journals: no allocation was refused behind gathered")
+    return f"{kept} of {gathered} runs refused memory behind `gathered` left their journals"
 
 
-def built():
-    """The program itself: `./abt` is a script, whose shell would be refused memory first."""
-    subprocess.run([ROOT / "abt", "--prove"], stdout=subprocess.DEVNULL, check=True)
-    return ROOT / "crates" / "abt" / "out" / "abt"
+def ended(words, environment):
+    done = subprocess.run(words, env={**os.environ, **environment}, stdin=subprocess.DEVNULL, capture_output=True, text=True, timeout=SECONDS)
+    return done.returncode, done.stdout
 
 
-main(Path(sys.argv[1]).resolve() if sys.argv[1:] else built())
+def on_small_stack(trial, kibibytes):
+    tried = [*all_commands(), *commands("large")]
+    for command in tried:
+        trial.wants(command, run(trial.program, command), run(trial.program, command, kibibytes=kibibytes))
+    return f"{len(tried)} commands on a stack of {kibibytes} KiB"
+
+
+def look(trial, words):
+    if words.stack:
+        return on_small_stack(trial, words.stack)
+    faults = Faults(trial.folder)
+    if not faults.library:
+        return "not run, as there is no C compiler"
+    sweep = Sweep(trial.program, faults, AT_ONCE, words.every)
+    for command, kind, most in ((it, kind, None) for kind in words.faults for it in all_commands()) if words.all else trials():
+        told = sweep.told[kind]
+        for _, number, end, plain in sweep.sweep(command, kind, most):
+            trial.fail(f"{command}, {kind} {number}: {end!r}, and without {plain!r}")
+        if not words.all and sweep.told[kind] == told:
+            trial.fail(f"{command}: no refusal is told")
+    return f"{dict(sweep.tried)} tried, {sweep.told.total()} told; {keeps_journals(trial, faults)}"
+
+
+if __name__ == "__main__":
+    reader = argparse.ArgumentParser(description=__doc__, formatter_class=argparse.RawDescriptionHelpFormatter)
+    reader.add_argument("programs", nargs="+")
+    reader.add_argument("--all", action="store_true")
+    reader.add_argument("--faults", type=lambda text: text.split(","), default=list(KINDS))
+    reader.add_argument("--every", type=int, default=1)
+    reader.add_argument("--stack", type=int)
+    given = reader.parse_args()
+    if {*given.faults} - {*KINDS}:
+        reader.error(f"the kinds of faults are {', '.join(KINDS)}")
+    sys.argv[1:] = given.programs
+    main(lambda trial: look(trial, given))

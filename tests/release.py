@@ -1,6 +1,5 @@
-"""Tests what `tools/release` refuses, on a small repository with stand-ins for the proved program and library: a checkout with changes, the log
-of another commit, of a gate that wasn't green or of none, a program or a library that is missing or older than a source, and a library that
-the kit didn't make. Otherwise it makes packages whose receipt has commit, kit and what the gate said, the same octets each time.
+"""Tests what `tools/release` refuses, on a small repository with stand-ins for the proved program and library. Otherwise it makes
+packages whose receipt has commit, kit and what the gate said, the same octets each time.
 
 usage: release.py
 """
@@ -9,27 +8,21 @@ import shutil
 import subprocess
 import sys
 import tarfile
-import tempfile
 import time
-from pathlib import Path
 
-ROOT = Path(__file__).resolve().parent.parent
-PARTS = ("tools", "c", "include", "man", "completions", "docs", "wrappers")
+from harness import claims, copy_parts, put, run
+
+PARTS = ("tools", "c", "include", "man", "completions", "docs", "wrappers", "README.md", "CHANGELOG.md", "HANDLES", ".gitignore")
 GIT = ["git", "-c", "user.name=test", "-c", "user.email=test"]
 LOG = "gate: rattle-kit logic 1, 2 processors, drawn by {commit}\ngate: more\n{last}\n"
 
 
 class Repository:
     def __init__(self, folder):
-        self.root, self.log = Path(folder) / "checkout", Path(folder) / "log"
-        for part in PARTS:
-            shutil.copytree(ROOT / part, self.root / part, ignore=shutil.ignore_patterns("__pycache__", "target", "build"))
-        for name in ("README.md", "CHANGELOG.md", "HANDLES", ".gitignore"):
-            shutil.copy2(ROOT / name, self.root / name)
-        (self.root / "crates.txt").write_text("abt:\nabt_low:\nabt_c staticlib: abt_low\n")
-        for crate in ("abt", "abt_low", "abt_c"):
-            (self.root / "crates" / crate / "src").mkdir(parents=True)
-            (self.root / "crates" / crate / "src" / "lib.rt").write_text("// nothing\n")
+        self.root, self.log = folder, folder.with_name("log")
+        copy_parts(self.root, *PARTS)
+        put(self.root, {f"crates/{crate}/src/lib.rt": "// nothing\n" for crate in ("abt", "abt_low", "abt_c")})
+        put(self.root, {"crates.txt": "abt:\nabt_low:\nabt_c staticlib: abt_low\n"})
         self.program, self.library = (self.root / "crates" / it for it in ("abt/out/abt", "abt_c/out/libabt_c.a"))
         self.git("init", "-q")
         self.git("add", "-A")
@@ -67,9 +60,8 @@ class Repository:
         self.log.write_text(LOG.format(commit=commit or self.commit, last=last))
 
     def release(self, to):
-        words = [sys.executable, "-B", self.root / "tools" / "release", self.log, "--to", to]
-        ran = subprocess.run(words, capture_output=True, text=True)
-        return ran.returncode, ran.stdout + ran.stderr
+        ended = run(sys.executable, ["-B", self.root / "tools" / "release", self.log, "--to", to])
+        return ended.status, ended.output + ended.told
 
     def age(self, file, seconds=600):
         os.utime(file, (time.time() - seconds,) * 2)
@@ -94,44 +86,33 @@ def refusals(it):
     yield "no library", lambda: it.library.unlink(), "the proved library isn't there, or older"
     yield "an old library", lambda: it.age(it.library), "the proved library isn't there, or older"
     yield "a library older than a crate below", it.age_between, "the proved library isn't there, or older"
-    yield "another library", lambda: it.make_library("int puts(const char *); int abt_raw_one(void) { return puts(\"\"); }"), "isn't the kit's: it wants puts"
+    code = 'int puts(const char *); int abt_raw_one(void) { return puts(""); }'
+    yield "another library", lambda: it.make_library(code), "isn't the kit's: it wants puts"
 
 
-def faults(it, folder):
+def packages(folder):
+    it = Repository(folder)
     for what, spoil, told in refusals(it):
         it.make_well()
         spoil()
-        status, said = it.release(folder / "none")
-        if status != 1 or told not in said or (folder / "none").exists():
-            yield f"{what}: status {status}, {said}"
+        to = folder.with_name("none")
+        status, said = it.release(to)
+        yield f"{what} is refused, but: status {status}, {said}", status == 1 and told in said and not to.exists()
     it.make_well()
     made = []
-    for name in ("one", "two"):
-        status, said = it.release(folder / name)
-        if status:
-            yield f"nothing wrong: {said}"
-            return
-        made.append({file.name: file.read_bytes() for file in (folder / name).iterdir()})
-    if made[0] != made[1]:
-        yield "two runs made other octets"
-    archive = next(name for name in made[0] if name.endswith(".tar.gz"))
-    with tarfile.open(folder / "one" / archive) as tar:
-        receipt = tar.extractfile(f"{archive.removesuffix('.tar.gz')}/share/doc/abt/RECEIPT").read().decode()
+    for to in (folder.with_name("one"), folder.with_name("two")):
+        status, said = it.release(to)
+        yield f"a release is made, but: {said}", status == 0
+        made.append({file.name: file.read_bytes() for file in to.iterdir()})
+    yield "two runs make the same octets", made[0] == made[1]
+    archive = next(file for file in to.iterdir() if file.name.endswith(".tar.gz"))
+    with tarfile.open(archive) as tar:
+        receipt = tar.extractfile(f"{archive.name.removesuffix('.tar.gz')}/share/doc/abt/RECEIPT").read().decode()
     for line in (f"commit {it.commit}", "kit rattle-kit logic 1", "gate 1 passed, 0 failed"):
-        if line not in receipt.split("\n"):
-            yield f"the receipt lacks {line!r}: {receipt[:300]}"
+        yield f"the receipt has {line!r}, but: {receipt[:300]}", line in receipt.split("\n")
 
 
-def main():
-    if not all(map(shutil.which, ("cc", "ar", "make", "git", "nm"))):
-        print("release: no cc, ar, make, git or nm here, so nothing was looked at")
-        return
-    with tempfile.TemporaryDirectory() as folder:
-        found = list(faults(Repository(folder), Path(folder)))
-    for fault in found:
-        print(f"release: FAILED: {fault}")
-    print(f"release: {len(found)} faults")
-    sys.exit(bool(found))
-
-
-main()
+if all(map(shutil.which, ("cc", "ar", "make", "git", "nm"))):
+    claims(packages)
+else:
+    print("release: no cc, ar, make, git or nm here, so nothing was looked at")

@@ -1,22 +1,22 @@
 """Has `abt threads` tell and write the events that it wove, and looks at both by other means.
 
-Each sample of scenarios/ for threads is run with 1, 4 and 64 link workers, with --explain, with --events OUT, and with both. The three lines
-stay what they are. The scenario OUT has to be read by the slow model of scenarios/model, whose report has to be that of `abt run`, and safe.
-What is told has to be as many events as that scenario has, then what `abt explain` tells of it without its lines, then the answers that
-sources heard, which are worked out from the outcomes here; and then, on the same stream, what `abt check` says of the sample. Last come
-files that can't be made or written, scenarios that can't run, and the worked telling of docs/EXPLAIN.md.
+The scenario that is written has to be read by the slow model of scenarios/model, whose report has to be that of `abt run`, and safe. What
+is told has to be as many events as that scenario has, then what `abt explain` tells of it without its lines, then the answers that
+sources heard, which are worked out from the outcomes here; and then what `abt check` says of the sample.
 
 usage: woven.py PROGRAM..
 """
 import re
 from pathlib import Path
 
-from harness import ROOT, SCENARIOS, Trial, main
+from harness import ROOT, SCENARIOS, Trial, main, samples, worked
 from model import run as model_run
 
 SHOWN = "gathered\nwoven\nsafe\n"
 HEAD = re.compile(r"events: (\d+), granted: (\d+), refused: (\d+)\n")
 ASKED = re.compile(r"(?:ask|again) (\d+)\b[^:]*: asked (\d+) [0-9a-f]{4} [0-9a-f]{4}: asks for (\S+) cells/s")
+# An event in a scenario that the program writes.
+EVENT = b'\n  "'
 TOLD = re.compile(r"told-(?:yes|no) (\d+) (\d+): told (Raised|Refused)$")
 # How often the worked telling is tried: its source may look for its yes in vain, if its thread comes much too early.
 TRIES = 20
@@ -35,23 +35,21 @@ def answers_in(explanation):
         if found := ASKED.match(said):
             rates[found[1], found[2]] = found[3]
         elif found := TOLD.match(said):
-            verdict = {"Raised": "granted", "Refused": "refused"}[found[3]]
-            answers.append(f"event {number}: connection {found[1]} is {verdict} {rates[found[1], found[2]]} cells/s by request {found[2]}\n")
+            heard = {"Raised": "granted", "Refused": "refused"}[found[3]]
+            answers.append(f"event {number}: connection {found[1]} is {heard} {rates[found[1], found[2]]} cells/s by request {found[2]}\n")
     return answers
 
 
-def telling_of(teller, what, written):
-    """What has to be told of the events that stand in this scenario."""
-    octets = written.read_bytes()
-    report = teller.run("run", written)
-    teller.wants(f"{what}, the report of the slow model", model_run(octets), report)
-    if not report[1].endswith("\nsafe\n"):
-        teller.fail(f"{what}: what is written isn't safe: {report!r}")
-    explanation = re.sub(r"^(\d+) line \d+ ", r"\1 ", teller.run("explain", written)[1], flags=re.M)
+def telling_of(trial, what, written):
+    """What has to be told of the events that stand in this scenario, all of which can happen."""
+    octets, report = written.read_bytes(), trial.run("run", written)
+    trial.wants(f"{what}, the report of the slow model", model_run(octets), report)
+    if "not-enabled" in report.output or not report.output.endswith("\nsafe\n"):
+        trial.fail(f"{what}: what is written isn't safe, or can't happen: {report!r}")
+    explanation = trial.explained(written)
     answers = answers_in(explanation)
-    counts = [sum(f" is {verdict} " in one for one in answers) for verdict in ("granted", "refused")]
-    events = octets.count(b'\n  "')
-    return f"events: {events}, granted: {counts[0]}, refused: {counts[1]}\n{explanation}{''.join(answers)}"
+    granted, refused = (sum(f" is {heard} " in one for one in answers) for heard in ("granted", "refused"))
+    return f"events: {octets.count(EVENT)}, granted: {granted}, refused: {refused}\n{explanation}{''.join(answers)}"
 
 
 def try_sample(teller, sample, workers):
@@ -85,38 +83,31 @@ def try_unfit(teller, sample):
 def try_files(teller):
     """Files that can't be made or written, with the events told behind that."""
     sample = SCENARIOS / "threads_crossing.toml"
+    teller.cases("woven", crossing=sample)
     check = teller.run("check", sample)[1]
+    none, full = teller.folder / "none" / "events.toml", Path("/dev/full")
     for out, line in [
-        (teller.folder / "none" / "events.toml", "fault: events open\n"),
-        (Path("/dev/full"), "fault: events write\n"),
+        (none, f"fault: events open\n{none}: its folder isn't there\n"),
+        (full, f"fault: events write\n{full}: there is no room on its disk\n"),
     ]:
-        teller.wants(f"events to {out.name}", (1, SHOWN, line), teller.threads(sample, 4, "--events", out))
         status, shown, told = teller.threads(sample, 4, "--explain", "--events", out)
-        if (status, shown) != (1, SHOWN) or not HEAD.match(told.removeprefix(line)) or not told.startswith(line) or not told.endswith(check):
+        is_told = told.startswith(line) and HEAD.match(told.removeprefix(line)) and told.endswith(check)
+        if (status, shown) != (1, SHOWN) or not is_told:
             teller.fail(f"events to {out.name}, and told: {(status, shown, told)!r}")
-    none = teller.folder / "none.toml"
-    teller.wants("no scenario", (1, "", "fault: open\nnone.toml: there is no such file\n"), teller.run("threads", none.name, "--workers", 4, "--events", "unmade"))
-    status, shown, told = teller.threads(sample, 4, "--events", "e", "--journals", "j")
-    if (status, shown) != (2, "") or "cannot be used with" not in told:
-        teller.fail(f"events and journals: {(status, shown, told)!r}")
 
 
 def try_worked(teller):
     """The telling that docs/EXPLAIN.md shows."""
-    text = (ROOT / "docs" / "EXPLAIN.md").read_text()
-    found = re.search(r"^\$ abt threads (\S+) --workers 1 --explain\n(.*?)^```$", text, re.M | re.S)
-    if not found:
-        raise SystemExit("woven: the worked telling of docs/EXPLAIN.md isn't found")
+    ((sample, wanted),) = worked("EXPLAIN.md", r"^\$ abt threads (\S+) --workers 1 --explain\n(.*?)^```$")
     for _ in range(TRIES):
-        status, shown, told = teller.threads(ROOT / found[1], 1, "--explain")
-        if status == 0 and shown + told == found[2]:
+        status, shown, told = teller.threads(ROOT / sample, 1, "--explain")
+        if status == 0 and shown + told == wanted:
             return
-    teller.fail(f"the worked telling: {shown + told!r} in place of {found[2]!r}")
+    teller.fail(f"the worked telling: {shown + told!r} in place of {wanted!r}")
 
 
 def look(teller):
-    samples = sorted(SCENARIOS.glob("threads_*.toml"))
-    for sample in samples:
+    for sample in samples("threads_*"):
         if Path(f"{sample}.stdout").read_text() != SHOWN:
             try_unfit(teller, sample)
             continue
@@ -124,7 +115,8 @@ def look(teller):
             try_sample(teller, sample, workers)
     try_files(teller)
     try_worked(teller)
-    return f"{len(samples)} samples"
+    return f"{len(samples('threads_*'))} samples"
 
 
-main(look, Teller)
+if __name__ == "__main__":
+    main(look, Teller)

@@ -107,13 +107,22 @@ class Writer:
         self.entry(conn, arrived={"cell": cell, "place": place})
 
 
-def journals(octets):
-    """The lines of the journals that the events of a scenario leave, without their line feeds."""
-    ports, conns, events, _ = read(octets)
+def entries(ports, conns, events):
+    """The lines of the journals that events leave, as objects, without the end."""
     writer = Writer(ports, conns)
     for event in events:
         writer.happen(event)
-    return [json.dumps(one, separators=(",", ":")) for one in [*writer.lines, line(end=True)]]
+    return writer.lines
+
+
+def texts_of(lines):
+    """These lines, and that of the end, as texts without their line feeds."""
+    return [json.dumps(one, separators=(",", ":")) for one in [*lines, line(end=True)]]
+
+
+def journals(octets):
+    """The lines of the journals that the events of a scenario leave."""
+    return texts_of(entries(*read(octets)[:3]))
 
 
 if __name__ == "__main__":

@@ -1,9 +1,10 @@
 #!/usr/bin/env python3
 """A slow search for the events that journals are: how many entries of each of them can be placed before none can.
 
-It was written from docs/JOURNALS.md and docs/THREADS.md ("Woven") alone. An entry is tried as the event that it can be, behind all events that
-were placed, also with the turn that a yes may need; the event is placed if the journals that the slow model then writes are beginnings of the
-ones that are looked for. All ways of placing entries end at the same places, so the first that is found does. usage: search.py JOURNALS
+It was written from docs/JOURNALS.md and docs/THREADS.md ("Woven") alone. An entry is tried as the event that it can be, behind all events
+that were placed, also with the turn that a yes may need; the event is placed if the journals that the slow model then writes are
+beginnings of the ones that are looked for. All ways of placing entries end at the same places, so the first that is found does. usage:
+search.py JOURNALS
 """
 import copy
 import json

@@ -1,0 +1,157 @@
+"""`abt conform` over the adapters of docs/ORACLE.md: a right implementation conforms, each planted fault is found, and no bad program
+holds it up.
+
+The implementation is tests/devices/device.py, in which one fault at a time can be planted. Each has to be found within 10,000 events at
+each seed, and the smallest events of one of each role have to differ again. Bad programs (one that isn't there, ends, prints nothing,
+prints too much or never ends) have to give a named fault, and nothing of them and no FIFO may be left.
+
+usage: conform.py PROGRAM.. [--seeds N]      (N: at how many seeds each fault has to be found; without it, 1)
+"""
+import os
+import re
+import signal
+import subprocess
+import sys
+import time
+import tomllib
+from concurrent.futures import ThreadPoolExecutor
+from pathlib import Path
+
+from harness import ROOT, End, case_file, main, run, worked
+
+TOOL = ROOT / "tools" / "conform.py"
+CASES = case_file("conform")
+FAULTS, SMALL, BAD = CASES["faults"], CASES["small"], CASES["bad"]
+NEVER_ENDS = """import sys, time
+for line in sys.stdin: print('started' if line.startswith('start') else '?', flush=True)
+time.sleep(1000)"""
+UNSTARTED = "can't be started: No such file or directory\n"
+
+
+def adapters():
+    """The adapters that docs/ORACLE.md shows, one for each role, by their names."""
+    return dict(worked("ORACLE.md", r"^```python\n# (\w+\.py)\n(.*?)^```$", len(FAULTS)))
+
+
+def alive(mark):
+    """The processes with this mark among their words, once those that are just being killed had time to go."""
+    until = time.time() + 20
+    while (found := with_mark(mark)) and time.time() < until:
+        time.sleep(0.05)
+    return found
+
+
+def with_mark(mark):
+    found = []
+    for folder in Path("/proc").iterdir():
+        try:
+            if folder.name.isdecimal() and mark.encode() in (folder / "cmdline").read_bytes() and int(folder.name) != os.getpid():
+                found.append(folder.name)
+        except OSError:
+            continue
+    return found
+
+
+class Conforms:
+    def __init__(self, trial, seeds):
+        # The gate runs this script over two programs at once, so what one starts bears a mark of its own.
+        self.trial, self.seeds, self.mark = trial, seeds, trial.folder.name
+        for name, text in {"device.py": (ROOT / "tests" / "devices" / "device.py").read_text(), **adapters()}.items():
+            (trial.folder / name).write_text(text)
+
+    def conform(self, *words, fault="", command=()):
+        self.trial.runs += 1
+        environment = {**os.environ, "FAULT": fault, "TMPDIR": str(self.trial.folder)}
+        words = ["-B", TOOL, "--abt", self.trial.program, *words, "--", *command]
+        return run(sys.executable, words, folder=self.trial.folder, env=environment, timeout=600)
+
+    def adapter(self, role):
+        return [sys.executable, "-B", f"{role}.py"]
+
+    def right(self, role):
+        """It conforms, over FIFOs too, which a shell makes its standard streams."""
+        joined = ["sh", "-c", f'exec {" ".join(self.adapter(role))} <"$1" >"$2"', "adapter"]
+        for more, command in [((), self.adapter(role)), *([(("--fifos",), joined)] if role == "source" else [])]:
+            given = self.conform("--role", role, "--events", "600", "--seed", "11", *more, command=command)
+            self.trial.wants(f"a right {role} {more}", End(0, "conforms: 600 events, seed 11\n"), given)
+
+    def found(self, role, fault, seed):
+        small = fault in SMALL and seed == 1
+        to = self.trial.folder / f"{role}-{fault}-{seed}"
+        more = () if small else ("--whole",)
+        given = self.conform("--role", role, "--seed", seed, "--to", to, *more, fault=fault, command=self.adapter(role))
+        if given.status != 1 or not given.output.startswith(f"differs, seed {seed}: ") or given.told:
+            self.trial.fail(f"{fault} of a {role}, seed {seed}: {given}")
+        elif small:
+            self.trial.checks(f"{fault} of a {role}, made small", self.small, role, fault, to, given.output)
+
+    def small(self, role, fault, to, output):
+        count = int(re.search(r"^smallest: \S+, (\d+) (?:cell|event)s?; abt ", output, re.M)[1])
+        assert count <= SMALL[fault], f"{count} are left"
+        left = to.read_text().splitlines() if role == "port" else tomllib.loads(to.read_text())["events"]
+        assert len(left) == count, "the file has others"
+        assert role == "port" or self.trial.run("run", to).status == 0, "it isn't run"
+
+    def bad(self, name):
+        body, told = BAD[name]
+        mark = f"{self.mark}-{name.replace(' ', '-')}"
+        seconds = "0.5" if name == "prints nothing" else "60"
+        given = self.conform("--role", "net", "--timeout", seconds, command=[sys.executable, "-c", body, mark])
+        told = given.told if given.status == 1 and told in given.told and given.told.startswith("fault: ") and not given.output else told
+        self.trial.wants(f"a program that {name}", End(1, "", told), given)
+        self.trial.wants(f"what is left of a program that {name}", (), alive(mark))
+
+    def never_ends(self):
+        words, mark = ["--role", "source", "--timeout", "15", "--events", "1"], f"{self.mark}-never-ends"
+        given = self.conform(*words, command=[sys.executable, "-c", NEVER_ENDS, mark])
+        is_told = "hasn't ended 15 s after its input did" in given.told
+        self.trial.wants("one that never ends", (1, "", True), (given.status, given.output, is_told))
+        self.trial.wants("what is left of one that never ends", (), alive(mark))
+        given = self.conform("--role", "net", command=["./no-such-program"])
+        self.trial.wants("one that isn't there", End(1, "", f"fault: ./no-such-program {UNSTARTED}"), given)
+
+    def stopped(self):
+        """A signal ends the tool, the program that it tests and what that started."""
+        mark = f"{self.mark}-stopped"
+        begun = f"import subprocess, sys, time; subprocess.Popen([sys.executable, '-c', 'import time; time.sleep(1000)', '{mark}-child'])"
+        body = f"{begun}; time.sleep(1000)"
+        words = [sys.executable, "-B", TOOL, "--abt", self.trial.program, "--role", "net", "--fifos", "--timeout", "100", "--"]
+        words, environment = [*words, sys.executable, "-c", body, mark], {**os.environ, "TMPDIR": str(self.trial.folder)}
+        started = subprocess.Popen(words, env=environment, stderr=subprocess.DEVNULL)
+        until = time.time() + 60
+        while not with_mark(f"\0{mark}-child") and time.time() < until:
+            time.sleep(0.1)
+        started.send_signal(signal.SIGTERM)
+        self.trial.wants("the status of one that is stopped", (128 + signal.SIGTERM,), (started.wait(60),))
+        self.trial.wants("what is left of one that is stopped", (), alive(mark))
+
+    def words(self):
+        for words in ([], ["--role", "net"], ["--role", "switch", "--", "true"], ["--role", "net", "--events", "0", "--", "true"]):
+            given = run(sys.executable, ["-B", TOOL, *words])
+            self.trial.wants(f"the words {words}", (2, "", True), (given.status, given.output, "abt conform: error: " in given.told))
+        listed = run(sys.executable, ["-B", TOOL, "--list-roles"])
+        lines = listed.output.splitlines()
+        fits = len(lines) <= 40 and all(len(line) <= 80 for line in lines)
+        self.trial.wants("the list of roles, on one screen", (0, True), (listed.status, fits))
+
+
+def look(trial, seeds):
+    over = Conforms(trial, seeds)
+    faults = [(role, fault, seed) for seed in range(1, seeds + 1) for role in FAULTS for fault in FAULTS[role]]
+    parts = [*((over.right, role) for role in FAULTS), *((over.bad, name) for name in BAD)]
+    parts += [(over.never_ends,), (over.stopped,), (over.words,)]
+    with ThreadPoolExecutor(max(2, os.cpu_count() or 2)) as pool:
+        done = [pool.submit(*part) for part in parts + [(over.found, *fault) for fault in faults]]
+        for one in done:
+            one.result()
+    trial.wants("folders that are left", (), sorted(it.name for it in trial.folder.iterdir() if it.is_dir()))
+    return f"{len(FAULTS)} adapters, {len(faults)} faults, {len(BAD) + 2} bad programs"
+
+
+if __name__ == "__main__":
+    SEEDS = 1
+    if "--seeds" in sys.argv:
+        at = sys.argv.index("--seeds")
+        SEEDS = int(sys.argv[at + 1])
+        del sys.argv[at : at + 2]
+    main(lambda trial: look(trial, SEEDS))

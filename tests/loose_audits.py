@@ -1,0 +1,93 @@
+"""Audits logs as devices write them: the journals of the samples, as the slow model writes them and as `abt threads` does, without what a device
+can't know. Each subset of that is left out, and all are woven; so they are if the last line is cut.
+
+Of journals without any of it, and with one entry changed, missing, there twice or elsewhere, those are woven of which a slow search finds events
+once they are completed (`completing.py`); where entries are in no order, the lines that are told are just those at which it ends. The
+adapters of docs/JOURNALS.md make its run of the logs of lines there.
+
+usage: loose_audits.py PROGRAM..
+"""
+import itertools
+import random
+
+from harness import main, run as run_text, sample_runs, samples, worked
+from audits import WHOLE, Auditor, text_of, worked_run
+from completing import KINDS, stripped, stuck_lines
+from damage import damaged
+from journals import entries, texts_of
+
+SUBSETS = [kinds for count in range(1, len(KINDS) + 1) for kinds in itertools.combinations(KINDS, count)]
+# The search takes a store that isn't told for one that works.
+SEARCHED = [kind for kind in KINDS if kind != "store"]
+# Of a log with more lines only some subsets are tried.
+LONG = 200
+
+
+def try_subsets(auditor, name, lines):
+    for kinds in SUBSETS if len(lines) <= LONG else random.Random(name).sample(SUBSETS, 6):
+        auditor.wants(f"{name} without {' '.join(kinds)}", WHOLE, auditor.audit(text_of(stripped(lines, kinds))))
+
+
+def try_cut(auditor, name, lines):
+    """The last line is cut somewhere: it is left out, and told."""
+    loose = stripped(lines, KINDS)
+    cut = random.Random(name).randrange(1, len(loose[-1]) + 1)
+    text = text_of(loose[:-1]) + loose[-1][:cut].encode()
+    status, out, told = auditor.audit(text)
+    note = f"note: text 1 ends in the middle of line {len(loose)}\n"
+    if not (out if status == 0 else told).endswith(note):
+        auditor.fail(f"{name}, cut: {(status, out, told)} has no {note}")
+    whole = auditor.audit(text_of(loose[:-1]))
+    auditor.wants(f"{name}, cut", whole, (status, out.removesuffix(note), told.removesuffix(note)))
+
+
+def try_damaged(auditor, name, lines):
+    for what, left in damaged(lines, random.Random(f"{name} loose"), 2):
+        auditor.damaged += 1
+        loose = stripped(left, SEARCHED)
+        stuck = stuck_lines(loose)
+        status, out, told = auditor.audit(text_of(loose))
+        fault, *found = told.splitlines() or [""]
+        spots = [int(one.split(":")[1]) for one in found if one.startswith("0:")]
+        if not stuck:
+            right = (status, out, told) == WHOLE
+        elif fault == "fault: Mismatch":
+            right = (status, out) == (1, "") and len(spots) == 1 and spots[0] in stuck
+        else:
+            right = (status, out, fault, spots) == (1, "", "fault: NoOrder", stuck)
+        if not right:
+            auditor.fail(f"{name}, {what}: {(status, out, told)}, and the slow search ends at the lines {stuck}")
+
+
+def try_adapters(auditor, run):
+    """The logs of lines of docs/JOURNALS.md, as the adapters there turn them into journals."""
+    shown = r"^### Logs of lines$" + r".*?^```$\n(.*?)^```$" * 4
+    switch, source, *adapters = worked("JOURNALS.md", shown)[0]
+    made = [run_text("sed", ["-E", "-n", adapter], log).output for adapter, log in zip(adapters, (switch, source))]
+    wanted = {line for line in stripped(run, KINDS) if '"net"' not in line}
+    if {line for text in made for line in text.splitlines()} != wanted:
+        auditor.fail(f"the adapters make {made}, and not {wanted}")
+    auditor.wants("logs of lines", WHOLE, auditor.audit(text_of(run[:1]), *(text.encode() for text in made)))
+
+
+def threads_journals(auditor):
+    """The journals of each sample for threads that can run, by its name."""
+    out = auditor.folder / "journals"
+    for sample in samples("threads_*"):
+        if auditor.run("threads", sample, "--workers", 4, "--journals", out).status == 0:
+            yield f"{sample.name} in threads", out.read_text().splitlines()
+
+
+def look(auditor):
+    every = [("docs/JOURNALS.md", worked_run()), *((name, texts_of(entries(*run))) for name, *run in sample_runs()), *threads_journals(auditor)]
+    for name, lines in every:
+        try_subsets(auditor, name, lines)
+        if len(lines) > 2:
+            try_cut(auditor, name, lines)
+        try_damaged(auditor, name, lines)
+    try_adapters(auditor, worked_run())
+    return f"{len(every)} runs without what may be left out, {auditor.damaged} damaged ones beside a slow search"
+
+
+if __name__ == "__main__":
+    main(look, Auditor)
