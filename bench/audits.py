@@ -1,9 +1,9 @@
 """Has long journals audited, and tells what that takes: seconds, the greatest memory, and how both grow.
 
-The journals are of sources that ask for one rate and then another, and are granted each. A grant is two entries of the source and, at each
-port of its path, one for the request and one for the answer, and one more of the source for the first hop. So they are known without a
-model; `--check` has the slow model of scenarios/model write a short run of that kind, and compares the lines. The lines of the actors stand
-in the order in which it happened, or, with `--mixed`, those of each actor by themselves.
+The journals are of sources that ask for one rate and then another, and are granted each. A grant is two entries of the source and, at
+each port of its path, one for the request and one for the answer, and one more of the source for the first hop. So they are known without
+a model; `--check` has the slow model of scenarios/model write a short run of that kind, and compares the lines. The lines of the actors
+stand in the order in which it happened, or, with `--mixed`, those of each actor by themselves.
 
 Each length is audited so often, and the run that took fewest seconds of the processor is told.
 
@@ -80,7 +80,8 @@ def entries(connections, hops, least):
 
 
 def written(file, connections, hops, least, mixed):
-    """Writes the journals, and says how many entries they have. No more than a grant is kept in memory, which the peak of a child would show."""
+    """Writes the journals, and says how many entries they have. No more than a grant is kept in memory, which the peak of a child would
+    show."""
     number, actors = 0, {}
     with tempfile.TemporaryDirectory() as folder, open(file, "w") as out:
         out.write(net(connections, hops) + "\n")

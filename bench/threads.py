@@ -8,8 +8,8 @@ kinds:
   capped   as asks, and the operator gives each port one capacity and then another, as often as a source does something
 
 The paths have eight of 16 ports, or as many as `--hops` says. The same words give the same text. With `--run` the program is run on
-scenarios of 1,000, 10,000 and 100,000 commands (or of those that `--commands` says, more than once), for each number of connections and of
-hops. The lines that it prints tell where the time goes: `gathered` comes when the threads have ended and their journals are gathered,
+scenarios of 1,000, 10,000 and 100,000 commands (or of those that `--commands` says, more than once), for each number of connections and
+of hops. The lines that it prints tell where the time goes: `gathered` comes when the threads have ended and their journals are gathered,
 `woven` when these are woven. Told are the seconds that went by up to each line, those that the processor worked, the peak of memory, and
 the exponents by which they grow from one length to the next. With `--instructions` callgrind counts what `gather` and `weave` take.
 """
@@ -121,8 +121,8 @@ def best_of(words, file):
 
 
 def instructions_of(words, file):
-    """Instructions of a run, of `gather` in it, of `weave` in it, and of the run of the woven events, by callgrind. The compiler puts `weave` into
-    `show_run`, so it is what that takes beside the run of the woven events."""
+    """Instructions of a run, of `gather` in it, of `weave` in it, and of the run of the woven events, by callgrind. The compiler puts
+    `weave` into `show_run`, so it is what that takes beside the run of the woven events."""
     with tempfile.NamedTemporaryFile() as counted:
         command = ["valgrind", "--tool=callgrind", "--max-threads=2000", f"--callgrind-out-file={counted.name}", words.program]
         subprocess.run([*command, "threads", file, "--workers", str(words.workers)], check=True, capture_output=True)

@@ -1,4 +1,4 @@
-"""Lists the lines of clauses that have more than 110 columns, the longest first, and how many each crate has. It refuses nothing.
+"""Lists the lines of clauses that have more than 110 columns, the longest first. It refuses nothing.
 
 A line is one of a clause from `requires` or `ensures` to the clause's closing brace, in a file below src/.
 
@@ -6,7 +6,6 @@ usage: clause_lines.py [NAME..]     (NAME: a crate)
 """
 import re
 import sys
-from collections import Counter
 from pathlib import Path
 
 sys.path.insert(0, str(Path(__file__).resolve().parent.parent / ".ci" / "gate"))
@@ -29,16 +28,10 @@ def long_lines(file):
 
 def main():
     crates = sys.argv[1:] or sorted(path.name for path in (ROOT / "crates").iterdir())
-    found = [
-        (columns, f"{file.relative_to(ROOT)}:{number}")
-        for crate in crates
-        for file in sorted((ROOT / "crates" / crate / "src").rglob("*.rt"))
-        for columns, number in long_lines(file)
-    ]
+    files = [file for crate in crates for file in sorted((ROOT / "crates" / crate / "src").rglob("*.rt"))]
+    found = [(columns, f"{file.relative_to(ROOT)}:{number}") for file in files for columns, number in long_lines(file)]
     for columns, place in sorted(found, reverse=True):
         print(f"{columns} {place}")
-    for crate, number in sorted(Counter(place.split("/")[1] for _, place in found).items()):
-        print(f"{crate}: {number}")
     print(f"clause lines: {len(found)} above {COLUMNS} columns")
 
 

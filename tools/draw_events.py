@@ -1,5 +1,6 @@
 """Random events of a net, most of which can happen: they are drawn from what the slow model says was sent and is on the line."""
 from draw_net import GREATEST_START, SECOND
+from reading import event as event_of
 
 GREATEST_EMISSION = 2**61
 GREATEST_CAPACITY = 2**60
@@ -7,6 +8,7 @@ ODD_CONNECTIONS = (65535,)
 ODD_HOPS = (0, 1, 2, 16, 17, 65535)
 ODD_NUMBERS = (0, 1, 2, 2**32 - 1)
 ODD_MOMENTS = (0, 1, GREATEST_START, GREATEST_START + 1, GREATEST_EMISSION, GREATEST_EMISSION + 1, 2**62, 2**62 + 1, 2**63, 10**19 - 1)
+ODD_CAPACITIES = (0, GREATEST_CAPACITY, GREATEST_CAPACITY + 1, 10**19 - 1)
 PLANS = ("", " before", " after")
 
 
@@ -30,8 +32,8 @@ def message_after(conn, course, fact):
 class Drawing:
     """Draws the events of one net, one by one, and lets the model's world go through them."""
 
-    def __init__(self, chosen, net, world, event_of):
-        self.chosen, self.net, self.world, self.event_of = chosen, net, world, event_of
+    def __init__(self, chosen, net, world):
+        self.chosen, self.net, self.world = chosen, net, world
         # How lists differ: whether messages come soon and again, how many stores fail, how often sources crash, how much is nonsense.
         self.is_soon = chosen.choice([0.5, 0.7, 0.9, 0.98])
         self.repeats = chosen.choice([0, 0.05, 0.3])
@@ -50,7 +52,7 @@ class Drawing:
         texts = []
         for _ in range(count):
             text = self.event()
-            self.world.step(self.event_of(text))
+            self.world.step(event_of(text))
             texts.append(text)
         return tuple(texts)
 
@@ -66,7 +68,8 @@ class Drawing:
         return drawn or next(iter(draws))(conn, course)
 
     def draws(self, course):
-        """What may happen to a connection now, with the weight of each; the first can always be drawn. A new kind of event stands here."""
+        """What may happen to a connection now, with the weight of each; the first can always be drawn. A new kind of event stands
+        here."""
         asking = course.asking()
         cells = {self.emit: self.emits if course.rate() else 1, self.arrive: self.emits if course.of("emitted")[course.fence() :] else 0}
         if asking is None:
@@ -156,7 +159,7 @@ class Drawing:
             f"turn {conn} {seq}",
             f"{pick(['yes', 'no'])} {conn} {hop} {seq}",
             f"{pick(['told-yes', 'told-no'])} {conn} {seq}",
-            f"capacity {pick([*range(min(8, len(self.net.ports))), len(self.net.ports), 65535])} {pick([0, GREATEST_CAPACITY, GREATEST_CAPACITY + 1, 10**19 - 1])}",
+            f"capacity {pick([*range(min(8, len(self.net.ports))), len(self.net.ports), 65535])} {pick(ODD_CAPACITIES)}",
         ])
 
     def spelled(self, moment):

@@ -1,6 +1,7 @@
 """Random ports, connections and rates, near the limits of docs/RULES.md, "Limits", now and then."""
 from dataclasses import dataclass
 
+from rm_cells import units
 from scenario_text import Connection
 
 SECOND = 10**12
@@ -18,10 +19,6 @@ class Net:
     codes: tuple
     # Not far from the moment at which sources first start.
     beginning: int
-
-
-def units(code):
-    return (512 + code % 512) << (code >> 9) % 32 if code >> 14 & 1 else 0
 
 
 def draw_codes(chosen):

@@ -1,10 +1,13 @@
-// A library to be preloaded: it lets allocations, reads, writes and starts of threads of one process fail, as variables of its
-// environment say. `tools/faults`, `tools/sweeps` and `tests/refusals.py` use it; no crate knows of it. Calls of each kind are counted from 1.
+// A library to be preloaded: it lets allocations, reads, writes, starts of threads, and calls for whole files of one process fail, as
+// variables of its environment say. `tools/faults`, `tools/sweeps` and `tests/refusals.py` use it; no crate knows of it. Calls of each kind are counted from 1.
 //
 //   FAULTS_ALLOCATION=N   the Nth allocation is refused
 //   FAULTS_READ=N         the Nth read fails (EIO)
 //   FAULTS_WRITE=N        the Nth write fails (EIO)
 //   FAULTS_THREAD=N       the Nth thread isn't started (EAGAIN)
+//   FAULTS_SYNC=N         the Nth file isn't brought onto its device (EIO)
+//   FAULTS_RENAME=N       the Nth file isn't renamed (EIO)
+//   FAULTS_REMOVE=N       the Nth file isn't removed (EIO)
 //   FAULTS_LASTING=1      and so does each later call of that kind
 //   FAULTS_SHORT=1        a read or a write takes one octet at most
 //   FAULTS_INTERRUPTED=1  every other read and every other write is interrupted before it did anything (EINTR)
@@ -25,7 +28,7 @@ extern void *__libc_calloc(size_t count, size_t size);
 extern void *__libc_realloc(void *old, size_t size);
 extern void *__libc_memalign(size_t align, size_t size);
 
-static atomic_ulong allocations, reads, writes, threads;
+static atomic_ulong allocations, reads, writes, threads, syncs, renames, removals;
 static atomic_int marked;
 
 static int is_set(const char *name) { return getenv(name) != NULL; }
@@ -112,4 +115,28 @@ int pthread_create(pthread_t *thread, const pthread_attr_t *how, void *(*start)(
     if (create == NULL || fails("FAULTS_THREAD", &threads, 0))
         return EAGAIN;
     return create(thread, how, start, given);
+}
+
+int fsync(int descriptor) {
+    if (fails("FAULTS_SYNC", &syncs, 0)) {
+        errno = EIO;
+        return -1;
+    }
+    return syscall(SYS_fsync, descriptor);
+}
+
+int rename(const char *from, const char *to) {
+    if (fails("FAULTS_RENAME", &renames, 0)) {
+        errno = EIO;
+        return -1;
+    }
+    return syscall(SYS_rename, from, to);
+}
+
+int unlink(const char *name) {
+    if (fails("FAULTS_REMOVE", &removals, 0)) {
+        errno = EIO;
+        return -1;
+    }
+    return syscall(SYS_unlink, name);
 }

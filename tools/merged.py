@@ -2,7 +2,7 @@
 import shutil
 from pathlib import Path
 
-from crates import crates_of, of_tests
+from crates import crates_of
 
 NAME = "all_tests"
 

@@ -12,16 +12,8 @@ from pathlib import Path
 import installed
 
 ROOT = Path(__file__).resolve().parent.parent
-CONTROL = """Package: abt
-Version: {version}
-Architecture: amd64
-Maintainer: Gadwallbunk
-Depends: libc6
-Section: net
-Priority: optional
-Description: proved bandwidth controller for ATM block transfer
- The program abt, the library for C with wrappers for C++, Rust and Python, and their pages.
-"""
+# What the Debian package says of itself.
+CONTROL = ROOT / "tools" / "control.txt"
 
 
 def version():
@@ -30,13 +22,14 @@ def version():
 
 def build_library(library, build):
     """Has the Makefile build the library's files of a proved archive into the folder `build`."""
-    subprocess.run(["make", "-s", "-C", ROOT / "c", "library", f"BUILD={build}", f"ABT_LIBRARY={library}"], check=True, stdout=subprocess.DEVNULL)
+    words = ["make", "-s", "-C", ROOT / "c", "library", f"BUILD={build}", f"ABT_LIBRARY={library}"]
+    subprocess.run(words, check=True, stdout=subprocess.DEVNULL)
 
 
 def receipt(files, about):
     """What the release was made of, and the SHA-256 of each of its files; `sha256sum -c` reads the latter."""
-    lines = [f"abt {version()}", *about, ""]
-    return "\n".join(lines + [f"{hashlib.sha256(Path(file).read_bytes()).hexdigest()}  {place}" for place, file in sorted(files.items())]) + "\n"
+    sums = [f"{hashlib.sha256(Path(file).read_bytes()).hexdigest()}  {place}" for place, file in sorted(files.items())]
+    return "\n".join([f"abt {version()}", *about, "", *sums]) + "\n"
 
 
 def stage(program, library, about, room):
@@ -68,7 +61,7 @@ def write_deb(root, moment, to, room):
     tree = room / "deb"
     shutil.copytree(root, tree / "usr")
     (tree / "DEBIAN").mkdir()
-    (tree / "DEBIAN" / "control").write_text(CONTROL.format(version=version()))
+    (tree / "DEBIAN" / "control").write_text(CONTROL.read_text().format(version=version()))
     for file in [tree, *tree.rglob("*")]:
         file.chmod(0o755 if file.is_dir() else installed.mode_of(str(file.relative_to(tree / "usr"))) if "usr" in file.parts else 0o644)
         os.utime(file, (moment, moment))

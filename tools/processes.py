@@ -1,6 +1,7 @@
 """Commands that a tool starts, and folders of work that isn't whole yet: an interrupt ends the first and removes the second."""
 import contextlib
 import os
+import secrets
 import shutil
 import signal
 import subprocess
@@ -13,7 +14,8 @@ from pathlib import Path
 # The commands that were started and haven't ended, and the folders to be removed.
 running = set()
 rooms = []
-lock = threading.Lock()
+# A signal may come where the main thread holds it.
+lock = threading.RLock()
 stopping = threading.Event()
 
 
@@ -77,15 +79,19 @@ def end_all():
 
 
 def room(parent, prefix="making-"):
-    """A new folder for work that isn't whole yet."""
-    made = Path(tempfile.mkdtemp(prefix=prefix, dir=parent))
-    rooms.append(made)
+    """A new folder for work that isn't whole yet. It is known before it is made, and none is made once an interrupt came."""
+    made = Path(parent or tempfile.gettempdir(), f"{prefix}{secrets.token_hex(6)}")
+    with lock:
+        if stopping.is_set():
+            raise Ended
+        rooms.append(made)
+        made.mkdir(mode=0o700)
     return made
 
 
 def clear(folder):
     """Removes such a folder, again where something that is just being killed wrote into it."""
-    for _ in range(100):
+    for _ in range(1000):
         shutil.rmtree(folder, ignore_errors=True)
         if not folder.exists():
             break
@@ -100,15 +106,31 @@ def clear_rooms():
         clear(folder)
 
 
+# What clears the rooms after an interrupt: a program of its own, so that no thread is left that could write into them.
+CLEARING = """
+import sys
+sys.path.insert(0, sys.argv[1])
+import processes
+tool, status, *rooms = sys.argv[2:]
+for room in map(processes.Path, rooms):
+    processes.clear(room)
+print(f"{tool}: stopped; nothing is left half made", file=sys.stderr, flush=True)
+sys.exit(int(status))
+"""
+
+
 def end_on_signals(tool):
     """Has an interrupt end all that was started and remove what isn't whole, in the name of a tool."""
 
+    signals = (signal.SIGINT, signal.SIGTERM, signal.SIGHUP)
+
     def on_signal(number, _):
         stopping.set()
+        for it in signals:
+            signal.signal(it, signal.SIG_IGN)
         end_all()
-        clear_rooms()
-        print(f"{tool}: stopped; nothing is left half made", file=sys.stderr, flush=True)
-        os._exit(128 + number)
+        words = [os.path.dirname(os.path.realpath(__file__)), tool, str(128 + number), *map(str, rooms)]
+        os.execv(sys.executable, [sys.executable, "-B", "-c", CLEARING, *words])
 
-    for number in (signal.SIGINT, signal.SIGTERM, signal.SIGHUP):
-        signal.signal(number, on_signal)
+    for it in signals:
+        signal.signal(it, on_signal)

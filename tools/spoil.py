@@ -1,7 +1,12 @@
 """Spoils one thing of a scenario, so that it has a fault of docs/FORMATS.md, "Scenario", or is at the edge of having one."""
+import sys
 from dataclasses import replace
+from pathlib import Path
 
 from draw_net import MOST_CAPACITY, MOST_CONNECTIONS, MOST_DELAY, MOST_HOPS, MOST_PORTS, MOST_TAU
+
+sys.path.insert(0, str(Path(__file__).resolve().parent.parent / "tests"))
+from harness import case_file  # noqa: E402
 
 KEYS = ("vpi", "vci", "path", "delay", "tau")
 # Values that a key can't have, or only just can.
@@ -12,21 +17,7 @@ ODD_VALUES = {
     "delay": (MOST_DELAY, MOST_DELAY + 1, 2**63 - 1, 2**63, -1, "1e3", None),
     "tau": (MOST_TAU, MOST_TAU + 1, 2**63 - 1, 2**64, "{}", "2026-11-23", None),
 }
-ODD_EVENTS = (
-    "", " ", "start", "start 0", "start 0 0 ", " start 0 0", "start  0 0", "Start 0 0", "start +0 0", "start 0 -1", "start 0 0x1", "start 65536 0",
-    "start 0 09999999999999999999", "start 0 99999999999999999999", "ask 0 512", "ask 0 51200", "ask 0 512g", "ask 0 5120 works", "ask 0 5120 before after",
-    "again", "again 0 0", "emit 0", "arrive 0 0", "request 0 1", "request 0 65536 1", "request 0 1 4294967296", "turn 0", "yes 0 1", "told 0 1",
-    "told-yes 0", "told-no 0 4294967296", "capacity 0", "capacity 65536 0", "start\\t0 0", "st\\u00e4rt 0 0", "start 0 \\u0661", "start 0 0\\n", "start 00065535 0", "crash 0000000000000000000",
-    "crash 00000000000000000000",
-)
-ODD_COMMANDS = (
-    "", "start", "start 0 0", "start -1", "ask", "ask 5120 before", "ask 5120 never", "again 0", "crash ", "emit 0", "emit 0 lost", "emit 0 found", "emit lost 0",
-    "emit 0 9999999999999999999", "emit 0 99999999999999999999", "listen", "listen 4294967295", "listen 4294967296",
-)
-ODD_HEADS = (
-    "# no key\n", "\n\r\n", "other = 1\n", "other = 1.5e3\n", "\udcff", "# \udcff\n", "other = [1,\n", "other = 9223372036854775808\n",
-    "ports = [1]\n", "[other]\n", "connection = 1\n", "connection = [1]\n", "connection = []\n", "events = 1\n", "other = 'a\nb'\n", "a.b = 1\na.b = 2\n",
-)
+ODD = case_file("odd")
 
 
 def spoil_connection(chosen, scenario):
@@ -74,22 +65,22 @@ def spoil_count(chosen, scenario):
 
 def spoil_event(chosen, scenario):
     events = list(scenario.events)
-    events.insert(chosen.randint(0, len(events)), chosen.choice(ODD_EVENTS))
+    events.insert(chosen.randint(0, len(events)), chosen.choice(ODD["events"]))
     return replace(scenario, events=tuple(events))
 
 
 def spoil_script(chosen, scenario):
     conns = list(scenario.connections)
     at = chosen.randrange(len(conns))
-    conns[at] = replace(conns[at], script=(*conns[at].script, chosen.choice(ODD_COMMANDS)))
+    conns[at] = replace(conns[at], script=(*conns[at].script, chosen.choice(ODD["commands"])))
     return replace(scenario, connections=tuple(conns))
 
 
 def spoil_head(chosen, scenario):
-    return replace(scenario, head=chosen.choice(ODD_HEADS))
+    return replace(scenario, head=chosen.choice(ODD["heads"]))
 
 
-SPOILS = (spoil_connection, spoil_connection, spoil_path, spoil_channel, spoil_ports, spoil_count, spoil_event, spoil_event, spoil_script, spoil_head)
+SPOILS = (spoil_connection, spoil_path, spoil_channel, spoil_ports, spoil_count, spoil_event, spoil_script, spoil_head)
 
 
 def spoiled(chosen, scenario):

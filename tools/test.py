@@ -1,16 +1,15 @@
 #!/usr/bin/env python3
 """Compiles the program and all tests without a proof, and runs the tests, the samples and every script that needs no proof.
 
-usage: abt --test [--jobs N] [--seconds N] [NAME..]      (NAME: a script or a test, by its whole name or the beginning of it; without one, all)
+usage: abt --test [--jobs N] [--seconds N] [NAME..]      (NAME: a script or a test, by its name or the beginning of it; without one, all)
 
-Each test runs in a process of its own, under the address sanitizer. A line tells what begins and what ended; one that begins with FAILED has
-the words that run that part alone. The last line is `N passed, M failed`, and the status is 1 if something failed. The programs stay in
-crates/abt/out while no source is newer. What interrupts this command ends what it started, and leaves no half-made file.
+Each test runs in a process of its own, under the address sanitizer. A line tells what begins and what ended; one that begins with FAILED
+has the words that run that part alone. The last line is `N passed, M failed`, and the status is 1 if something failed. The programs stay
+in crates/abt/out while no source is newer. What interrupts this command ends what it started, and leaves no half-made file.
 """
 import argparse
 import os
 import re
-import shutil
 import sys
 import tempfile
 import threading
@@ -144,7 +143,8 @@ class Run:
 
 def main():
     reader = argparse.ArgumentParser(prog="abt --test", description=__doc__, formatter_class=argparse.RawDescriptionHelpFormatter)
-    reader.add_argument("--jobs", type=int, default=len(os.sched_getaffinity(0)), help="how many parts run at a time; without it, as many as there are processors")
+    processors = len(os.sched_getaffinity(0))
+    reader.add_argument("--jobs", type=int, default=processors, help=f"how many parts run at a time; without it, {processors}")
     reader.add_argument("--seconds", type=int, default=TEST_SECONDS, help=f"how long a test may take; without it, {TEST_SECONDS}")
     reader.add_argument("names", nargs="*", metavar="NAME")
     words = reader.parse_args()
@@ -152,7 +152,6 @@ def main():
     run = Run(words)
     try:
         program.need_kit()
-        program.make_out()
         if not run.all():
             sys.exit("test: no script or test has such a name")
     except program.Failed as why:
