@@ -1,41 +1,48 @@
 """Writes the manual pages and the shell completions from the program's help and from docs/FORMATS.md, or compares them.
 
-The help is that of man/help, which `tests/help_texts.py` compares with the program. So a page or a completion that lacks a command or an option
-is told here.
+The help is that of man/help, which `tests/help_texts.py` compares with the program. So a page or a completion that lacks a command or an
+option is told here.
 
 usage: pages.py            compares
        pages.py --write    writes man/abt.1, man/abt_formats.5 and completions/ anew
 """
 import re
 import sys
-from dataclasses import dataclass
-from pathlib import Path
+from itertools import groupby
+from typing import NamedTuple
 
-sys.path.insert(0, str(Path(__file__).resolve().parent))
-from roff import escaped, page_of  # noqa: E402
+from documents import ROOT, report, text_of
+from roff import escaped, inline, page_of
 
-ROOT = Path(__file__).resolve().parents[2]
 HELP = ROOT / "man" / "help"
-# What the help calls a file that an option writes.
-OUT = "OUT"
-STATUSES = [
-    (0, "It is done."),
-    (1, "There is a fault, which standard error names; abt check prints those of its text."),
-    (2, "The words are refused, which standard error tells, or no command is named."),
-    (70, "The script ./abt of a clone can make no program."),
-]
-VERSION = re.search(r"^## (\d+\.\d+\.\d+)", (ROOT / "CHANGELOG.md").read_text(), re.M)[1]
+# What the help calls a file: as the value of an option, and as an argument.
+VALUES, ARGUMENTS = ("OUT", "FILE"), ("FILE", "NET")
+# The table of statuses in docs/FORMATS.md, and one row of it.
+STATUSES = re.compile(r"^\| exit status \|.*\n\|---.*\n((?:\|.*\n)+)", re.M)
+STATUS = re.compile(r"\| (\d+) \| ([^|]+) \| ([^|]+) \|")
+# The status that the script ./abt alone has.
+OF_THE_SCRIPT = "70"
+# What the help calls a first argument that is one of a few words, and these.
+WORDS = {"<MESSAGE>": ("request", "yes", "no")}
+VERSION = re.search(r"^## (\d+\.\d+\.\d+)", text_of("CHANGELOG.md"), re.M)[1]
 
 
-@dataclass(frozen=True)
-class Option:
+class Status(NamedTuple):
+    number: str
+    words: str  # what it is of
+    more: str
+
+    def told(self):
+        return f"{self.number}: {self.words}."
+
+
+class Option(NamedTuple):
     flags: tuple  # as ("-h", "--help")
     value: str  # the name of its value, or nothing
     help: str
 
 
-@dataclass(frozen=True)
-class Command:
+class Command(NamedTuple):
     name: str
     about: str
     usage: str
@@ -44,7 +51,31 @@ class Command:
     after: str  # what the help tells behind the options
 
     def takes_a_file(self):
-        return any("FILE" in name for name, _ in self.arguments)
+        return any(file in name for name, _ in self.arguments for file in ARGUMENTS)
+
+    def flags(self):
+        return [flag for option in self.options for flag in option.flags]
+
+    def words(self):
+        """The words that its first argument can be, if these are few."""
+        return next((WORDS.get(name, ()) for name, _ in self.arguments), ())
+
+
+def statuses():
+    """The program's exit statuses, which docs/FORMATS.md has in a table, and nothing else says otherwise."""
+    return [Status(*row) for row in STATUS.findall(STATUSES.search(text_of("docs/FORMATS.md"))[1])]
+
+
+def faults_of_statuses():
+    """What the help or README.md say of statuses, and the table doesn't."""
+    them = statuses()
+    told = {file: " ".join(file.read_text().split()) for file in [ROOT / "README.md", *sorted(HELP.iterdir())]}
+    for file, text in told.items():
+        is_help = file.parent == HELP
+        want = " ".join(it.told() for it in them if not (is_help and it.number == OF_THE_SCRIPT))
+        found = re.search(r"[Ss]tatus (0: done\..*)", text)
+        if (found or not is_help) and not (found and found[1].startswith(want)):
+            yield f"{file.relative_to(ROOT)} doesn't tell the statuses as docs/FORMATS.md does: {want}"
 
 
 def section(text, title):
@@ -83,21 +114,12 @@ def described(command):
 
 def told_after(text):
     """What a help text tells behind its options, as roff: examples as they stand, and the rest as text."""
-    kind = None
-    for line in text.split("\n"):
-        is_example = line.startswith("  ")
-        if is_example and kind != "example":
-            yield ".nf\n.RS 4"
-        if kind == "example" and not is_example:
-            yield ".RE\n.fi"
-        elif kind == "text" and not is_example:
-            yield ".br"
-        elif kind is None:
-            yield ".PP"
-        kind = "example" if is_example else "text"
-        yield escaped(line.removeprefix("  ")) or ".PP"
-    if kind == "example":
-        yield ".RE\n.fi"
+    for place, (is_example, lines) in enumerate(groupby(text.split("\n"), lambda line: line.startswith("  "))):
+        told = [escaped(line.removeprefix("  ")) or ".PP" for line in lines]
+        if is_example:
+            yield "\n".join([".nf\n.RS 4", *told, ".RE\n.fi"])
+        else:
+            yield ("" if place else ".PP\n") + "\n.br\n".join(told)
 
 
 def manual(program, them):
@@ -114,113 +136,73 @@ def manual(program, them):
         parts += [f".SS abt {it.name}", escaped(it.about) + ".", *described(it)]
         if it.after:
             parts += told_after(it.after)
-    parts += [".SH EXIT STATUS", *(f".TP\n\\fB{status}\\fR\n{escaped(told)}" for status, told in STATUSES)]
+    told = lambda it: inline(f"{it.words[0].upper()}{it.words[1:]}; {it.more}.")
+    parts += [".SH EXIT STATUS", *(f".TP\n\\fB{it.number}\\fR\n{told(it)}" for it in statuses())]
     parts += [".SH EXAMPLES", *told_after(program.after), ".SH SEE ALSO\n.BR abt_formats (5), abt (3)"]
     return "\n".join(parts) + "\n"
 
 
-def bash(program, them):
-    """Completions for bash."""
+def bash(program, them, names):
+    """The words of the completions for bash."""
     cases = []
     for it in them:
-        words = " ".join(flag for option in it.options for flag in option.flags)
-        words = words if it.name != "help" else " ".join(other.name for other in them)
+        words = names if it.name == "help" else " ".join(it.flags())
+        first = f'$([ "$COMP_CWORD" -eq 2 ] && echo {" ".join(it.words())}) ' if it.words() else ""
         files = "-f " if it.takes_a_file() else ""
-        cases.append(f'        {it.name}) COMPREPLY=($(compgen {files}-W "{words}" -- "$word")) ;;')
-    names = " ".join(it.name for it in them)
-    flags = " ".join(flag for option in program.options for flag in option.flags)
-    return f"""# Completions of abt for bash. Written by .ci/documents/pages.py from the help of the program.
-_abt() {{
-    local word=${{COMP_WORDS[COMP_CWORD]}}
-    if [ "$COMP_CWORD" -eq 1 ]; then
-        COMPREPLY=($(compgen -W "{names} {flags}" -- "$word"))
-        return
-    fi
-    case ${{COMP_WORDS[1]}} in
-{chr(10).join(cases)}
-        *) COMPREPLY=() ;;
-    esac
-}}
-complete -o filenames -F _abt abt
-"""
+        cases.append(f'        {it.name}) COMPREPLY=($(compgen {files}-W "{first}{words}" -- "$word")) ;;')
+    return {"names": " ".join([names, *program.flags()]), "cases": "\n".join(cases)}
 
 
 def quoted(text):
-    """A text for a description between single quotes in zsh or fish."""
+    """A text for a description between single quotes in zsh."""
     return text.replace("\\", "\\\\").replace("'", "'\\''").replace("[", "\\[").replace("]", "\\]").replace(":", "\\:")
 
 
-def zsh(program, them):
-    """Completions for zsh."""
-    described_commands = "\n".join(f"        '{it.name}:{quoted(it.about)}'" for it in them)
+def zsh(program, them, names):
+    """The words of the completions for zsh."""
     cases = []
     for it in them:
         specs = []
         for option in it.options:
-            for flag in option.flags:
-                value = f":{option.value}:{'_files' if option.value == OUT else ''}" if option.value else ""
-                specs.append(f"'{flag}[{quoted(option.help)}]{value}'")
-        if it.takes_a_file():
-            specs.append("'*:file:_files'")
-        if it.name == "help":
-            specs.append(f"'*:command:({' '.join(other.name for other in them)})'")
-        if specs:
-            cases.append(f"        {it.name}) _arguments {' '.join(specs)} ;;")
+            value = f":{option.value}:{'_files' if option.value in VALUES else ''}" if option.value else ""
+            specs += [f"'{flag}[{quoted(option.help)}]{value}'" for flag in option.flags]
+        specs += [f"'1:word:({' '.join(it.words())})'"] if it.words() else []
+        specs += ["'*:file:_files'"] if it.takes_a_file() else []
+        specs += [f"'*:command:({names})'"] if it.name == "help" else []
+        cases += [f"        {it.name}) _arguments {' '.join(specs)} ;;"] if specs else []
+    commands = "\n".join(f"        '{it.name}:{quoted(it.about)}'" for it in them)
     flags = " ".join(f"'{flag}[{quoted(option.help)}]'" for option in program.options for flag in option.flags)
-    return f"""#compdef abt
-# Completions of abt for zsh. Written by .ci/documents/pages.py from the help of the program.
-_abt() {{
-    local -a commands
-    commands=(
-{described_commands}
-    )
-    if (( CURRENT == 2 )); then
-        _describe command commands
-        _arguments {flags}
-        return
-    fi
-    local command=$words[2]
-    shift words
-    (( CURRENT-- ))
-    case $command in
-{chr(10).join(cases)}
-    esac
-}}
-_abt "$@"
-"""
+    return {"commands": commands, "flags": flags, "cases": "\n".join(cases)}
 
 
-def fish(program, them):
-    """Completions for fish."""
-    lines = ["# Completions of abt for fish. Written by .ci/documents/pages.py from the help of the program.", "complete -c abt -f"]
+def fish(program, them, names):
+    """The words of the completions for fish."""
     told = lambda text: text.replace("\\", "\\\\").replace("'", "\\'")
     flags = lambda option: " ".join(f"-l {flag[2:]}" if flag.startswith("--") else f"-s {flag[1:]}" for flag in option.flags)
-    for option in program.options:
-        lines.append(f"complete -c abt -n __fish_use_subcommand {flags(option)} -d '{told(option.help)}'")
+    first = "complete -c abt -n __fish_use_subcommand"
+    lines = [f"{first} {flags(option)} -d '{told(option.help)}'" for option in program.options]
+    lines += [f"{first} -a {it.name} -d '{told(it.about)}'" for it in them]
     for it in them:
-        lines.append(f"complete -c abt -n __fish_use_subcommand -a {it.name} -d '{told(it.about)}'")
-    for it in them:
-        within = f"-n '__fish_seen_subcommand_from {it.name}'"
+        seen = f"__fish_seen_subcommand_from {it.name}"
+        within = f"complete -c abt -n '{seen}'"
         for option in it.options:
-            value = "-r -F " if option.value == OUT else "-x " if option.value else ""
-            lines.append(f"complete -c abt {within} {flags(option)} {value}-d '{told(option.help)}'")
-        if it.takes_a_file():
-            lines.append(f"complete -c abt {within} -F")
-        if it.name == "help":
-            lines.append(f"complete -c abt {within} -a '{' '.join(other.name for other in them)}'")
-    return "\n".join(lines) + "\n"
+            value = "-r -F " if option.value in VALUES else "-x " if option.value else ""
+            lines.append(f"{within} {flags(option)} {value}-d '{told(option.help)}'")
+        words = " ".join(it.words())
+        lines += [f"complete -c abt -n '{seen}; and not __fish_seen_subcommand_from {words}' -a '{words}'"] if words else []
+        lines += [f"{within} -F"] if it.takes_a_file() else []
+        lines += [f"{within} -a '{names}'"] if it.name == "help" else []
+    return {"lines": "\n".join(lines)}
 
 
 def texts():
     """Each file with its text."""
     program, them = commands()
-    return {
-        "man/abt.1": manual(program, them),
-        "man/abt_formats.5": page_of((ROOT / "docs" / "FORMATS.md").read_text(), "abt_formats", 5, VERSION),
-        "completions/abt.bash": bash(program, them),
-        "completions/_abt": zsh(program, them),
-        "completions/abt.fish": fish(program, them),
-    }
+    found = {"man/abt.1": manual(program, them), "man/abt_formats.5": page_of(text_of("docs/FORMATS.md"), "abt_formats", 5, VERSION)}
+    for name, template, words_of in (("abt.bash", "abt.bash", bash), ("_abt", "abt.zsh", zsh), ("abt.fish", "abt.fish", fish)):
+        words = words_of(program, them, " ".join(it.name for it in them))
+        found[f"completions/{name}"] = text_of(f".ci/documents/templates/{template}").format(**words)
+    return found
 
 
 def main(*words):
@@ -229,11 +211,9 @@ def main(*words):
         for name, text in found.items():
             (ROOT / name).parent.mkdir(parents=True, exist_ok=True)
             (ROOT / name).write_text(text)
-    faults = [name for name, text in found.items() if not (ROOT / name).is_file() or (ROOT / name).read_text() != text]
-    for name in faults:
-        print(f"pages: {name} isn't what the help and docs/FORMATS.md say; .ci/documents/pages.py --write writes it anew")
-    print(f"pages: {len(found)} files, {len(faults)} differences")
-    sys.exit(1 if faults else 0)
+    told = "isn't what the help and docs/FORMATS.md say; .ci/documents/pages.py --write writes it anew"
+    differ = [name for name, text in found.items() if not (ROOT / name).is_file() or text_of(name) != text]
+    report(f"{len(found)} files", [*(f"{name} {told}" for name in differ), *faults_of_statuses()])
 
 
 if __name__ == "__main__":

@@ -11,21 +11,18 @@ usage: reading.py                    compares the tables of docs/READING.md with
        reading.py --write            writes them anew, and keeps what the last column says
        reading.py START              lists what a START rests on, as in: reading.py "abt_world::run headline"
 """
-import argparse
 import re
 import sys
 from collections import defaultdict
 from dataclasses import dataclass
 from functools import cache
-from pathlib import Path
+from itertools import zip_longest
 
-sys.path.insert(0, str(Path(__file__).resolve().parents[1] / "gate"))
-from functions import blanked, closing  # noqa: E402
+from documents import CRATES, ROOT, files, report, text_of
+from functions import blanked, closing
 
-ROOT = Path(__file__).resolve().parents[2]
 NAME = re.compile(r"[A-Za-z_][\w'-]*")
 USE = re.compile(r"(?:pub )?use\s+Rattle\.([\w.]+?)(?:\.\{([^}]*)\}|\s+as\s+(\w+))\s*;?")
-ITEM = re.compile(r"(?:abbrev|unfoldable|data|record|opaque)?\s*(?:pub )?(?:abbrev |record |data |unfoldable |opaque )?(?:pub )?([\w'-]+)")
 SAYS_NOTHING = re.compile(r"\s*(--|//|#\[|ghost use |[()\[\]{},;]*$)")
 LEADS = ("abbrev", "unfoldable", "data", "record", "pub", "opaque")
 
@@ -44,110 +41,91 @@ class Word:
         return sum(not SAYS_NOTHING.match(line) for line in text_of_word(self).split("\n"))
 
 
-@cache
-def text_of(file):
-    return (ROOT / file).read_text()
+def imports(text):
+    """What each imported name of a text stands for: a module of a crate and the name there, or a module alone."""
+    found = {}
+    for module, names, alias in USE.findall(text):
+        if alias:
+            found[alias] = (module, None)
+        for given, short in re.findall(r"(\S+?)(?:\s+as\s+(\S+?))?\s*(?:,|$)", names):
+            found[short or given] = (module, given)
+    return found
 
 
 @cache
 def uses_of(file):
-    """What each imported name of a file stands for: a module of a crate and the name there, or a module alone."""
-    found = {}
-    for module, names, alias in USE.findall(re.sub(r"//.*|--.*", "", text_of(file))):
-        if alias:
-            found[alias] = (module, None)
-        for name in filter(None, (it.strip() for it in names.split(","))):
-            given, _, short = name.partition(" as ")
-            found[short.strip() or given] = (module, given)
-    return found
+    return imports(re.sub(r"//.*|--.*", "", text_of(file)))
 
 
 @cache
 def words_in(file):
-    """The definitions of a file of specs/, by name."""
+    """The definitions of a file of specs/, by name. The fields of a record and the cases of a type are read where it is."""
     lines = text_of(file).split("\n")
-    heads = [
-        k
-        for k, line in enumerate(lines)
-        if line.split(" ")[0] in LEADS and not line.startswith(("pub mod", "pub use"))
-    ]
+    heads = [k for k, line in enumerate(lines) if line.split(" ")[0] in LEADS and not line.startswith(("pub mod", "pub use"))]
     found = {}
-    for at, head in enumerate(heads):
-        words = [it for it in re.split(r"[\s:({]+", lines[head]) if it and it not in LEADS]
-        first = head
-        while first and lines[first - 1].startswith("--"):
-            first -= 1
-        last = heads[at + 1] if at + 1 < len(heads) else len(lines)
+    for head, last in zip(heads, [*heads[1:], len(lines)]):
+        name = next(it for it in re.split(r"[\s:({]+", lines[head]) if it and it not in LEADS)
         while last > head + 1 and (not lines[last - 1].strip() or lines[last - 1].startswith("--")):
             last -= 1
-        found[words[0]] = Word(file, words[0], first, last)
-        # the fields of a record and the cases of a type are read where it is
+        found[name] = Word(file, name, beginning(lines, head, "--"), last)
     return found
 
 
-def type_in(file, name):
-    """The declaration of a type of the code, with what stands above it."""
+def beginning(lines, first, above):
+    """The first of the lines of these kinds that stand above a line."""
+    while first and lines[first - 1].startswith(above):
+        first -= 1
+    return first
+
+
+def item_in(file, head, name, above=()):
+    """The item of the code that begins so, with the lines of these kinds that stand above it; None if there is none."""
     text = text_of(file)
-    at = re.search(rf"^pub(?:\([^)]*\))? (?:struct|enum) {name}\b", text, re.M)
+    at = re.search(head, text, re.M)
     if not at:
         return None
-    lines = text.split("\n")
-    head = text.count("\n", 0, at.start())
-    first = head
-    while first and lines[first - 1].startswith(("///", "#[")):
-        first -= 1
-    opens = text.find("{", at.start())
-    ends = text.find(";", at.start())
+    first = beginning(text.split("\n"), text.count("\n", 0, at.start()), above)
+    opens, ends = text.find("{", at.start()), text.find(";", at.start())
     stop = closing(blanked(text), opens) if opens >= 0 and (ends < 0 or opens < ends) else ends
     return Word(file, name, first, text.count("\n", 0, stop) + 1)
 
 
-def model_in(file, name):
-    """How contracts see a type: the lines of its `impl Model`, or None."""
-    text = text_of(file)
-    at = re.search(rf"^impl(?:<[^>]*>)? Model for {name}\b[^{{]*{{", text, re.M)
-    if not at:
-        return None
-    stop = closing(blanked(text), at.end() - 1)
-    first = text.count("\n", 0, at.start())
-    return Word(file, f"{name} (model)", first, text.count("\n", 0, stop) + 1)
+def head_of_type(name):
+    return rf"^pub(?:\([^)]*\))? (?:struct|enum) {name}\b"
+
+
+def types(file, name):
+    """A type as contracts see it: by its `impl Model` if it has one, else by its declaration."""
+    model = item_in(file, rf"^impl(?:<[^>]*>)? Model for {name}\b[^{{]*{{", f"{name} (model)")
+    seen = model or item_in(file, head_of_type(name), name, ("///", "#["))
+    return [seen] if seen else []
 
 
 def module_file(module):
     """The file of a module: `abt_x.specs.Y` or `abt_x.specs.declared.a.b.Type`; with the type's name for the second."""
-    parts = module.split(".")
-    if not (ROOT / "crates" / parts[0]).is_dir():
-        return None, None
-    if parts[1:3] == ["specs", "declared"]:
-        at = next((k for k, part in enumerate(parts) if k > 2 and part[0].isupper()), None)
-        if at is None:
-            return None, None
-        stem = "/".join(parts[3:at])
-        for place in (f"crates/{parts[0]}/src/{stem}.rt", f"crates/{parts[0]}/src/{stem}/mod.rt", f"crates/{parts[0]}/src/lib.rt"):
-            if (ROOT / place).is_file():
-                return place, parts[at]
-    place = f"crates/{parts[0]}/specs/{'/'.join(parts[2:])}.antt"
-    return (place, None) if (ROOT / place).is_file() else (None, None)
+    crate, *parts = module.split(".")
+    if parts[:2] != ["specs", "declared"]:
+        places, name = [f"crates/{crate}/specs/{'/'.join(parts[1:])}.antt"], None
+    else:
+        at = next((k for k, part in enumerate(parts) if k > 1 and part[0].isupper()), None)
+        name, stem = at and parts[at], "/".join(parts[2:at])
+        places = [f"crates/{crate}/src/{stem}.rt", f"crates/{crate}/src/{stem}/mod.rt", f"crates/{crate}/src/lib.rt"] if at else []
+    return next(((place, name) for place in places if (ROOT / place).is_file()), (None, None))
 
 
 def rust_uses(file):
-    """The types of other files that a file of the code names, with the files they are declared in."""
+    """The types of other files that a file of the code names, with the crates that declare them."""
     found = {}
-    crate = file.split("/")[1]
     for path, names, single in re.findall(r"^(?:pub )?use ([\w:]+?)::(?:\{([^}]*)\}|(\w+));", text_of(file), re.M):
-        for name in filter(None, (it.strip() for it in (names or single).split(","))):
-            found[name] = crate if path.startswith("crate") else path.split("::")[0]
+        home = file.split("/")[1] if path.startswith("crate") else path.split("::")[0]
+        found |= {name: home for name in re.findall(r"\w+", names or single)}
     return found
 
 
 @cache
 def declared_in(crate, name):
     """The file of a crate that declares a type."""
-    for file in sorted((ROOT / "crates" / crate / "src").rglob("*.rt")):
-        short = str(file.relative_to(ROOT))
-        if re.search(rf"^pub(?:\([^)]*\))? (?:struct|enum) {name}\b", text_of(short), re.M):
-            return short
-    return None
+    return next((file for file in files(f"crates/{crate}/src/**/*.rt") if re.search(head_of_type(name), text_of(file), re.M)), None)
 
 
 def text_of_word(word):
@@ -157,45 +135,26 @@ def text_of_word(word):
 def next_words(word):
     """The definitions that a definition names."""
     text = text_of_word(word)
-    if word.file.endswith(".rt"):
-        return of_code(word, text)
-    text = re.sub(r"--.*", "", text)
-    return resolved(word.file, text)
+    return of_code(word, text) if word.file.endswith(".rt") else resolved(word.file, re.sub(r"--.*", "", text))
 
 
 def of_code(word, text):
     """The types that a declaration has in its fields, or what a view names."""
-    found = []
     if word.name.endswith("(model)"):
         value = re.search(r"ghost Value = \{(.*?)\};", text, re.S)
-        return resolved(word.file, value[1] if value else "", re.sub(r"^\s*ghost use", "use", text, flags=re.M))
-    crate, others = word.file.split("/")[1], rust_uses(word.file)
-    for name in set(NAME.findall(re.sub(r"//.*", "", text))) - {word.name}:
-        home = others.get(name, crate)
-        file = declared_in(home, name) if (ROOT / "crates" / home).is_dir() else None
-        if file:
-            found += types(file, name)
-    return found
+        return resolved(word.file, value[1] if value else "", imports(re.sub(r"^\s*ghost use", "use", text, flags=re.M)))
+    names, others = set(NAME.findall(re.sub(r"//.*", "", text))) - {word.name}, rust_uses(word.file)
+    homes = {name: others.get(name, word.file.split("/")[1]) for name in names}
+    declared = {name: declared_in(home, name) for name, home in homes.items() if home in CRATES}
+    return [found for name, file in declared.items() if file for found in types(file, name)]
 
 
-def types(file, name):
-    """A type as contracts see it: its model where it has one, else its declaration."""
-    seen = model_in(file, name) or type_in(file, name)
-    return [seen] if seen else []
-
-
-def resolved(file, text, own_uses=""):
+def resolved(file, text, more_uses=None):
     """The definitions that the names of a text stand for, in this file."""
-    uses = dict(uses_of(file))
-    for module, names, alias in USE.findall(own_uses):
-        for name in filter(None, (it.strip() for it in names.split(","))):
-            uses[name.split(" as ")[-1].strip()] = (module, name.split(" as ")[0].strip())
-    found = []
+    uses, found = {**uses_of(file), **(more_uses or {})}, []
     for qualifier, name in re.findall(r"(?:\b([a-z]\w*)\.)?([A-Za-z_][\w'-]*)", text):
-        if qualifier in uses and uses[qualifier][1] is None:
-            target = (uses[qualifier][0], name)
-        else:
-            target = uses.get(name)
+        is_of_module = qualifier in uses and uses[qualifier][1] is None
+        target = (uses[qualifier][0], name) if is_of_module else uses.get(name)
         if target:
             place, type_name = module_file(target[0])
             if place and type_name:
@@ -207,43 +166,35 @@ def resolved(file, text, own_uses=""):
     return found
 
 
-def clauses(crate, function, labels):
-    """The texts of a function's clauses with these labels, and the file of the function."""
-    for file in sorted((ROOT / "crates" / crate / "src").rglob("*.rt")):
-        short = str(file.relative_to(ROOT))
-        text = text_of(short)
+def clause_of(crate, function, label):
+    """The text of a function's clause with this label, and the file of the function."""
+    for file in files(f"crates/{crate}/src/**/*.rt"):
+        text = text_of(file)
         at = re.search(rf"\bfn {function}\b", text)
-        if not at:
-            continue
-        stop = re.search(r"^ *\{", text[at.start() :], re.M)
-        header = text[at.start() : at.start() + (stop.start() if stop else 0)]
-        found = {}
-        for clause in re.finditer(r"(requires|ensures)\s*(\w*)\s*\{", header):
-            end = closing(header, clause.end() - 1)
-            found[clause[2] or clause[1]] = header[clause.end() : end]
-        missing = [label for label in labels if label not in found]
-        if missing:
-            sys.exit(f"reading: {crate}::{function} has no clause {missing[0]}")
-        return short, [found[label] for label in labels]
+        if at:
+            stop = re.search(r"^ *\{", text[at.start() :], re.M)
+            header = text[at.start() : at.start() + (stop.start() if stop else 0)]
+            for clause in re.finditer(r"(requires|ensures)\s*(\w*)\s*\{", header):
+                if (clause[2] or clause[1]) == label:
+                    return file, header[clause.end() : closing(header, clause.end() - 1)]
+            sys.exit(f"reading: {crate}::{function} has no clause {label}")
     sys.exit(f"reading: there is no {crate}::{function}")
 
 
 def closure(starts):
-    seen, left = {}, list(starts)
+    seen, left = set(), list(starts)
     while left:
         word = left.pop()
-        if (word.file, word.name) not in seen:
-            seen[word.file, word.name] = word
-            left += next_words(word)
-    return list(seen.values())
+        left += next_words(word) if word not in seen else []
+        seen.add(word)
+    return seen
 
 
 def begins(start):
     """The definitions that a START names."""
     clause = re.fullmatch(r"(\w+)::(\w+) (\w+)", start)
     if clause:
-        file, texts = clauses(clause[1], clause[2], [clause[3]])
-        return [word for text in texts for word in resolved(file, text)]
+        return resolved(*clause_of(*clause.groups()))
     crate, file, name = start.split(".")
     return [words_in(f"crates/{crate}/specs/{file}.antt")[name]]
 
@@ -265,20 +216,19 @@ ROW = re.compile(r"\| `([^`]+)` \| (\d+) \| (.*?) \| (.*) \|")
 
 def order_of(file):
     """Crates stand in the order of crates.txt, lowest first; in a crate the code's types come before its words."""
-    crates = [line.split(":")[0].split()[0] for line in text_of("crates.txt").split("\n") if ":" in line and line[0] != "#"]
-    crate = file.split("/")[1]
-    return crates.index(crate), "/specs/" in file, file
+    return [*CRATES].index(file.split("/")[1]), "/specs/" in file, file
 
 
 def in_lines(names, first, others):
     """The names in lines that are no longer than there is room: in the first, and in the others."""
-    lines = [[]]
+    lines = [""]
     for name in names:
-        room = first if len(lines) == 1 else others
-        if lines[-1] and len(", ".join([*lines[-1], name])) > room:
-            lines.append([])
-        lines[-1].append(name)
-    return [", ".join(line) for line in lines]
+        longer = f"{lines[-1]}, {name}" if lines[-1] else name
+        if lines[-1] and len(longer) > (others if lines[1:] else first):
+            lines.append(name)
+        else:
+            lines[-1] = longer
+    return lines
 
 
 def table(words, said):
@@ -310,30 +260,26 @@ def rewritten(text):
     return "".join(out), counts
 
 
-def main():
-    reader = argparse.ArgumentParser(description=__doc__, formatter_class=argparse.RawDescriptionHelpFormatter)
-    reader.add_argument("--write", action="store_true")
-    reader.add_argument("start", nargs="?")
-    given = reader.parse_args()
-    if given.start:
-        words = rests_on([given.start])
-        for file, held in by_file(words).items():
-            print(f"{sum(word.lines for word in held):5} {file}: {', '.join(word.name for word in held)}")
-        print(f"{sum(word.lines for word in words):5} lines, {len(words)} definitions")
-        return
+def listed(start):
+    words = rests_on([start])
+    for file, held in by_file(words).items():
+        print(f"{sum(word.lines for word in held):5} {file}: {', '.join(word.name for word in held)}")
+    print(f"{sum(word.lines for word in words):5} lines, {len(words)} definitions")
+
+
+def main(*words):
+    if words and words != ("--write",):
+        return listed(*words)
     document = ROOT / "docs" / "READING.md"
     text = document.read_text()
     wanted, counts = rewritten(text)
-    if given.write:
+    if words:
         document.write_text(wanted)
-    elif text != wanted:
-        for have, want in zip(text.split("\n"), wanted.split("\n")):
-            if have != want:
-                print(f"reading: docs/READING.md has `{have[:100]}` for `{want[:100]}`; .ci/documents/reading.py --write mends it")
-                break
-        sys.exit(1)
-    print(f"reading: {len(counts)} tables, of {', '.join(map(str, counts))} lines")
+        text = wanted
+    lines = zip_longest(text.split("\n"), wanted.split("\n"), fillvalue="")
+    differ = [f"`{have[:100]}` for `{want[:100]}`" for have, want in lines if have != want]
+    told = [f"docs/READING.md has {it}; .ci/documents/reading.py --write mends it" for it in differ[:1]]
+    return report(f"{len(counts)} tables, of {', '.join(map(str, counts))} lines", told)
 
 
-if __name__ == "__main__":
-    main()
+main(*sys.argv[1:])

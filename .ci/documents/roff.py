@@ -1,4 +1,4 @@
-"""Makes a manual page of a document in Markdown: headings, paragraphs, lists, tables and blocks of code, as the documents here have them."""
+"""Makes a manual page of a document in Markdown: headings, paragraphs, lists, tables and blocks of code, as the documents have them."""
 import re
 
 
@@ -9,10 +9,14 @@ def escaped(text):
 
 
 def inline(text):
-    """The lines of a paragraph in Markdown: code and what is strong become bold, a link its text, also where it goes over the end of a line."""
+    """The lines of a paragraph in Markdown: code and what is strong become bold, what is stressed italic, a link its text, also over the
+    end of a line."""
     text = re.sub(r"\[([^\]]+)\]\([^)]+\)", r"\1", text)
-    parts = re.split(r"(`[^`]+`|\*\*[^*]+\*\*)", text)
-    told = [f"\\fB{escaped(it.strip('`*'))}\\fR" if re.match(r"`[^`]|\*\*", it) else escaped(it) for it in parts]
+    parts = re.split(r"(`[^`]+`|\*\*[^*]+\*\*|(?<![\w*])\*\w[^*]*\w\*(?![\w*]))", text)
+    told = []
+    for at, it in enumerate(parts):
+        letter = "I" if re.match(r"\*\w", it) else "B"
+        told.append(f"\\f{letter}{escaped(it.strip('`*'))}\\fR" if at % 2 else escaped(it))
     return re.sub(r"^([.'])", r"\\&\1", "".join(told).replace("\\&", ""), flags=re.M)
 
 
@@ -34,36 +38,29 @@ def table(rows):
 
 def page_of(text, name, number, version):
     """The manual page of a document."""
-    lines, out, at = text.split("\n"), [], 0
+    lines, at = text.split("\n"), 1
     title = lines[0].removeprefix("# ")
-    out.append(f'.\\" Written by .ci/documents/pages.py from a document.\n.TH {name.upper()} {number} "" "abt {version}" "File Formats"')
+    out = [f'.\\" Written by .ci/documents/pages.py from a document.\n.TH {name.upper()} {number} "" "abt {version}" "File Formats"']
     out.append(f".SH NAME\n{name} \\- {escaped(title[0].lower() + title[1:])}\n.SH DESCRIPTION")
-    at = 1
     while at < len(lines):
-        line = lines[at]
+        line, end = lines[at], at + 1
         if line.startswith("```"):
-            end = next(k for k in range(at + 1, len(lines)) if lines[k].startswith("```"))
-            out += [".PP\n.nf\n.RS 4", *(escaped(it) or "\\&" for it in lines[at + 1 : end]), ".RE\n.fi"]
-            at = end + 1
-            continue
-        if line.startswith("|"):
+            end = lines.index("```", at + 1) + 1
+            out += [".PP\n.nf\n.RS 4", *(escaped(it) or "\\&" for it in lines[at + 1 : end - 1]), ".RE\n.fi"]
+        elif line.startswith("|"):
             end = next((k for k in range(at, len(lines)) if not lines[k].startswith("|")), len(lines))
             out += table(lines[at:end])
-            at = end
-            continue
-        if line.startswith("#"):
+        elif line.startswith("#"):
             depth, heading = re.match(r"(#+)\s+(.*)", line).groups()
             out.append(f"{'.SH' if len(depth) == 2 else '.SS'} {inline(heading)}")
-            at += 1
         elif not line.strip():
             out.append(".PP")
-            at += 1
         else:
             end = paragraph(lines, at)
             item = re.match(r"\s*(?:[-*]|\d+\.)\s+", line)
             told = "\n".join(it.strip() for it in [line[item.end() if item else 0 :], *lines[at + 1 : end]])
             out.append(f".IP \\(bu 2\n{inline(told)}" if item else inline(told))
-            at = end
+        at = end
     return "\n".join(merged(out)) + "\n"
 
 

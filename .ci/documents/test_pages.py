@@ -6,10 +6,8 @@ import os
 import re
 import shutil
 import subprocess
-import sys
-from pathlib import Path
 
-ROOT = Path(__file__).resolve().parents[2]
+from documents import ROOT, report
 
 
 def ran(*words, **how):
@@ -25,27 +23,29 @@ def warnings(page):
 
 def shown(page):
     """A page as a reader has it, without emphasis."""
-    done = ran("man", "-E", "UTF-8", "-l", "-Tutf8", str(page), env={**os.environ, "LC_ALL": "C.UTF-8", "MANWIDTH": "1000", "MAN_KEEP_FORMATTING": ""})
+    environment = {**os.environ, "LC_ALL": "C.UTF-8", "MANWIDTH": "1000", "MAN_KEEP_FORMATTING": ""}
+    done = ran("man", "-E", "UTF-8", "-l", "-Tutf8", str(page), env=environment)
     return re.sub(r"\x1b\[[0-9;]*m|.\x08", "", done.stdout)
 
 
 def raw(page):
     """The marks of Markdown that a page still has, its examples left out."""
     text = re.sub(r"^\.nf$.*?^\.fi$", "", page.read_text(), flags=re.M | re.S)
-    return re.findall(r"`|\*\*|\]\(", text)
+    return re.findall(r"`|\*\*|\]\(|(?<![\w*])\*\w[^*\n]*\w\*(?![\w*])", text)
 
 
 def completed(*words):
     """What bash completes at the last of some words."""
     given = " ".join(f"'{word}'" for word in words)
-    script = f"source completions/abt.bash; COMP_WORDS=({given}); COMP_CWORD={len(words) - 1}; _abt; printf '%s\\n' \"${{COMPREPLY[@]}}\""
-    return ran("bash", "-c", script).stdout.split()
+    asked = f"COMP_WORDS=({given}); COMP_CWORD={len(words) - 1}; _abt; printf '%s\\n' \"${{COMPREPLY[@]}}\""
+    return ran("bash", "-c", f"source completions/abt.bash; {asked}").stdout.split()
 
 
 def faults():
     texts = {file.name: file.read_text() for file in (ROOT / "man" / "help").iterdir()}
     names = re.findall(r"^  ([a-z]+)  ", texts["abt"].split("Commands:\n", 1)[1].split("\n\n", 1)[0], re.M)
-    flags = {name: re.findall(r"(?<![\w-])--?[a-z][\w-]*", texts[f"abt-{name}"].partition("\nOptions:\n")[2].partition("\n\n")[0]) for name in names}
+    options = {name: texts[f"abt-{name}"].partition("\nOptions:\n")[2].partition("\n\n")[0] for name in names}
+    flags = {name: re.findall(r"(?<![\w-])--?[a-z][\w-]*", text) for name, text in options.items()}
     for page in sorted((ROOT / "man").glob("*.[1-9]")):
         if told := raw(page):
             yield f"{page.name}: {' '.join(told)} stand in it as in Markdown"
@@ -67,6 +67,9 @@ def faults():
                 yield f"bash completes {name} as {completed('abt', name)}"
             if missing := sorted({*flags[name]} - {*completed("abt", name, "-")}):
                 yield f"bash doesn't complete {missing} of abt {name}"
+        for given, wanted in ((("",), ["no", "request", "yes"]), (("re",), ["request"]), (("request", ""), [])):
+            if (found := sorted(it for it in completed("abt", "write", *given) if not it.startswith("-"))) != wanted:
+                yield f"bash completes abt write {given} as {found}"
         if "docs/" not in " ".join(completed("abt", "run", "doc")) and "docs" not in completed("abt", "run", "doc"):
             yield "bash completes no file behind abt run"
     for shell, file in (("zsh", "_abt"), ("fish", "abt.fish")):
@@ -74,8 +77,4 @@ def faults():
             yield f"{file}: {done.stderr[:200]}"
 
 
-found = list(faults())
-for fault in found:
-    print(f"test_pages: {fault}")
-print(f"test_pages: {len(found)} faults")
-sys.exit(1 if found else 0)
+report("pages and completions", list(faults()))
