@@ -1,13 +1,11 @@
 """Tries edits of must-fail/: the prover has to refuse each (`trial.py` says how).
 
-It works over the libraries that `rt ci` or `rt lib` left in crates/*/out of the repository ROOT. Each crate's checks hand on what they proved
-as a copy, and the first begins with what `rt lib` or `rt check` kept.
+It works over the libraries that `rt ci` or `rt lib` left in crates/*/out of the repository ROOT. Each crate's checks hand on what they
+proved as a copy, and the first begins with what `rt lib` or `rt check` kept. The committed evidence (`ledger.py`) knows which edits were
+refused.
 
-With `--new` only those edits are tried that the committed evidence doesn't know as refused (`ledger.py`), and with `--draw N` at least N
-others, of whole crates, drawn by the word SEED. `--write` writes into the evidence what was refused. With `--alone` each edit has a check of
-its own; with `--share K/N` only the edits of each N-th crate are tried, from the K-th on, so that N runs try all.
-
-usage: edits.py [--root ROOT] [--jobs N] [--alone] [--share K/N] [--new] [--draw N --seed WORD] [--write] [NAME..]     (NAME: a crate, or crate/edit)
+usage: edits.py [--root ROOT] [--jobs N] [--alone] [--share K/N] [--new] [--draw N --seed WORD] [--write] [NAME..]
+                (NAME: a crate, or crate/edit)
 """
 import argparse
 import os
@@ -64,9 +62,8 @@ def try_crate(crate, words):
 
 def tell_crate(crate, tried):
     lines = [tell(edit) for edit in tried.edits if edit.how != "known"]
-    known = sum(edit.how == "known" for edit in tried.edits)
-    lines.append(f"edits: {crate.name}: {len(tried.edits) - known} tried, {known} known, in {tried.shared} batches and {tried.alone} alone, {tried.seconds:.0f} s")
-    print("\n".join(lines), flush=True)
+    counts = f"{len(lines)} tried, {len(tried.edits) - len(lines)} known, in {tried.shared} batches and {tried.alone} alone"
+    print("\n".join([*lines, f"edits: {crate.name}: {counts}, {tried.seconds:.0f} s"]), flush=True)
 
 
 def tell(edit):
@@ -97,8 +94,8 @@ def arguments():
 
 
 def crates_of(root, words):
-    """The crates with edits that are asked for, the longest first, so that no processor waits for one crate in the end. An edit takes longer
-    the more crates are below its own."""
+    """The crates with edits that are asked for, the longest first, so that no processor waits for one crate in the end. An edit takes
+    longer the more crates are below its own."""
     named = {name.split("/")[0] for name in words.names}
     crates = [crate for crate in rt.rtlib.crates_below(root) if rt.edits_of(crate) != ([], []) and (not named or crate.name in named)]
     crates.sort(key=lambda crate: -len(rt.edits_of(crate)[0]) * (5 + len(crate.below())))
@@ -123,7 +120,8 @@ def main():
     shared, alone = sum(tried.shared for tried in given), sum(tried.alone for tried in given)
     told = sum(edit.is_refused and edit.by_kit and bool(edit.witness) for edit in edits)
     print(f"edits: the goals of {told} are false by their witness; {(used.ru_utime + used.ru_stime) / 60:.0f} processor minutes")
-    print(f"edits: {len(edits) - known} tried, of which {len(drawn)} were drawn, in {shared} batches and {alone} checks of one alone; {known} known by the evidence")
+    how = f"in {shared} batches and {alone} checks of one alone"
+    print(f"edits: {len(edits) - known} tried, of which {len(drawn)} were drawn, {how}; {known} known by the evidence")
     print(f"{refused} passed, {len(edits) - refused} failed")
     sys.exit(0 if refused == len(edits) else 1)
 

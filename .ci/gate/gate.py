@@ -1,15 +1,7 @@
 """The gate: the tests without a proof, the proof of everything from nothing, the program as each compiler built it, and the evidence.
 
-It works on a copy of the checkout, so a run that is interrupted changes nothing here. Its parts, in order:
-- `./abt --test`; if something of that fails, the gate ends there.
-- `rt ci`: every function of every crate is proved, and of the crates of tests those of which the committed evidence doesn't say so over all
-  as it is, and one more, drawn. Must-fail edits and the other crates of tests are set aside.
-- The scripts of tests/ with the proved program as LLVM and as Rattle's own compiler built it; misuses that must not compile; tests with
-  each seventh of their allocations refused; the library for C; the tests of the gate's own scripts.
-- Beside them the must-fail edits that the evidence doesn't know as refused, and at least 150 others of whole crates, drawn.
-
-The seed of each draw is the commit's name. After a run without a failure the proved program stands in crates/abt/out, where `./abt` takes
-it from. The last line is `N passed, M failed`.
+CONTRIBUTING.md, "The gate", says what each part is. It works on a copy of the checkout, so a run that is interrupted changes nothing
+here. After a run without a failure the proved program stands in crates/abt/out. The last line is `N passed, M failed`.
 
 usage: .ci/run                     tries what the evidence doesn't know, and what is drawn
        .ci/run --all [K/N]         tries all edits and proves all tests, or the K-th of N shares of them
@@ -38,7 +30,10 @@ from ledger import Ledger  # noqa: E402
 
 # How many known edits are drawn, at least.
 DRAWN = 150
+# How many of the last lines of a part that failed are told once more at the end.
+TOLD = 10
 COUNTS = re.compile(r"(\d+) passed, (\d+) failed")
+FAILURE = re.compile(r"FAILED|NOT PROVED|NOT REFUSED|BAD EDIT")
 SCRIPT = [sys.executable, "-B"]
 
 
@@ -69,33 +64,36 @@ class Gate:
         began, told = time.time(), ""
         started = processes.start(words, self.copy, subprocess.PIPE)
         for line in started.stdout:
-            line = line.decode(errors="replace")
-            told += line
+            told += (line := line.decode(errors="replace"))
             if is_counted and not COUNTS.fullmatch(line.strip()):
                 with self.lock:
                     print(line, end="", flush=True)
         processes.ended(started)
         counts = COUNTS.fullmatch(told.rstrip("\n").split("\n")[-1]) if is_counted else None
-        if not is_counted:
-            with self.lock:
-                print(told, end="", flush=True)
-        elif counts:
-            with self.lock:
-                self.passed, self.failed = self.passed + int(counts[1]), self.failed + int(counts[2])
-                self.failures += [line for line in told.split("\n") if re.search(r"FAILED|NOT PROVED|NOT REFUSED|BAD EDIT", line)]
-        is_well = started.returncode == 0 and (bool(counts) or not is_counted)
-        if not is_well and not (counts and int(counts[2])):
-            self.fail(f"{name} ended with status {started.returncode}" + ("" if counts or not is_counted else ", without its counts"))
+        passed, failed = map(int, counts.groups()) if counts else (0, 0)
+        with self.lock:
+            print("" if is_counted else told, end="", flush=True)
+            self.passed, self.failed = self.passed + passed, self.failed + failed
+            self.failures += [line for line in told.split("\n") if is_counted and FAILURE.search(line)]
+        is_well = started.returncode == 0 and bool(counts) == is_counted
+        if not is_well and not failed:
+            how = f"{name} ended with status {started.returncode}" + ", without its counts" * (is_counted and not counts)
+            self.fail("\n".join([how, *told.rstrip("\n").split("\n")[-TOLD:]]))
         used = resource.getrusage(resource.RUSAGE_CHILDREN)
-        self.say(f"{name}: {(time.time() - began) / 60:.1f} minutes; in all {(time.time() - self.began) / 60:.1f}, of processors {(used.ru_utime + used.ru_stime) / 60:.1f}")
+        minutes = [spent / 60 for spent in (time.time() - began, time.time() - self.began, used.ru_utime + used.ru_stime)]
+        self.say("{}: {:.1f} minutes; in all {:.1f}, of processors {:.1f}".format(name, *minutes))
         return is_well
 
     def script(self, file, *more, is_counted=False):
         return self.run(" ".join((Path(file).stem, *(Path(word).name for word in more))), [*SCRIPT, file, *more], is_counted)
 
     def make_copy(self):
-        leave = shutil.ignore_patterns(".git", "__pycache__")
-        shutil.copytree(TOP, self.copy, ignore=lambda at, names: [*leave(at, names), *(["out"] if Path(at).parent.name == "crates" else [])], symlinks=True)
+        """A copy of the checkout, without what was built."""
+
+        def left_out(at, names):
+            return {".git", "__pycache__", *(["out"] if Path(at).parent.name == "crates" else [])}.intersection(names)
+
+        shutil.copytree(TOP, self.copy, ignore=left_out, symlinks=True)
 
     def test(self):
         """The tests without a proof. What they left in out/ is no concern of the proof."""
@@ -103,9 +101,8 @@ class Gate:
             raise Failed
         shutil.rmtree(self.copy / "crates" / "abt" / "out")
 
-    def chosen_tests(self):
-        """The crates of tests that this run proves, with those that only these stand on."""
-        ledger = Ledger(self.copy)
+    def chosen_tests(self, ledger):
+        """The crates of tests that this run proves, and those that it doesn't, with those that only these stand on."""
         crates, tests = ledger.crates, ledger.with_tests()
         if self.words.all:
             first, every = self.words.all
@@ -113,26 +110,24 @@ class Gate:
         else:
             chosen = sorted({*tests} - {*ledger.known_tests()} | {*ledger.drawn_tests(self.words.seed)})
         self.say(f"of {len(tests)} crates of tests these are proved: {' '.join(chosen) or 'none'}")
-        return crates, chosen, [it for it in of_tests(crates) if it not in chosen and not any(it in below(crates, top) for top in chosen)]
+        return chosen, of_tests(crates).difference(chosen, *(below(crates, top) for top in chosen))
 
     def prove(self):
         """Proves every crate from nothing, with the chosen crates of tests; without must-fail edits."""
-        crates, chosen, left_out = self.chosen_tests()
-        listed = (self.copy / "crates.txt").read_text()
-        aside = self.room / "aside"
-        for name in crates:
-            if (wrong := crates[name].folder / "must-fail").is_dir():
-                shutil.move(wrong, aside / name)
-        for name in left_out:
-            shutil.move(crates[name].folder, self.room / "left_out" / name)
-        gone = re.compile(rf"^({'|'.join(left_out)})( [^:\n]*)?:.*\n", re.M) if left_out else re.compile(r"(?!)")
-        (self.copy / "crates.txt").write_text(gone.sub("", listed))
+        ledger = Ledger(self.copy)
+        chosen, left_out = self.chosen_tests(ledger)
+        aside = [crate.folder / "must-fail" for crate in ledger.crates.values() if (crate.folder / "must-fail").is_dir()]
+        aside += [ledger.crates[name].folder for name in left_out]
+        file = self.copy / "crates.txt"
+        listed = file.read_text()
+        kept = [line for line in listed.split("\n") if not {*line.partition(":")[0].split()[:1]} & left_out]
+        for number, folder in enumerate(aside):
+            shutil.move(folder, self.room / f"aside{number}")
+        file.write_text("\n".join(kept))
         is_well = self.run("rt ci", ["rt", "ci"], is_counted=True)
-        (self.copy / "crates.txt").write_text(listed)
-        for folder in [*aside.glob("*")]:
-            shutil.move(folder, self.copy / "crates" / folder.name / "must-fail")
-        for name in left_out:
-            shutil.move(self.room / "left_out" / name, self.copy / "crates" / name)
+        file.write_text(listed)
+        for number, folder in reversed([*enumerate(aside)]):
+            shutil.move(self.room / f"aside{number}", folder)
         if not is_well:
             raise Failed
         if self.words.write:
@@ -156,8 +151,8 @@ class Gate:
         """All that needs the proof, but for the edits: one after the other, or two where there are four processors."""
         tasks = [(".ci/gate/c_library.py", "--as-built"), ("tools/sweeps", "--every", "7"), (".ci/gate/must_not_compile.py",)]
         tasks += [(".ci/gate/test_edits.py",), (".ci/gate/test_ledger.py",)]
-        scripts = sorted(str(file.relative_to(self.copy)) for file in (self.copy / "tests").glob("*.py") if re.search(r"^usage: \S+ \[?PROGRAM", file.read_text(), re.M))
-        tasks += [(file, program) for file in scripts for program in self.programs()]
+        asking = [file for file in (self.copy / "tests").glob("*.py") if re.search(r"^usage: \S+ \[?PROGRAM", file.read_text(), re.M)]
+        tasks += [(str(file.relative_to(self.copy)), program) for file in sorted(asking) for program in self.programs()]
         with ThreadPoolExecutor(max(1, self.jobs // 2)) as pool:
             list(pool.map(lambda task: self.script(*task), tasks))
 
@@ -183,11 +178,10 @@ class Gate:
         os.utime(out / "abt.built", (self.began, self.began))
 
     def hand_over_evidence(self):
-        if self.words.write and (self.copy / ".ci" / "evidence").is_dir():
-            shutil.copytree(self.copy / ".ci" / "evidence", TOP / ".ci" / "evidence", dirs_exist_ok=True)
-            for file in (TOP / ".ci" / "evidence").iterdir():
-                if not (self.copy / ".ci" / "evidence" / file.name).exists():
-                    file.unlink()
+        made, kept = (top / ".ci" / "evidence" for top in (self.copy, TOP))
+        if self.words.write and made.is_dir():
+            shutil.rmtree(kept, ignore_errors=True)
+            shutil.copytree(made, kept)
 
 
 def seed_of(top):
@@ -224,7 +218,7 @@ def main():
         processes.clear_rooms()
     # Once more what failed, so that it stands where a log is read first.
     if gate.failed:
-        print("gate: what failed:", *(failure[:1000] for failure in gate.failures), sep="\n")
+        print("gate: what failed:", *(failure[:2000] for failure in gate.failures), sep="\n")
     print(f"{gate.passed} passed, {gate.failed} failed")
     sys.exit(1 if gate.failed else 0)
 

@@ -1,8 +1,8 @@
 """The committed evidence: a file .ci/evidence/NAME for each crate with must-fail edits or tests.
 
 Its first line has the digest of all that the evidence rests on (`digest.py`), and each other line says what was seen over just that:
-`refused EDIT SUM GOAL`, that the prover refused an edit whose file has this sum, by this goal; or `proved tests`. A file is written only by
-the script that saw the refusal or the proof. Over another digest its lines count for nothing.
+`refused EDIT SUM GOAL`, that the prover refused an edit whose file has this sum, by this goal; or `proved tests`. A file is written only
+by the script that saw the refusal or the proof. Over another digest its lines count for nothing.
 
 usage: ledger.py [--draw N --seed WORD]      tells what the evidence lacks, and which edits and tests a run with this seed would try again
 """
@@ -10,6 +10,7 @@ import argparse
 import hashlib
 import os
 import random
+import re
 from pathlib import Path
 
 from digest import Digests
@@ -33,13 +34,12 @@ class Ledger:
         return sorted((self.crates[name].folder / "must-fail").glob("*.edit"))
 
     def read(self, name):
-        """The digest that a crate's evidence rests on, its refused edits, each with its sum and how it was refused, and whether its tests are
-        proved."""
+        """The digest that a crate's evidence rests on, its refused edits, each with its sum and how it was refused, and whether its tests
+        are proved."""
         try:
             first, *lines = (self.place / name).read_text().rstrip("\n").split("\n")
-            rows = [line.split("\t") for line in lines]
-            refused = {edit: (sum, how) for word, edit, sum, how in (row for row in rows if len(row) == 4) if word == "refused"}
-            return first.removeprefix("digest "), refused, ["proved", "tests"] in rows
+            refused = dict(re.findall(r"^refused\t([^\t]*)\t([^\t]*\t[^\t]*)$", "\n".join(lines), re.M))
+            return first.removeprefix("digest "), {edit: tuple(row.split("\t")) for edit, row in refused.items()}, "proved\ttests" in lines
         except OSError:
             return "", {}, False
 
@@ -77,23 +77,21 @@ class Ledger:
         os.replace(made, self.place / name)
 
     def drawn(self, number, seed):
-        """Known edits of whole crates, at least so many if there are, drawn by a word that nobody picks. By crates, as a check of some edits
-        of a crate proves first what their functions call."""
-        known = self.known()
-        by_crate = {name: {it for it in known if it[0] == name} for name in sorted({name for name, _ in known})}
-        order = sorted(by_crate)
+        """Known edits of whole crates, at least so many if there are, drawn by a word that nobody picks. By crates, as a check of some
+        edits of a crate proves first what their functions call."""
+        by_crate = {}
+        for edit in sorted(self.known()):
+            by_crate.setdefault(edit[0], set()).add(edit)
+        order = [*by_crate]
         random.Random(f"edits {seed}").shuffle(order)
         found, passed_over = set(), []
         for name in order:
-            if len(found) >= number:
-                break
             if found and len(found) + len(by_crate[name]) > number * MOST:
                 passed_over.append(name)
-            else:
+            elif len(found) < number:
                 found |= by_crate[name]
         for name in sorted(passed_over, key=lambda name: len(by_crate[name])):
-            if len(found) < number:
-                found |= by_crate[name]
+            found |= by_crate[name] if len(found) < number else set()
         return found
 
     def drawn_tests(self, seed):
@@ -104,17 +102,14 @@ class Ledger:
 
 def main():
     reader = argparse.ArgumentParser(description=__doc__, formatter_class=argparse.RawDescriptionHelpFormatter)
-    reader.add_argument("--root", default=str(TOP), help=argparse.SUPPRESS)
     reader.add_argument("--draw", type=int, default=150, metavar="N")
     reader.add_argument("--seed", default="", metavar="WORD")
-    words = reader.parse_args()
-    ledger = Ledger(words.root)
-    every = {(name, it.stem) for name in ledger.crates for it in ledger.edits(name)}
-    known, drawn = ledger.known(), ledger.drawn(words.draw, words.seed)
-    new, tests = every - known, set(ledger.with_tests()) - set(ledger.known_tests())
-    print(f"ledger: {len(every)} edits, {len(known)} known as refused; to be tried: {counts(new)}")
-    print(f"ledger: drawn: {counts(drawn)}")
-    print(f"ledger: {len(ledger.with_tests())} crates of tests; to be proved: {' '.join(sorted(tests)) or 'none'}; drawn: {' '.join(ledger.drawn_tests(words.seed))}")
+    words, ledger = reader.parse_args(), Ledger(TOP)
+    every, known = {(name, it.stem) for name in ledger.crates for it in ledger.edits(name)}, ledger.known()
+    print(f"ledger: {len(every)} edits, {len(known)} known as refused; to be tried: {counts(every - known)}")
+    print(f"ledger: drawn: {counts(ledger.drawn(words.draw, words.seed))}")
+    tests, drawn = sorted({*ledger.with_tests()} - {*ledger.known_tests()}), ledger.drawn_tests(words.seed)
+    print(f"ledger: of {len(ledger.with_tests())} crates of tests to be proved: {' '.join(tests) or 'none'}; drawn: {' '.join(drawn)}")
 
 
 def counts(edits):

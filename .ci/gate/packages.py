@@ -1,7 +1,7 @@
 """Tests a release's packages: makes them twice, unpacks one into an empty root, and uses what stands there in each language.
 
-The packages are the same octets each time; `make -C c install` and what `./abt --install` does put the same files; the receipt has the digest
-of each. The examples are built and run from the unpacked archive in C, by CMake, in C++, Rust and Python, without the command rt on PATH,
+The packages are the same octets each time; `make -C c install` and `./abt --install` put the same files; the receipt has the digest of
+each. The examples are built and run from the unpacked archive in C, by CMake, in C++, Rust and Python, without the command rt on PATH,
 and misuse is refused. What this machine has no tool for is said and left out.
 
 usage: packages.py [PROGRAM LIBRARY]     (without them, those of crates/abt/out and crates/abt_c/out)
@@ -19,7 +19,7 @@ sys.path.insert(0, str(ROOT / "tools"))
 import installed  # noqa: E402
 import packages as release  # noqa: E402
 import processes  # noqa: E402
-import use_packages  # noqa: E402
+from use_packages import Uses  # noqa: E402
 
 PROVED = (ROOT / "crates" / "abt" / "out" / "abt", ROOT / "crates" / "abt_c" / "out" / "libabt_c.a")
 ABOUT, MOMENT = ["commit none", "gate none: a test"], 1_000_000_000
@@ -33,9 +33,8 @@ def same_twice(program, library, room):
     """Makes the packages twice, and gives the first ones."""
     both = []
     for name in ("first", "second"):
-        to = room / name
-        to.mkdir()
-        both.append(release.make(program, library, ABOUT, MOMENT, to, processes.room(room)))
+        (room / name).mkdir()
+        both.append(release.make(program, library, ABOUT, MOMENT, room / name, processes.room(room)))
     for one, other in zip(*both):
         if one.read_bytes() != other.read_bytes():
             fail(f"{one.name} isn't the same octets each time")
@@ -43,7 +42,8 @@ def same_twice(program, library, room):
 
 
 def files_below(folder):
-    return {str(file.relative_to(folder)): (file.read_bytes(), file.stat().st_mode & 0o777) for file in folder.rglob("*") if file.is_file()}
+    files = (file for file in folder.rglob("*") if file.is_file())
+    return {str(file.relative_to(folder)): (file.read_bytes(), file.stat().st_mode & 0o777) for file in files}
 
 
 def unpack(archive, room):
@@ -82,55 +82,50 @@ def same_as_deb(deb, root, room):
 
 def check_library(root):
     """The shared library has the calls of the header, and needs no other library."""
-    told = subprocess.run(["nm", "-D", "--defined-only", root / "lib" / "libabt.so.0"], check=True, capture_output=True, text=True).stdout
+    library = root / "lib" / "libabt.so.0"
+    told = [subprocess.run([*it, library], check=True, capture_output=True, text=True).stdout for it in (["nm", "-D"], ["readelf", "-d"])]
     calls = set(re.findall(r"^(?!static)(?:const )?\w+ \*?(abt_\w+)\(", (root / "include" / "abt.h").read_text(), re.M))
-    found = {name for name in re.findall(r" T (\w+)", told)}
-    if found != calls:
-        fail(f"the shared library and the header differ in {sorted(found ^ calls)}")
-    needed = subprocess.run(["readelf", "-d", root / "lib" / "libabt.so.0"], check=True, capture_output=True, text=True).stdout
-    if "NEEDED" in needed and not os.environ.get("LIBS"):
+    if differ := calls ^ {*re.findall(r" T (\w+)", told[0])}:
+        fail(f"the shared library and the header differ in {sorted(differ)}")
+    if "NEEDED" in told[1] and not os.environ.get("LIBS"):
         fail("the shared library needs another one")
 
 
 def path_without_kit(room):
     """A PATH on which all is but the command rt: where that stands, the other commands beside it get names of their own."""
-    folders = []
-    for number, folder in enumerate(os.environ["PATH"].split(":")):
-        if (Path(folder) / "rt").exists():
-            beside = room / f"path{number}"
-            beside.mkdir()
-            for file in Path(folder).iterdir():
+    folders = list(map(Path, os.environ["PATH"].split(":")))
+    for number, folder in enumerate(folders):
+        if (folder / "rt").exists():
+            folders[number] = room / f"path{number}"
+            folders[number].mkdir()
+            for file in folder.iterdir():
                 if file.name != "rt":
-                    (beside / file.name).symlink_to(file)
-            folder = str(beside)
-        folders.append(folder)
-    return ":".join(folders)
+                    (folders[number] / file.name).symlink_to(file)
+    return ":".join(map(str, folders))
 
 
 def main():
-    program, library = map(Path, sys.argv[1:] or PROVED)
+    program, library = (Path(it).absolute() for it in sys.argv[1:] or PROVED)
     if not shutil.which("cc") or not shutil.which("make"):
         print("packages: no cc or no make here, so no package was made")
         return
     if not sys.argv[1:] and not program.is_file():
         print("packages: no proved program here, so no package was made")
         return
-    for file in (program, library):
-        if not file.is_file():
-            fail(f"there is no {file}")
+    if missing := [file for file in (program, library) if not file.is_file()]:
+        fail(f"there is no {missing[0]}")
     processes.end_on_signals("packages")
     room = processes.room(None, "packages-")
     try:
-        made = same_twice(program.absolute(), library.absolute(), room)
+        made = same_twice(program, library, room)
         root = unpack(made[0], room)
-        same_installed(program.absolute(), library.absolute(), root, room)
+        same_installed(program, library, root, room)
         check_library(root)
         if len(made) > 1:
             same_as_deb(made[1], root, room)
-        uses = use_packages.Uses(root, room, path_without_kit(room))
-        uses.try_all()
-        left_out = [*uses.left_out, *["a Debian package"] * (len(made) == 1)]
-        print(f"packages: {', '.join(file.name for file in made)} are the same octets each time; used in {', '.join(uses.tried)}")
+        tried, left_out = Uses(root, processes.room(room), path_without_kit(room), release.version()).try_all()
+        left_out += ["a Debian package"] * (len(made) == 1)
+        print(f"packages: {', '.join(file.name for file in made)} are the same octets each time; used in {', '.join(tried)}")
         if left_out:
             print(f"packages: no tool here for {', '.join(left_out)}")
     finally:

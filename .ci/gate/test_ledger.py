@@ -1,101 +1,30 @@
-"""Tests the committed evidence on a small repository of its own: which crates' digests each kind of change touches, what is known after an
-edit is renamed, doubled, changed or gone, and what is drawn.
+"""Tests the committed evidence on a small repository of its own (cases/ledger.toml): which crates' digests each kind of change touches,
+what is known after an edit is renamed, doubled, changed or gone, and what is drawn.
 
 usage: test_ledger.py
 """
 import shutil
 import sys
 import tempfile
+import tomllib
 from pathlib import Path
 
 HERE = Path(__file__).resolve().parent
-sys.path.insert(0, str(HERE))
+sys.path[:0] = [str(HERE), str(HERE.parents[1] / "tests")]
 import digest  # noqa: E402
+from harness import claims, put  # noqa: E402
 from ledger import Ledger  # noqa: E402
 
-LOW = """//! A crate at the bottom.
-#![tactic(auto)]
-ghost use Rattle.std.specs.Prelude.{◌≤◌};
-
-/// The most of a share.
-pub const MOST: u32 = 10;
-
-/// A share of a name.
-pub struct Share {
-    pub name: u32,
-}
-
-/// The lesser of a number and the most.
-pub fn share(count: u32) -> u32
-    ensures most { result ≤ 10 }
-{
-    if count < MOST { count } else { MOST }
-}
-
-/// A word with two spaces.
-pub fn word() -> &'static str {
-    "a  word" // that is told
-}
-
-/// Twice a number, which a caller's check may run.
-pub const fn twice(count: u8) -> u16 {
-    count as u16 + count as u16
-}
-
-/// Counts down.
-pub fn down(count: u32) -> u32 {
-    if count == 0 { 0 } else { down(count - 1) }
-}
-"""
-FILES = {
-    "crates.txt": "low: thiserror\nhigh: low\nbeside: low high\nwalk: low\nrows tests_may=Wait: high walk\n",
-    "crates/low/src/lib.rt": LOW,
-    "crates/low/specs/Lib.antt": "-- Definitions.\npub least : ℕ\nleast = 1\n",
-    "crates/low/proofs/Lemmas.antt": "-- Lemmas.\npub lemma : Type 0\nlemma = ℕ\n",
-    "crates/low/proofs/share/Answers.antt": "most : goal.most\nmost = search\n",
-    "crates/high/src/lib.rt": "//! Above it.\nmod part;\n",
-    "crates/high/src/part.rt": "pub fn part(count: u32) -> u32 {\n    low::share(count)\n}\n",
-    "crates/beside/src/lib.rt": "pub fn beside() {}\n",
-    "crates/walk/src/lib.rt": "pub fn walk() -> u32 {\n    1\n}\n",
-    "crates/rows/src/lib.rt": "//! Tests.\n#[cfg(test)]\nmod tests;\n",
-    "crates/rows/src/tests.rt": "#[test]\nfn one(rt: HostRuntime) {}\n",
-}
-ABOVE_LOW = {"low", "high", "beside", "walk", "rows"}
-# A change, the file, the text that is there and the new one, and the crates whose digests differ with it.
-CHANGES = [
-    ("a body", "crates/low/src/lib.rt", "count < MOST", "MOST > count", {"low"}),
-    ("a clause", "crates/low/src/lib.rt", "result ≤ 10", "result ≤ 11", ABOVE_LOW),
-    ("a header", "crates/low/src/lib.rt", "pub fn share(count: u32)", "pub fn share(number: u32)", ABOVE_LOW),
-    ("a constant", "crates/low/src/lib.rt", "MOST: u32 = 10", "MOST: u32 = 9", ABOVE_LOW),
-    ("a type", "crates/low/src/lib.rt", "pub name: u32", "pub name: u64", ABOVE_LOW),
-    ("the body of a const fn", "crates/low/src/lib.rt", "count as u16 + count as u16", "count as u16 * 2", ABOVE_LOW),
-    ("the body of a function that calls itself", "crates/low/src/lib.rt", "if count == 0 { 0 }", "if 0 == count { 0 }", ABOVE_LOW),
-    ("a comment", "crates/low/src/lib.rt", "/// The most of a share.", "/// The most.", set()),
-    ("a comment behind code", "crates/low/src/lib.rt", "// that is told", "// told", set()),
-    ("the layout of code", "crates/low/src/lib.rt", "{\n    if count < MOST { count }", "{\n    if count < MOST {\n        count\n    }", set()),
-    ("the spaces of a string", "crates/low/src/lib.rt", '"a  word"', '"a word"', {"low"}),
-    ("a definition", "crates/low/specs/Lib.antt", "least = 1", "least = 2", ABOVE_LOW),
-    ("a comment of a definition", "crates/low/specs/Lib.antt", "-- Definitions.", "-- What it means.", set()),
-    ("a lemma", "crates/low/proofs/Lemmas.antt", "lemma = ℕ", "lemma = Type 0", ABOVE_LOW),
-    ("a proof of a function", "crates/low/proofs/share/Answers.antt", "search", "omega", {"low"}),
-    ("a body in the middle", "crates/high/src/part.rt", "low::share(count)", "low::share(count + 0)", {"high"}),
-    ("a test", "crates/rows/src/tests.rt", "fn one", "fn two", {"rows"}),
-    ("a body below tests alone", "crates/walk/src/lib.rt", "1", "2", {"walk", "rows"}),
-    ("the libraries of a crate", "crates.txt", "high: low\n", "high: low itoa\n", {"high", "rows", "beside"}),
-    ("the words of a crate", "crates.txt", "beside: low high", "beside staticlib: low high", {"beside"}),
-    ("a crate that stands apart", "crates.txt", "low: thiserror\n", "low: thiserror\n# A comment.\n", set()),
-]
+CASES = tomllib.loads((HERE / "cases" / "ledger.toml").read_text())
 
 
 class Repository:
     def __init__(self, folder):
-        self.root = Path(folder)
-        for name, text in FILES.items():
-            self.write(name, text)
+        self.root = folder
+        put(folder, CASES["files"])
 
     def write(self, name, text):
-        (self.root / name).parent.mkdir(parents=True, exist_ok=True)
-        (self.root / name).write_text(text)
+        put(self.root, {name: text})
 
     def digests(self):
         found = digest.Digests(self.root)
@@ -108,22 +37,25 @@ class Repository:
         return {name for _, name in Ledger(self.root).known()}
 
 
-def digests(it):
+def digests(folder):
+    it = Repository(folder)
     before = it.digests()
-    for what, file, old, new, wanted in CHANGES:
+    for change in CASES["change"]:
+        what, file, wanted = change["what"], change["file"], change["differ"]
         text = (it.root / file).read_text()
-        yield f"{what}: the text to change stands there once", text.count(old) == 1
-        it.write(file, text.replace(old, new))
+        yield f"{what}: the text to change stands there once", text.count(change["old"]) == 1
+        it.write(file, text.replace(change["old"], change["new"]))
         after = it.digests()
         it.write(file, text)
-        found = {name for name in before if before[name] != after[name]}
-        yield f"{what}: the digests of {sorted(found)} differ, and not of {sorted(wanted)}", found == wanted
+        found = sorted(name for name in before if before[name] != after[name])
+        yield f"{what}: the digests of {found} differ, and not of {wanted}", found == wanted
     yield "nothing changed, and each digest is as before", it.digests() == before
     it.edit("one")
     yield "an edit is no part of what it rests on", it.digests() == before
 
 
-def rule(it):
+def rule(folder):
+    it = Repository(folder)
     before = it.digests()
     with tempfile.TemporaryDirectory() as folder:
         kit_id = Path(digest.kit.rt().rtlib.KIT, "KIT-ID")
@@ -142,7 +74,8 @@ def rule(it):
         digest.__file__, digest.KIT_ID = was, own
 
 
-def evidence(it):
+def evidence(folder):
+    it = Repository(folder)
     for name in ("one", "two", "three"):
         it.edit(name, text=f"file: src/lib.rt\nold: a\nnew: {name}\n")
     yield "nothing is known at first", it.known() == set()
@@ -162,7 +95,8 @@ def evidence(it):
     Ledger(it.root).write("low", {"another": "`most` of share"})
     rows = (it.root / ".ci/evidence/low").read_text()
     yield "what is gone is written down no more", "three" not in rows and "\tone\t" not in rows and "another" in rows
-    it.write("crates/low/src/lib.rt", LOW.replace("count < MOST", "MOST > count"))
+    low = (it.root / "crates/low/src/lib.rt").read_text()
+    it.write("crates/low/src/lib.rt", low.replace("count < MOST", "MOST > count"))
     yield "over another body nothing is known", it.known() == set()
     Ledger(it.root).write("low", {"two": "`most` of share"})
     yield "over another body older lines are dropped", it.known() == {"two"} and "another" not in (it.root / ".ci/evidence/low").read_text()
@@ -176,7 +110,8 @@ def evidence(it):
         yield f"evidence that reads {text!r} is none", it.known() == set()
 
 
-def draws(it):
+def draws(folder):
+    it = Repository(folder)
     sizes = {"low": 30, "high": 20, "beside": 5, "walk": 60}
     for crate, size in sizes.items():
         for number in range(size):
@@ -197,16 +132,4 @@ def draws(it):
     yield "a crate of tests is drawn", Ledger(it.root).drawn_tests("seed") == ["rows"]
 
 
-def main():
-    told = []
-    for test in (digests, rule, evidence, draws):
-        with tempfile.TemporaryDirectory(prefix="test-ledger-") as folder:
-            told += [(test.__name__, what, holds) for what, holds in test(Repository(folder))]
-    failed = [(name, what) for name, what, holds in told if not holds]
-    for name, what in failed:
-        print(f"test_ledger: {name}: not so: {what}")
-    print(f"test_ledger: {len(told)} looked at, {len(failed)} failed")
-    sys.exit(1 if failed else 0)
-
-
-main()
+claims(digests, rule, evidence, draws)
