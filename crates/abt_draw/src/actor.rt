@@ -63,7 +63,7 @@ pub fn column_of(columns: &[Actor], who: Actor) -> Option<u32>
 }
 
 /// The columns of a picture, in the order of the paths: for each connection that is shown its source, the ports of
-/// its path that have no column yet, and the end of its path. They are all connections if `only` names none. `None`
+/// its path that have no column yet, and the end of its path. If `only` names none, all are shown. `None`
 /// if there are more than [`COLUMNS_MAX`] columns.
 ///
 /// # Errors

@@ -33,7 +33,7 @@ impl Band {
     }
 }
 
-/// The place of the axis after so many of the events that are shown.
+/// The place on the axis behind so many of the shown events.
 pub(crate) fn edge_of(sheet: &Sheet<'_>, frame: usize) -> u64 {
     let width = sheet
         .width()

@@ -55,7 +55,7 @@ pub fn drawing_of<R: Read>(
 /// are stuck behind them.
 ///
 /// # Errors
-/// A connection or events that are named and aren't there, what is too much for one picture, or want of memory.
+/// A connection or events that are named and aren't there, too much for one picture, or want of memory.
 pub fn picture_of(alloc: Global, plan: &PicturePlan, scene: &Scene<'_>) -> Result<String, DrawFault>
     ensures ok { IfOk result (λ text. IsPicture plan.now scene.now (string_bytes text)) }
     ensures err { IfErr result (IsUndrawn plan.now scene.now.net.now scene.now.events.now) }

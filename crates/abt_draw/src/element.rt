@@ -167,7 +167,7 @@ pub fn push_label(
     )
 }
 
-/// Adds a group of elements, with the title that is told of them. It can be gone to by its name and by keys.
+/// Adds a group of elements with their title. Links go to it by its name, and keys reach it.
 pub fn push_group(
     alloc: Global,
     out: &mut String,

@@ -17,7 +17,7 @@ const ROW: u64 = 130;
 
 const HEIGHT: u64 = 1050;
 
-/// Adds the legend, and gives its lower edge.
+/// Adds the legend, and returns its lower edge.
 #[tactic(auto, using(crate::proofs::Within::growing))]
 pub(crate) fn push_legend(
     sheet: &Sheet<'_>,

@@ -68,7 +68,7 @@ pub(crate) fn class_of(mark: Mark) -> &'static str
     }
 }
 
-/// On whose lifeline an event happens.
+/// The actor on whose lifeline an event happens.
 pub(crate) fn actor_of(net: &Net, event: &Event) -> Option<Actor>
     ensures { result ≡ spec.actor_of net.now event.now }
 {

@@ -21,7 +21,7 @@ use crate::{Actor, BAND_HEIGHT, Point, push_label, push_line};
 use abt_chart::Told;
 use std::alloc::AllocError;
 
-/// Adds all of a picture, and gives the lower edge of it. The explanation is that of the whole run.
+/// Adds all of a picture, and returns its lower edge. The explanation is that of the whole run.
 pub(crate) fn push_picture(
     sheet: &Sheet<'_>,
     out: &mut String,

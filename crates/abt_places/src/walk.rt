@@ -15,7 +15,7 @@ enum Current {
     Elsewhere,
 }
 
-/// Where the keys of a TOML document stand, and those of the tables in its array `sections`. Of a text that is no TOML it says what it likes.
+/// Where the keys of a TOML document stand, and those of the tables in its array `sections`. If it is no TOML, any places are returned.
 ///
 /// # Errors
 /// If memory is refused.

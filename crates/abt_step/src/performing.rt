@@ -13,7 +13,7 @@ use abt_scenario::{Scenario, read_from};
 use std::alloc::Global;
 use std::io::{Read, Write};
 
-/// Reads a scenario, lets its events happen to its net, answers all lines of a reader by that net in words, and gives the exit status: 0 if
+/// Reads a scenario, lets its events happen to its net, answers all lines of a reader by that net in words, and returns the status: 0 if
 /// all answers went out to `writer`, and 1 if a line on `errors` tells why not. A line that can't be written there changes no status.
 ///
 /// What a read of the lines ends is answered, and the answers written, before the next read.
@@ -49,7 +49,7 @@ fn in_words() -> AnswerForm
     }
 }
 
-/// The same with answers of another form.
+/// As [`perform_step`], with answers of any form.
 pub fn perform_step_as<N: Read, R: Read, W: Write, E: Write>(
     alloc: Global,
     form: AnswerForm,
