@@ -4,10 +4,11 @@ It works over the libraries that `rt ci` or `rt lib` left in crates/*/out of the
 proved as a copy, and the first begins with what `rt lib` or `rt check` kept. The committed evidence (`ledger.py`) knows which edits were
 refused.
 
-usage: edits.py [--root ROOT] [--jobs N] [--alone] [--share K/N] [--new] [--draw N --seed WORD] [--write] [NAME..]
+usage: edits.py [--root ROOT] [--jobs N] [--alone] [--share K/N] [--new] [--draw N --seed WORD [--until MOMENT]] [--write] [NAME..]
                 (NAME: a crate, or crate/edit)
 """
 import argparse
+import math
 import os
 import re
 import resource
@@ -45,6 +46,8 @@ def wanted_edits(crate, words):
 def try_crate(crate, words):
     """Tries a crate's edits but for those that are known, and writes down those that were refused, where it is asked to."""
     began, tried = time.time(), Tried(wanted_edits(crate, words))
+    if began > words.until:
+        leave_drawn(crate, words)
     for edit in tried.edits:
         if edit.fault:
             edit.verdict = f"BAD EDIT: {edit.fault}"
@@ -58,6 +61,15 @@ def try_crate(crate, words):
     tried.seconds = time.time() - began
     tell_crate(crate, tried)
     return tried
+
+
+def leave_drawn(crate, words):
+    """The time for drawn edits is up: those of a crate stay known. That is told."""
+    late = {it for it in words.drawn if it[0] == crate.name}
+    words.drawn -= late
+    words.known |= late
+    if late:
+        print(f"edits: {crate.name}: {len(late)} edits were drawn and aren't tried: the time for them is up", flush=True)
 
 
 def tell_crate(crate, tried):
@@ -88,17 +100,20 @@ def arguments():
     reader.add_argument("--new", action="store_true", help="only those that the evidence doesn't know as refused")
     reader.add_argument("--draw", type=int, default=0, metavar="N", help="with --new: at least N known ones too, of whole crates")
     reader.add_argument("--seed", default="", metavar="WORD", help="by which they are drawn: the commit's name")
+    reader.add_argument("--until", type=float, default=math.inf, metavar="MOMENT", help="no drawn crate is begun after it (seconds of time())")
     reader.add_argument("--write", action="store_true", help="write into the evidence what was refused")
     reader.add_argument("names", nargs="*", metavar="NAME")
     return reader.parse_args()
 
 
 def crates_of(root, words):
-    """The crates with edits that are asked for, the longest first, so that no processor waits for one crate in the end. An edit takes
-    longer the more crates are below its own."""
+    """The crates with edits that are asked for: those of which all are known last, and else the longest first, so that no processor waits
+    for one crate in the end. An edit takes longer the more crates are below its own."""
     named = {name.split("/")[0] for name in words.names}
     crates = [crate for crate in rt.rtlib.crates_below(root) if rt.edits_of(crate) != ([], []) and (not named or crate.name in named)]
-    crates.sort(key=lambda crate: -len(rt.edits_of(crate)[0]) * (5 + len(crate.below())))
+    known = words.ledger.known() if words.new else set()
+    is_known = lambda crate: all((crate.name, Path(path).stem) in known for path in rt.edits_of(crate)[0])
+    crates.sort(key=lambda crate: (is_known(crate), -len(rt.edits_of(crate)[0]) * (5 + len(crate.below()))))
     first, every = words.share
     return crates[first - 1 :: every]
 
@@ -110,8 +125,8 @@ def main():
     rt.rtlib.guarded()
     check.set_jobs(words.jobs)
     words.ledger = Ledger(root)
-    drawn = words.ledger.drawn(words.draw, words.seed)
-    words.known = words.ledger.known() - drawn if words.new else set()
+    words.drawn = words.ledger.drawn(words.draw, words.seed)
+    words.known = words.ledger.known() - words.drawn if words.new else set()
     with ThreadPoolExecutor(words.jobs) as pool:
         given = list(pool.map(lambda crate: try_crate(crate, words), crates_of(root, words)))
     edits = [edit for tried in given for edit in tried.edits]
@@ -121,7 +136,7 @@ def main():
     told = sum(edit.is_refused and edit.by_kit and bool(edit.witness) for edit in edits)
     print(f"edits: the goals of {told} are false by their witness; {(used.ru_utime + used.ru_stime) / 60:.0f} processor minutes")
     how = f"in {shared} batches and {alone} checks of one alone"
-    print(f"edits: {len(edits) - known} tried, of which {len(drawn)} were drawn, {how}; {known} known by the evidence")
+    print(f"edits: {len(edits) - known} tried, of which {len(words.drawn)} were drawn, {how}; {known} known by the evidence")
     print(f"{refused} passed, {len(edits) - refused} failed")
     sys.exit(0 if refused == len(edits) else 1)
 

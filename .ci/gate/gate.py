@@ -30,6 +30,8 @@ from ledger import Ledger  # noqa: E402
 
 # How many known edits are drawn, at least.
 DRAWN = 150
+# So many seconds after the gate's beginning no more crates of drawn edits are begun: a machine that is so slow wouldn't end in time.
+DRAWN_WITHIN = 120 * 60
 # How many of the last lines of a part that failed are told once more at the end.
 TOLD = 10
 COUNTS = re.compile(r"(\d+) passed, (\d+) failed")
@@ -144,7 +146,7 @@ class Gate:
         if self.words.all:
             more += ["--share", "/".join(map(str, self.words.all))]
         else:
-            more += ["--new", "--draw", str(DRAWN), "--seed", self.words.seed]
+            more += ["--new", "--draw", str(DRAWN), "--seed", self.words.seed, "--until", str(self.began + DRAWN_WITHIN)]
         self.script(".ci/gate/edits.py", *more, is_counted=True)
 
     def beside(self):

@@ -52,6 +52,9 @@ def judged(root):
     told, status = edits(root, "--new")
     are_known = f"{len(REFUSED) + 1} passed, 0 failed" in told and "edits: 0 tried" in told
     yield f"all edits are known, but: {told[-400:]}", not status and are_known
+    told, status = edits(root, "--new", "--draw", "1", "--seed", "a word", "--until", "0")
+    are_left = f"edits: tried: {len(REFUSED) + 1} edits were drawn and aren't tried" in told and "of which 0 were drawn" in told
+    yield f"what is drawn too late is told and not tried, but: {told[-400:]}", not status and are_left
     told, status = edits(root, "--new", "--draw", "1", "--seed", "a word")
     is_found = f"must-fail tried/{false}: NOT REFUSED" in told and f"{len(REFUSED)} passed, 1 failed" in told
     yield f"a draw finds the entry that was written by hand, but: {told[-400:]}", status and is_found
