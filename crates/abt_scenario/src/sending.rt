@@ -35,8 +35,9 @@ pub fn write_events<W: Write>(
 }
 
 #[tactic(auto, using(crate::proofs::Unsaved::unsampled_unsaved))]
-/// Writes a net and events as the text of a scenario, [`sample_text`], to a file: for every command with an option `--events OUT`. The file
-/// is made, or the one of that name emptied, once there is such a text. A fault is told by [`EventsFault::line`].
+/// Writes a net and events as the text of a scenario, [`sample_text`], straight to a file, for callers in Rust. The file is made, or the
+/// one of that name emptied, once there is such a text; `abt` itself writes its files whole or not at all, by `abt_files`. A fault is told
+/// by [`EventsFault::line`].
 ///
 /// # Errors
 /// The errors of [`sample_text`], with which the file is left as it was; [`EventsFault::Open`] if the file can't be made, or
