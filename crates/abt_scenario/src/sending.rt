@@ -13,7 +13,8 @@ use std::fs::File;
 use std::io::{ErrorKind, Write};
 use std::rt::Files;
 
-/// Writes a net and events as the text of a scenario, [`sample_text`]. Nothing is written before the whole text is made and read back.
+/// Writes a net and events as the text of a scenario, [`sample_text`], straight to a file, for callers in Rust; `abt` writes its own files by
+/// `abt_files`. The file is made, or the one of that name emptied, once there is such a text. A fault is told by [`EventsFault::line`].
 ///
 /// # Errors
 /// The errors of [`sample_text`], with which nothing went out; [`EventsFault::Write`] if the writer failed behind a part of the text.
