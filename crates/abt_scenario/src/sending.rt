@@ -13,8 +13,7 @@ use std::fs::File;
 use std::io::{ErrorKind, Write};
 use std::rt::Files;
 
-/// Writes a net and events as the text of a scenario, [`sample_text`], straight to a file, for callers in Rust; `abt` writes its own files by
-/// `abt_files`. The file is made, or the one of that name emptied, once there is such a text. A fault is told by [`EventsFault::line`].
+/// Writes a net and events as the text of a scenario, [`sample_text`]. Nothing is written before the whole text is made and read back.
 ///
 /// # Errors
 /// The errors of [`sample_text`], with which nothing went out; [`EventsFault::Write`] if the writer failed behind a part of the text.
@@ -36,9 +35,8 @@ pub fn write_events<W: Write>(
 }
 
 #[tactic(auto, using(crate::proofs::Unsaved::unsampled_unsaved))]
-/// Writes a net and events as the text of a scenario, [`sample_text`], straight to a file, for callers in Rust. The file is made, or the
-/// one of that name emptied, once there is such a text; `abt` itself writes its files whole or not at all, by `abt_files`. A fault is told
-/// by [`EventsFault::line`].
+/// Writes a net and events as the text of a scenario, [`sample_text`], straight to a file, for callers in Rust: `abt` has `abt_files`. The
+/// file is made, or the one of that name emptied, once there is such a text. A fault is told by [`EventsFault::line`].
 ///
 /// # Errors
 /// The errors of [`sample_text`], with which the file is left as it was; [`EventsFault::Open`] if the file can't be made, or
