@@ -90,7 +90,7 @@ fn cell_command<'a>(alloc: Global) -> Result<Command<'a>, AllocError> {
     command(alloc, "cell", "Say what an RM cell says", examples::CELL)
         .arg(cell(alloc)?)?
         .arg(json(alloc))?
-        .arg(stdin(alloc)?.conflicts_with(JSON)?)
+        .arg(stdin(alloc)?)
 }
 
 fn port_command<'a>(alloc: Global) -> Result<Command<'a>, AllocError> {
@@ -102,6 +102,7 @@ fn port_command<'a>(alloc: Global) -> Result<Command<'a>, AllocError> {
     )
     .arg(capacity(alloc))?
     .arg(cells(alloc)?)?
+    .arg(json(alloc))?
     .arg(stdin(alloc)?)
 }
 

@@ -21,6 +21,7 @@ pub(crate) fn plan_of(command: Command) -> Option<Plan>
         Command::Port {
             capacity,
             cells: Some(cells),
+            json: false,
         } => Some(Plan::Port { capacity, cells }),
         Command::Run {
             file,

@@ -21,18 +21,18 @@ abbrev pub IsCarriedOut : {K J : Type 0} → (content : K → KeptRecord) → (c
     → (left_old left_new old new told_old told_new : Option Text) → Type 0
 IsCarriedOut content contents (Rate code json) = SaysRate json code
 IsCarriedOut content contents (Cell hex json) = SaysCell json hex
-IsCarriedOut content contents (Port capacity cells) = ServesPort capacity cells
+IsCarriedOut content contents (Port capacity cells json) = ServesPort json capacity cells
 IsCarriedOut content contents (Run file json explain quiet) = Runs json explain file
 IsCarriedOut content contents (Threads command) = RunsThreads command
 IsCarriedOut content contents (Explain file json quiet) = Explains json file
 IsCarriedOut content contents (Check file json) = Checks file json
 IsCarriedOut content contents (Audit command) = Audits command
-IsCarriedOut content contents (Police tau rate) = AnswersLines (lines.Police tau rate)
-IsCarriedOut content contents (Shape rate) = AnswersLines (lines.Shape rate)
+IsCarriedOut content contents (Police tau rate json) = AnswersLines json (lines.Police tau rate)
+IsCarriedOut content contents (Shape rate json) = AnswersLines json (lines.Shape rate)
 IsCarriedOut content contents (Step file form) = Steps (string_bytes file) form
 IsCarriedOut content contents (Play plan) = Plays plan
-IsCarriedOut content contents (Code rate) = SaysCodes (codes.Code rate)
-IsCarriedOut content contents (Write words) = SaysCodes (codes.Write words)
+IsCarriedOut content contents (Code rate json) = SaysCodes json (codes.Code rate)
+IsCarriedOut content contents (Write words json) = SaysCodes json (codes.Write words)
 IsCarriedOut content contents (Draw command) = Draws command
 IsCarriedOut content contents (Switch plan) = Switches contents plan
 IsCarriedOut content contents (Source plan) = Sources content contents plan

@@ -49,7 +49,11 @@ where
     match command {
         Command::Rate { code, json } => rate(alloc, code, json, input, out, errors),
         Command::Cell { cell: hex, json } => cell(alloc, hex, json, input, out, errors),
-        Command::Port { capacity, cells } => port(alloc, capacity, cells, input, out, errors),
+        Command::Port {
+            capacity,
+            cells,
+            json,
+        } => port(alloc, capacity, cells, json, input, out, errors),
         Command::Run {
             file,
             json,
@@ -64,20 +68,30 @@ where
         } => explain(rt, progress, &file, json, input, out, errors),
         Command::Check { file, json } => check(rt, progress, &file, json, input, out, errors),
         Command::Audit(command) => audit(rt, progress, &command, input, out, errors),
-        Command::Police { tau, rate } => {
-            answer_lines(alloc, PartsPlan::Police { tau, rate }, input, out, errors)
-        }
-        Command::Shape { rate } => answer_lines(
+        Command::Police { tau, rate, json } => answer_lines(
+            alloc,
+            PartsPlan::Police { tau, rate },
+            json,
+            input,
+            out,
+            errors,
+        ),
+        Command::Shape { rate, json } => answer_lines(
             alloc,
             PartsPlan::Shape { rate },
+            json,
             input,
             out,
             errors,
         ),
         Command::Step { file, form } => step(rt, file.as_str(), form, input, out, errors),
         Command::Play(plan) => play(rt, progress, &plan, input, out, errors),
-        Command::Code { rate } => say_codes(alloc, CodesPlan::Code(rate), input, out, errors),
-        Command::Write(words) => say_codes(alloc, CodesPlan::Write(words), input, out, errors),
+        Command::Code { rate, json } => {
+            say_codes(alloc, CodesPlan::Code(rate), json, input, out, errors)
+        }
+        Command::Write { words, json } => {
+            say_codes(alloc, CodesPlan::Write(words), json, input, out, errors)
+        }
         Command::Draw(command) => draw(rt, progress, &command, input, out, errors),
         Command::Switch(plan) => switch(rt, &plan, input, out, errors),
         Command::Source(plan) => source(rt, &plan, input, out, errors),

@@ -1,5 +1,6 @@
 mod Decoding
 mod Digits
 mod Served
+mod ServedObjects
 mod Unserved
 mod Words

@@ -1,7 +1,8 @@
 -- A policer's steps are its answers.
 use Rattle.std.proofs.Common.{refl}
-use Rattle.abt_parts.proofs.Served.{on_err, on_ok, policed_all, policed_part}
-use Rattle.abt_parts.proofs.performing.police_lines.Goals as goal
+use Rattle.abt_parts.proofs.ServedObjects.{policed_all, policed_part}
+use Rattle.abt_parts.proofs.Served.{on_err, on_ok}
+use Rattle.abt_parts.proofs.by_objects.police_lines.Goals as goal
 
 pub returns-clause-ok : goal.returns-clause-ok
 returns-clause-ok g c = on_ok c.serve_lines.result _ _ c.serve_lines.ensures.ok (policed_all c.args.tau c.args.rate _ _ _ _ _ c.new-policer.ensures.value refl)

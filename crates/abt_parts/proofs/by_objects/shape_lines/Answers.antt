@@ -1,7 +1,8 @@
 -- A shaper's steps are its answers.
 use Rattle.std.proofs.Common.{refl}
-use Rattle.abt_parts.proofs.Served.{on_err, on_ok, shaped_all, shaped_part}
-use Rattle.abt_parts.proofs.performing.shape_lines.Goals as goal
+use Rattle.abt_parts.proofs.ServedObjects.{shaped_all, shaped_part}
+use Rattle.abt_parts.proofs.Served.{on_err, on_ok}
+use Rattle.abt_parts.proofs.by_objects.shape_lines.Goals as goal
 
 pub returns-clause-ok : goal.returns-clause-ok
 returns-clause-ok g c = on_ok c.serve_lines.result _ _ c.serve_lines.ensures.ok (shaped_all _ c.args.rate _ _ _ _ _ c.new-shaper.ensures refl)

@@ -1,7 +1,7 @@
 -- The steps of a reader of cells are its answers.
 use Rattle.std.proofs.Common.{refl}
 use Rattle.abt_parts.proofs.Served.{on_err, on_ok, read_all, read_part}
-use Rattle.abt_parts.proofs.performing.read_lines.Goals as goal
+use Rattle.abt_parts.proofs.in_words.read_lines.Goals as goal
 
 pub returns-clause-ok : goal.returns-clause-ok
 returns-clause-ok g c = on_ok c.serve_lines.result _ _ c.serve_lines.ensures.ok (read_all _ _ _ _ _)
