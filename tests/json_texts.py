@@ -1,14 +1,18 @@
 """Reads what `--json` prints by Python's parser, puts each object into the words of docs/FORMATS.md, and compares these with what the
-same command prints without it, with the same faults and the same status. Objects of `explain` have to be those of `run` too. Each object
-has to be as docs/abt.schema.json says, by which each object that is spoilt in one member is refused.
+same command prints without it, with the same faults and the same status. Objects of `explain` have to be those of `run` too; those of
+`threads` have to be what the slow model of scenarios/model reports, and `abt explain` tells, of the events that they name. Each object has
+to be as docs/abt.schema.json says, by which each object that is spoilt in one member is refused.
 
 usage: json_texts.py PROGRAM..
 """
 import json
 import re
+import tomllib
+from pathlib import Path
 
 from harness import ROOT, SCENARIOS, case_file, main, samples
 from json_schema import Kinds
+from model import run as model_run
 
 FORMATS = ROOT / "docs" / "FORMATS.md"
 CODES = [f"{code:04x}" for code in range(0, 65536, 97)] + ["0000", "53e8", "5258", "ffff", "53E8", "", "5", "53e8 ", "g000"]
@@ -22,7 +26,7 @@ MESSAGES = [f"{kind} {vpi} {vci} {seq} {rates}" for kind in ("request", "yes", "
     (1, 1, 2**32, "0000 5258"), (1, 1, 1, "000 5258"), (1, 1, 1, "0000 525"), (1, 1, 0, "0000 5258"), (1, 1, 1, "5258 5120"))]
 
 
-KINDS = Kinds("rate", "code", "cell", "write", "run", "explain", "check", "port", "police", "shape")
+KINDS = Kinds("rate", "code", "cell", "write", "run", "explain", "threads", "check", "port", "police", "shape")
 
 
 def objects(command, text):
@@ -163,6 +167,32 @@ def try_explained(trial, words, text=b""):
     trial.wants(f"explain {words}, and what run tells", [True], [as_json.told.startswith(report.told)])
 
 
+def scenario_of(sample, events):
+    """A scenario of a sample's net, without scripts, and of these events."""
+    read = tomllib.loads(sample.read_text())
+    conns = [{key: conn[key] for key in ("vpi", "vci", "path", "delay", "tau")} for conn in read.get("connection", [])]
+    tables = ["".join(f"{key} = {value}\n" for key, value in conn.items()) for conn in conns]
+    return "".join([f"ports = {read['ports']}\nevents = {json.dumps(events)}\n", *(f"[[connection]]\n{table}" for table in tables)])
+
+
+def try_threads(trial, sample, workers):
+    """The events of a run in threads, as JSON: what they are called by other means; a run that there isn't has the fault of the words."""
+    words = ["threads", sample.name, "--workers", workers]
+    if Path(f"{sample}.stdout").read_text() != "gathered\nwoven\nsafe\n":
+        trial.wants(f"{words}, a fault", run(trial, words, b""), run(trial, [*words, "--json"], b""))
+        return
+    as_json = run(trial, [*words, "--json"], b"")
+    found = objects("threads", as_json.output)
+    events = [each for each in found if "event" in each]
+    text = scenario_of(sample, [each["text"] for each in events])
+    for each in events:
+        try_sighting(trial, words, each)
+    told = [f"{each['event']} {each.pop('text')}: {each.pop('words')}" for each in events]
+    explained = run(trial, ["explain"], text).output.splitlines()[: len(told)]
+    trial.wants(f"{words}, explained", [re.sub(r"^(\d+) line \d+", r"\1", line) for line in explained], told)
+    trial.wants(f"{words}, and the slow model", model_run(text.encode()), (as_json.status, report_of(found), as_json.told))
+
+
 def named(found):
     """The name of a fault of `check`, with what it names, as it is written on standard error."""
     names = ("fault", "net", "key", "connection", "event", "command", "operation")
@@ -191,7 +221,7 @@ def look(trial):
     runs = [([sample.name], b"") for sample in run_ones] + [([], sample.read_bytes()) for sample in run_ones] + [(["none.toml"], b"")]
     faulty = [case.get("input", "") for case in case_file("check")["case"] if case["words"] == "check"]
     faulty.append("ports = []\nevents = [" + "'x'," * 150 + "]\n")
-    tried = [(["run", *words], report_of, text) for words, text in runs]
+    tried = [(["run", *words], report_of, text) for words, text in runs if words != ["none.toml"]]
     tried += [(["rate", code], rate_of) for code in CODES] + [(["cell", cell], cell_of) for cell in cells]
     checked = [*(([], text) for text in faulty), *(([sample.name], b"") for sample in samples()), (["none.toml"], b"")]
     tried += [(["code", rate], code_of) for rate in RATES] + [(["write", *words.split()], written_of) for words in MESSAGES]
@@ -200,6 +230,9 @@ def look(trial):
     for check, all_given in ((try_words, tried), (try_explained, runs)):
         for given in all_given:
             trial.checks(given, check, trial, *given)
+    for sample in samples("threads_*"):
+        for workers in (1, 4):
+            trial.checks(sample.name, try_threads, trial, sample, workers)
     trial.wants("kinds of objects that nothing printed", [], KINDS.missing())
     return f"{len(run_ones)} samples, {len(CODES)} codes, {len(cells)} cells, {len(faulty)} texts with faults"
 

@@ -41,6 +41,7 @@ pub record AreCells (found : ArgMatches) (cells : Option (Vec (String Global) Gl
 pub record IsThreads (found : ArgMatches) (command : ThreadsCommand) : Type 0 where
   pub file : name_of command.file ≡ text_in found (codes "FILE")
   pub workers : IsCount (word_in found (codes "workers")) command.workers
+  pub json : IsFlag found (codes "json") command.json
   pub journals : name_of command.journals ≡ text_in found (codes "journals")
   pub events : name_of command.events ≡ text_in found (codes "events")
   pub explain : IsFlag found (codes "explain") command.explain

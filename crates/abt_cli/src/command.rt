@@ -91,6 +91,8 @@ pub struct ThreadsCommand {
     pub file: Option<String>,
     /// How many link workers there are, 1 to 64.
     pub workers: u16,
+    /// Whether the events that were woven are said as JSON; then no file is written, and nothing else is told.
+    pub json: bool,
     /// The file for the journals of the run, if they are to be written; then there is neither of the next two.
     pub journals: Option<String>,
     /// The file for the events that were woven, as a scenario, if they are to be written.

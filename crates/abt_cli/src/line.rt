@@ -145,8 +145,9 @@ fn threads_command<'a>(alloc: Global) -> Result<Command<'a>, AllocError> {
     )
     .arg(scenario(alloc))?
     .arg(workers.required(true))?
-    .arg(journals.conflicts_with(EXPLAIN)?)?
-    .arg(events.conflicts_with(JOURNALS)?)?
+    .arg(json(alloc).conflicts_with(EXPLAIN)?)?
+    .arg(journals.conflicts_with(EXPLAIN)?.conflicts_with(JSON)?)?
+    .arg(events.conflicts_with(JOURNALS)?.conflicts_with(JSON)?)?
     .arg(explain)?
     .arg(quiet(alloc))
 }

@@ -97,6 +97,7 @@ pub(crate) fn threads_of(alloc: Global, found: &ArgMatches<'_>) -> Result<Comman
     Ok(Command::Threads(ThreadsCommand {
         file,
         workers,
+        json: found.get_flag(JSON),
         journals,
         events,
         explain: found.get_flag(EXPLAIN),

@@ -15,4 +15,5 @@ pub mod Steps
 pub mod Threads
 pub mod ThreadsEvents
 pub mod ThreadsJournals
+pub mod ThreadsObjects
 pub mod Unwritten

@@ -17,7 +17,7 @@ RunsPlain file =
 
 abbrev pub RunsAsJson : Option (String Global) → (status : ℕ) → (left_old left_new old new told_old told_new : Option Text) → Type 0
 RunsAsJson file =
-    EndsOver (option_map string_bytes file) TellsOpenFault TakesText (Quietly (objects.Prints (Run None))) (objects.IsRefused (Run None))
+    EndsOver (option_map string_bytes file) TellsUnopened TakesText (Quietly (objects.Prints (Run None))) (objects.IsRefused (Run None))
 
 -- As JSON no check is told besides.
 abbrev pub Runs : (json explain : Bool) → Option (String Global) → (status : ℕ)

@@ -26,6 +26,7 @@ mod switch;
 mod threads;
 mod threads_events;
 mod threads_journals;
+mod threads_objects;
 mod unwritten;
 
 pub use carry_out::carry_out_command;

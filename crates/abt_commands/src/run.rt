@@ -54,7 +54,7 @@ fn run_plain<T: Files + AllocGlobal, R: Read, W: Write, E: Write, P: Write + Dro
     }
 }
 
-// Reports on the run as JSON. Of a file that isn't opened the fault alone is told.
+// Reports on the run as JSON.
 fn run_as_json<T: Files + AllocGlobal, R: Read, W: Write, E: Write, P: Write + Drop>(
     rt: &T,
     progress: &Progress<P>,
@@ -70,6 +70,6 @@ fn run_as_json<T: Files + AllocGlobal, R: Read, W: Write, E: Write, P: Write + D
     match opened(rt, progress, file) {
         Ok(Input::Here) => perform_json(rt.alloc(), &plan, input, out, errors),
         Ok(Input::File(mut file)) => perform_json(rt.alloc(), &plan, &mut file, out, errors),
-        Err(unopened) => unopened.tell_fault(errors),
+        Err(unopened) => unopened.tell(errors),
     }
 }

@@ -5,6 +5,7 @@ ghost use Rattle.abt_commands.specs.Threads.{RunsThreads, ShowsRun, tells_events
 use crate::input::{Input, opened};
 use crate::threads_events::tell_run;
 use crate::threads_journals::keep_journals;
+use crate::threads_objects::say_run;
 use abt_cli::ThreadsCommand;
 use abt_perform::Plan;
 use abt_perform_threads::perform_threads;
@@ -30,6 +31,9 @@ where
     ensures { RunsThreads command.now result (R.remaining input.old) (R.remaining input.new)
         (W.contents out.old) (W.contents out.new) (E.contents errors.old) (E.contents errors.new) }
 {
+    if command.json {
+        return say_run(rt, progress, command, input, out, errors);
+    }
     if let Some(journals) = &command.journals {
         let journals = journals.as_str();
         return keep_journals(rt, progress, command, journals, input, out, errors);

@@ -1,3 +1,4 @@
+mod Closing
 mod Decoding
 mod Digits
 mod Served

@@ -50,7 +50,7 @@ tat_members before after =
 
 abbrev pub verdict_members : Policing → ℕ → Verdict × Policing → List Token
 verdict_members before at judged =
-    exact_members (codes "at") (codes "at_text") at ++ (judged_members judged.0 (early_of before at) ++ tat_members before judged.1)
+    exact_members (codes "at") (codes "at_text") at ++ judged_members judged.0 (early_of before at) ++ tat_members before judged.1
 
 -- a cell that arrives where a rate is held: before the clock or too late it has a fault
 abbrev pub arrival_object : ℕ → Policing → (held at : ℕ) → Text
@@ -65,8 +65,8 @@ policed_object held number policing line = object_to (arrival_object number poli
 -- when a cell is ready, when it leaves, and from when on the next one may
 abbrev pub leaving_members : (ready leaves next : ℕ) → List Token
 leaving_members ready leaves next =
-    exact_members (codes "ready") (codes "ready_text") ready
-    ++ (exact_members (codes "leaves") (codes "leaves_text") leaves ++ exact_members (codes "next") (codes "next_text") next)
+    exact_members (codes "ready") (codes "ready_text") ready ++ exact_members (codes "leaves") (codes "leaves_text") leaves
+    ++ exact_members (codes "next") (codes "next_text") next
 
 -- a cell that is ready at a moment: too late, or without a rate, it has a fault
 abbrev pub ready_object : ℕ → Shaping → (rate ready : ℕ) → Text

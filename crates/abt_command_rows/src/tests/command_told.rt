@@ -99,7 +99,11 @@ fn threads_told(alloc: Global, command: &ThreadsCommand) -> Result<String, Fail>
             named(&command.journals),
             named(&command.events),
         ],
-        &[("explain", command.explain), ("quiet", command.quiet)],
+        &[
+            ("json", command.json),
+            ("explain", command.explain),
+            ("quiet", command.quiet),
+        ],
     )
 }
 

@@ -6,7 +6,7 @@ use std::process::Abort;
 use std::test::Fail;
 
 // Words behind the program's name, and the command that they ask for, as `told` says it. A field that is empty is told as `-`.
-const ROWS: [(&str, &str); 70] = [
+const ROWS: [(&str, &str); 71] = [
     ("rate 53e8", "rate 53e8"),
     ("rate 53e8 --json", "rate 53e8 json"),
     ("rate --json 53e8", "rate 53e8 json"),
@@ -39,6 +39,10 @@ const ROWS: [(&str, &str); 70] = [
     (
         "threads a.toml --workers 4 --explain",
         "threads a.toml 4 - - explain",
+    ),
+    (
+        "threads a.toml --workers 4 --json --quiet",
+        "threads a.toml 4 - - json quiet",
     ),
     (
         "threads a.toml --workers 4 --quiet",
@@ -146,7 +150,7 @@ const ROWS: [(&str, &str); 70] = [
 ];
 
 // Words that are refused, beside those of a plan (`plans`).
-const REFUSED: [&str; 44] = [
+const REFUSED: [&str; 46] = [
     "none",
     "rate 53e8 --stdin",
     "cell 00 --stdin",
@@ -154,7 +158,9 @@ const REFUSED: [&str; 44] = [
     "code 1.3Mbps --quiet",
     "run --json --explain",
     "run --journals j.jsonl",
-    "threads --workers 4 --json",
+    "threads --workers 4 --json --explain",
+    "threads --workers 4 --json --events e.toml",
+    "threads --workers 4 --json --journals j.jsonl",
     "threads --workers 4 --journals j.jsonl --events e.toml",
     "threads --workers 4 --journals j.jsonl --explain",
     "threads a.toml --workers 4 --journals a.toml",
