@@ -10,7 +10,7 @@ _abt() {
         cell) COMPREPLY=($(compgen -W "--json --stdin -h --help" -- "$word")) ;;
         port) COMPREPLY=($(compgen -W "--json --stdin -h --help" -- "$word")) ;;
         run) COMPREPLY=($(compgen -f -W "--json --explain --quiet -h --help" -- "$word")) ;;
-        threads) COMPREPLY=($(compgen -f -W "--workers --journals --events --explain --quiet -h --help" -- "$word")) ;;
+        threads) COMPREPLY=($(compgen -f -W "--workers --json --journals --events --explain --quiet -h --help" -- "$word")) ;;
         explain) COMPREPLY=($(compgen -f -W "--json --quiet -h --help" -- "$word")) ;;
         check) COMPREPLY=($(compgen -f -W "--json -h --help" -- "$word")) ;;
         audit) COMPREPLY=($(compgen -f -W "--events --draw --only --from --to --quiet -h --help" -- "$word")) ;;

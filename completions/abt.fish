@@ -34,6 +34,7 @@ complete -c abt -n '__fish_seen_subcommand_from run' -l quiet -d 'Draw no progre
 complete -c abt -n '__fish_seen_subcommand_from run' -s h -l help -d 'Print help'
 complete -c abt -n '__fish_seen_subcommand_from run' -F
 complete -c abt -n '__fish_seen_subcommand_from threads' -l workers -x -d 'How many link workers carry messages between ports: 1 to 64'
+complete -c abt -n '__fish_seen_subcommand_from threads' -l json -d 'Answer as JSON, one object a line'
 complete -c abt -n '__fish_seen_subcommand_from threads' -l journals -r -F -d 'Write the journals of the run to this file, whether it is shown to be woven and safe or not'
 complete -c abt -n '__fish_seen_subcommand_from threads' -l events -r -F -d 'Write the events that were woven to this file, as a scenario for abt run'
 complete -c abt -n '__fish_seen_subcommand_from threads' -l explain -d 'Tell on standard error the events that were woven, with their reasons, and what abt check says of the scenario'

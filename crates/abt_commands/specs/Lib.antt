@@ -1,4 +1,6 @@
+pub mod Advice
 pub mod Audits
+pub mod Besides
 pub mod Carried
 pub mod Check
 pub mod Checked

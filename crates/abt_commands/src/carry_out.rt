@@ -29,11 +29,14 @@ use std::sync::Wait;
 use std::thread::Threads;
 
 /// Carries a command out over the files that it names, or else over an input that is there, and gives the exit status: 0 if it is
-/// done, and 1 if a line on `errors` tells why not, or a check tells a fault. What is read of files that may be long is counted.
+/// done, and 1 if a line on `errors` tells why not, or a check tells a fault. What is read of files that may be long is counted. With
+/// `advised`, as on a terminal, `errors` are told besides who says what is wrong in a scenario, and which command runs one that has nothing
+/// to run for this one.
 pub fn carry_out_command<T, R: Read, W: Write, E: Write, P: Write + Drop>(
     rt: &T,
     progress: &Progress<P>,
     command: Command,
+    advised: bool,
     input: &mut R,
     out: &mut W,
     errors: &mut E,
@@ -41,7 +44,7 @@ pub fn carry_out_command<T, R: Read, W: Write, E: Write, P: Write + Drop>(
 where
     T: Files + AllocGlobal + Stores + Threads + Wait + Sync,
     requires { IsAllowed command }
-    ensures { IsCarriedOut T.Store.content T.File.contents command result
+    ensures { IsCarriedOut T.Store.content T.File.contents advised command result
         (R.remaining input.old) (R.remaining input.new) (W.contents out.old) (W.contents out.new)
         (E.contents errors.old) (E.contents errors.new) }
 {
@@ -59,8 +62,12 @@ where
             json,
             explain,
             quiet: _,
-        } => run(rt, progress, &file, json, explain, input, out, errors),
-        Command::Threads(command) => threads(rt, progress, &command, input, out, errors),
+        } => run(
+            rt, progress, &file, json, explain, advised, input, out, errors,
+        ),
+        Command::Threads(command) => {
+            threads(rt, progress, &command, advised, input, out, errors)
+        }
         Command::Explain {
             file,
             json,
