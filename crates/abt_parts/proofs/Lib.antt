@@ -2,6 +2,6 @@ mod Closing
 mod Decoding
 mod Digits
 mod Served
-mod ServedObjects
+mod ByObjects
 mod Unserved
 mod Words

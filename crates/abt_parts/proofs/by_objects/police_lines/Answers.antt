@@ -1,6 +1,6 @@
 -- A policer's steps are its answers.
 use Rattle.std.proofs.Common.{refl}
-use Rattle.abt_parts.proofs.ServedObjects.{policed_all, policed_part}
+use Rattle.abt_parts.proofs.ByObjects.{policed_all, policed_part}
 use Rattle.abt_parts.proofs.Served.{on_err, on_ok}
 use Rattle.abt_parts.proofs.by_objects.police_lines.Goals as goal
 

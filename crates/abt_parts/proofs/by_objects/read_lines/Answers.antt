@@ -1,6 +1,6 @@
 -- The steps of a reader of cells are its answers.
 use Rattle.std.proofs.Common.{refl}
-use Rattle.abt_parts.proofs.ServedObjects.{read_all, read_part}
+use Rattle.abt_parts.proofs.ByObjects.{read_all, read_part}
 use Rattle.abt_parts.proofs.Served.{on_err, on_ok}
 use Rattle.abt_parts.proofs.by_objects.read_lines.Goals as goal
 

@@ -1,6 +1,6 @@
 -- The steps of a port are its answers.
 use Rattle.std.proofs.Common.{refl}
-use Rattle.abt_parts.proofs.ServedObjects.{served_all, served_part}
+use Rattle.abt_parts.proofs.ByObjects.{served_all, served_part}
 use Rattle.abt_parts.proofs.Served.{on_err, on_ok}
 use Rattle.abt_parts.proofs.by_objects.serve_cells.Goals as goal
 

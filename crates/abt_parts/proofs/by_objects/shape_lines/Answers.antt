@@ -1,6 +1,6 @@
 -- A shaper's steps are its answers.
 use Rattle.std.proofs.Common.{refl}
-use Rattle.abt_parts.proofs.ServedObjects.{shaped_all, shaped_part}
+use Rattle.abt_parts.proofs.ByObjects.{shaped_all, shaped_part}
 use Rattle.abt_parts.proofs.Served.{on_err, on_ok}
 use Rattle.abt_parts.proofs.by_objects.shape_lines.Goals as goal
 

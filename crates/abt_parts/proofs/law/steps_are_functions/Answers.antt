@@ -1,6 +1,6 @@
 -- What functions say of the answers.
 use Rattle.abt_parts.proofs.Served.{polices, reads, serves, shapes}
-use Rattle.abt_parts.proofs.ServedObjects as objects
+use Rattle.abt_parts.proofs.ByObjects as objects
 use Rattle.abt_parts.proofs.law.steps_are_functions.Goals as goal
 
 pub returns-clause-police : goal.returns-clause-police

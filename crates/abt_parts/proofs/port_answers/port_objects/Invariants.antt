@@ -4,7 +4,7 @@ use Rattle.std.specs.Prelude.{Some}
 use Rattle.abt_perform.specs.Plans.{texts_of}
 use Rattle.abt_parts.specs.PartObjects.{served_objects}
 use Rattle.abt_parts.specs.PortObjects.{port_objects}
-use Rattle.abt_parts.proofs.port_objects.port_objects.Given as goal
+use Rattle.abt_parts.proofs.port_answers.port_objects.Given as goal
 
 abbrev pub invariant-loop-index : goal.invariant-loop-index
 invariant-loop-index l =
