@@ -25,6 +25,7 @@ complete -c abt -n '__fish_seen_subcommand_from rate' -s h -l help -d 'Print hel
 complete -c abt -n '__fish_seen_subcommand_from cell' -l json -d 'Answer as JSON, one object a line'
 complete -c abt -n '__fish_seen_subcommand_from cell' -l stdin -d 'Take cells from the standard input, a line each, and answer each before the next'
 complete -c abt -n '__fish_seen_subcommand_from cell' -s h -l help -d 'Print help'
+complete -c abt -n '__fish_seen_subcommand_from port' -l json -d 'Answer as JSON, one object a line'
 complete -c abt -n '__fish_seen_subcommand_from port' -l stdin -d 'Take cells from the standard input, a line each, and answer each before the next'
 complete -c abt -n '__fish_seen_subcommand_from port' -s h -l help -d 'Print help'
 complete -c abt -n '__fish_seen_subcommand_from run' -l json -d 'Answer as JSON, one object a line'
@@ -33,6 +34,7 @@ complete -c abt -n '__fish_seen_subcommand_from run' -l quiet -d 'Draw no progre
 complete -c abt -n '__fish_seen_subcommand_from run' -s h -l help -d 'Print help'
 complete -c abt -n '__fish_seen_subcommand_from run' -F
 complete -c abt -n '__fish_seen_subcommand_from threads' -l workers -x -d 'How many link workers carry messages between ports: 1 to 64'
+complete -c abt -n '__fish_seen_subcommand_from threads' -l json -d 'Answer as JSON, one object a line'
 complete -c abt -n '__fish_seen_subcommand_from threads' -l journals -r -F -d 'Write the journals of the run to this file, whether it is shown to be woven and safe or not'
 complete -c abt -n '__fish_seen_subcommand_from threads' -l events -r -F -d 'Write the events that were woven to this file, as a scenario for abt run'
 complete -c abt -n '__fish_seen_subcommand_from threads' -l explain -d 'Tell on standard error the events that were woven, with their reasons, and what abt check says of the scenario'
@@ -56,8 +58,10 @@ complete -c abt -n '__fish_seen_subcommand_from audit' -s h -l help -d 'Print he
 complete -c abt -n '__fish_seen_subcommand_from audit' -F
 complete -c abt -n '__fish_seen_subcommand_from police' -l tau -x -d 'The tolerance in picoseconds, at most 10^12'
 complete -c abt -n '__fish_seen_subcommand_from police' -l rate -x -d 'The rate: a code, four hexadecimal digits, or one that a code says exactly, as 500cps'
+complete -c abt -n '__fish_seen_subcommand_from police' -l json -d 'Answer as JSON, one object a line'
 complete -c abt -n '__fish_seen_subcommand_from police' -s h -l help -d 'Print help'
 complete -c abt -n '__fish_seen_subcommand_from shape' -l rate -x -d 'The rate: a code, four hexadecimal digits, or one that a code says exactly, as 500cps'
+complete -c abt -n '__fish_seen_subcommand_from shape' -l json -d 'Answer as JSON, one object a line'
 complete -c abt -n '__fish_seen_subcommand_from shape' -s h -l help -d 'Print help'
 complete -c abt -n '__fish_seen_subcommand_from step' -l json -d 'Answer as JSON, one object a line'
 complete -c abt -n '__fish_seen_subcommand_from step' -l state -d 'Tell behind each answer to an event the rates, what is held, the totals and the capacities'
@@ -71,7 +75,9 @@ complete -c abt -n '__fish_seen_subcommand_from play' -l delay -x -d 'The next m
 complete -c abt -n '__fish_seen_subcommand_from play' -l events -r -F -d 'Write the events to this file, as a scenario for abt run'
 complete -c abt -n '__fish_seen_subcommand_from play' -s h -l help -d 'Print help'
 complete -c abt -n '__fish_seen_subcommand_from play' -F
+complete -c abt -n '__fish_seen_subcommand_from code' -l json -d 'Answer as JSON, one object a line'
 complete -c abt -n '__fish_seen_subcommand_from code' -s h -l help -d 'Print help'
+complete -c abt -n '__fish_seen_subcommand_from write' -l json -d 'Answer as JSON, one object a line'
 complete -c abt -n '__fish_seen_subcommand_from write' -s h -l help -d 'Print help'
 complete -c abt -n '__fish_seen_subcommand_from write; and not __fish_seen_subcommand_from request yes no' -a 'request yes no'
 complete -c abt -n '__fish_seen_subcommand_from draw' -s o -l output -r -F -d 'Write the picture to this file: a picture if it ends in .svg, a page if in .html'

@@ -17,7 +17,8 @@ pub(crate) fn police_command<'a>(alloc: Global) -> Result<Command<'a>, AllocErro
         examples::POLICE,
     )
     .arg(tau(alloc))?
-    .arg(rate(alloc))
+    .arg(rate(alloc))?
+    .arg(json(alloc))
 }
 
 pub(crate) fn shape_command<'a>(alloc: Global) -> Result<Command<'a>, AllocError> {
@@ -27,7 +28,8 @@ pub(crate) fn shape_command<'a>(alloc: Global) -> Result<Command<'a>, AllocError
         "Say when cells leave, a line of the standard input each",
         examples::SHAPE,
     )
-    .arg(rate(alloc))
+    .arg(rate(alloc))?
+    .arg(json(alloc))
 }
 
 pub(crate) fn step_command<'a>(alloc: Global) -> Result<Command<'a>, AllocError> {
@@ -88,7 +90,8 @@ pub(crate) fn code_command<'a>(alloc: Global) -> Result<Command<'a>, AllocError>
         alloc,
         QUANTITY,
         "The rate: a decimal number of at most 9 places, and cps, bps, kbps or Mbps",
-    ))
+    ))?
+    .arg(json(alloc))
 }
 
 pub(crate) fn write_command<'a>(alloc: Global) -> Result<Command<'a>, AllocError> {
@@ -115,7 +118,8 @@ pub(crate) fn write_command<'a>(alloc: Global) -> Result<Command<'a>, AllocError
         alloc,
         ASK,
         "The code of the asked rate, which isn't below the floor",
-    ))
+    ))?
+    .arg(json(alloc))
 }
 
 pub(crate) fn draw_command<'a>(alloc: Global) -> Result<Command<'a>, AllocError> {

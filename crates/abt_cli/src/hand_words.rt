@@ -35,7 +35,8 @@ pub(crate) fn police_of(alloc: Global, found: &ArgMatches<'_>) -> Result<Command
 {
     let tau = tau_in(alloc, found)?;
     let rate = rate_in(alloc, found)?;
-    Ok(Command::Police { tau, rate })
+    let json = found.get_flag(JSON);
+    Ok(Command::Police { tau, rate, json })
 }
 
 pub(crate) fn shape_of(alloc: Global, found: &ArgMatches<'_>) -> Result<Command, WordsFault>
@@ -44,7 +45,8 @@ pub(crate) fn shape_of(alloc: Global, found: &ArgMatches<'_>) -> Result<Command,
     ensures err { IfErr result (IsRefused (codes "shape") found.now) }
 {
     let rate = rate_in(alloc, found)?;
-    Ok(Command::Shape { rate })
+    let json = found.get_flag(JSON);
+    Ok(Command::Shape { rate, json })
 }
 
 pub(crate) fn step_of(alloc: Global, found: &ArgMatches<'_>) -> Result<Command, WordsFault>
@@ -99,7 +101,8 @@ pub(crate) fn code_of(alloc: Global, found: &ArgMatches<'_>) -> Result<Command, 
     ensures err { IfErr result (IsRefused (codes "code") found.now) }
 {
     let rate = word_in(alloc, found, QUANTITY)?;
-    Ok(Command::Code { rate })
+    let json = found.get_flag(JSON);
+    Ok(Command::Code { rate, json })
 }
 
 pub(crate) fn write_of(alloc: Global, found: &ArgMatches<'_>) -> Result<Command, WordsFault>
@@ -108,7 +111,8 @@ pub(crate) fn write_of(alloc: Global, found: &ArgMatches<'_>) -> Result<Command,
     ensures err { IfErr result (IsRefused (codes "write") found.now) }
 {
     let words = message_in(alloc, found)?;
-    Ok(Command::Write(words))
+    let json = found.get_flag(JSON);
+    Ok(Command::Write { words, json })
 }
 
 // The words of a message.

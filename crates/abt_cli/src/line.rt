@@ -90,7 +90,7 @@ fn cell_command<'a>(alloc: Global) -> Result<Command<'a>, AllocError> {
     command(alloc, "cell", "Say what an RM cell says", examples::CELL)
         .arg(cell(alloc)?)?
         .arg(json(alloc))?
-        .arg(stdin(alloc)?.conflicts_with(JSON)?)
+        .arg(stdin(alloc)?)
 }
 
 fn port_command<'a>(alloc: Global) -> Result<Command<'a>, AllocError> {
@@ -102,6 +102,7 @@ fn port_command<'a>(alloc: Global) -> Result<Command<'a>, AllocError> {
     )
     .arg(capacity(alloc))?
     .arg(cells(alloc)?)?
+    .arg(json(alloc))?
     .arg(stdin(alloc)?)
 }
 
@@ -144,8 +145,9 @@ fn threads_command<'a>(alloc: Global) -> Result<Command<'a>, AllocError> {
     )
     .arg(scenario(alloc))?
     .arg(workers.required(true))?
-    .arg(journals.conflicts_with(EXPLAIN)?)?
-    .arg(events.conflicts_with(JOURNALS)?)?
+    .arg(json(alloc).conflicts_with(EXPLAIN)?)?
+    .arg(journals.conflicts_with(EXPLAIN)?.conflicts_with(JSON)?)?
+    .arg(events.conflicts_with(JOURNALS)?.conflicts_with(JSON)?)?
     .arg(explain)?
     .arg(quiet(alloc))
 }

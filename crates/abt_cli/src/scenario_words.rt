@@ -50,7 +50,12 @@ pub(crate) fn port_of(alloc: Global, found: &ArgMatches<'_>) -> Result<Command, 
 {
     let capacity = capacity_of(alloc, found)?;
     let cells = cells_in(alloc, found)?;
-    Ok(Command::Port { capacity, cells })
+    let json = found.get_flag(JSON);
+    Ok(Command::Port {
+        capacity,
+        cells,
+        json,
+    })
 }
 
 // The cells that are named, unless cells come from the standard input.
@@ -92,6 +97,7 @@ pub(crate) fn threads_of(alloc: Global, found: &ArgMatches<'_>) -> Result<Comman
     Ok(Command::Threads(ThreadsCommand {
         file,
         workers,
+        json: found.get_flag(JSON),
         journals,
         events,
         explain: found.get_flag(EXPLAIN),

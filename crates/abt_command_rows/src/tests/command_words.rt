@@ -6,17 +6,20 @@ use std::process::Abort;
 use std::test::Fail;
 
 // Words behind the program's name, and the command that they ask for, as `told` says it. A field that is empty is told as `-`.
-const ROWS: [(&str, &str); 63] = [
+const ROWS: [(&str, &str); 71] = [
     ("rate 53e8", "rate 53e8"),
     ("rate 53e8 --json", "rate 53e8 json"),
     ("rate --json 53e8", "rate 53e8 json"),
     ("cell 00", "cell 00"),
     ("cell 00 --json", "cell 00 json"),
     ("cell --stdin", "cell -"),
+    ("cell --stdin --json", "cell - json"),
     ("port 7 00 11 zz", "port 7 00,11,zz"),
     ("port 007 00", "port 7 00"),
     ("port 7 --stdin", "port 7 -"),
     ("port --stdin 7", "port 7 -"),
+    ("port 7 00 --json", "port 7 00 json"),
+    ("port 7 --stdin --json", "port 7 - json"),
     ("run", "run -"),
     ("run a.toml", "run a.toml"),
     ("run a.toml --json", "run a.toml json"),
@@ -36,6 +39,10 @@ const ROWS: [(&str, &str); 63] = [
     (
         "threads a.toml --workers 4 --explain",
         "threads a.toml 4 - - explain",
+    ),
+    (
+        "threads a.toml --workers 4 --json --quiet",
+        "threads a.toml 4 - - json quiet",
     ),
     (
         "threads a.toml --workers 4 --quiet",
@@ -65,7 +72,12 @@ const ROWS: [(&str, &str); 63] = [
     ),
     ("police --tau 200 --rate 53e8", "police 200 512000"),
     ("police --rate 1000cps --tau 0", "police 0 512000"),
+    (
+        "police --json --tau 200 --rate 53e8",
+        "police 200 512000 json",
+    ),
     ("shape --rate 53e8", "shape 512000"),
+    ("shape --rate 53e8 --json", "shape 512000 json"),
     ("step a.toml", "step a.toml"),
     ("step a.toml --json", "step a.toml json"),
     ("step --state a.toml", "step a.toml state"),
@@ -94,12 +106,17 @@ const ROWS: [(&str, &str); 63] = [
         "play a.toml 0 100 100 0 e.toml",
     ),
     ("code 1.3Mbps", "code 1.3Mbps"),
+    ("code 1.3Mbps --json", "code 1.3Mbps json"),
     (
         "write request 1 2 3 0000 5258",
         "write request 1 2 3 0000 5258",
     ),
     ("write yes 1 2 3 0000 5258", "write yes 1 2 3 0000 5258"),
     ("write no 1 2 3 0000 5258", "write no 1 2 3 0000 5258"),
+    (
+        "write --json no 1 2 3 0000 5258",
+        "write no 1 2 3 0000 5258 json",
+    ),
     ("draw -o d.svg", "draw - - - picture d.svg - 0 0"),
     (
         "draw a.toml --output d.html",
@@ -133,16 +150,17 @@ const ROWS: [(&str, &str); 63] = [
 ];
 
 // Words that are refused, beside those of a plan (`plans`).
-const REFUSED: [&str; 45] = [
+const REFUSED: [&str; 46] = [
     "none",
     "rate 53e8 --stdin",
     "cell 00 --stdin",
-    "cell --stdin --json",
     "port 7 00 --stdin",
-    "port 7 00 --json",
+    "code 1.3Mbps --quiet",
     "run --json --explain",
     "run --journals j.jsonl",
-    "threads --workers 4 --json",
+    "threads --workers 4 --json --explain",
+    "threads --workers 4 --json --events e.toml",
+    "threads --workers 4 --json --journals j.jsonl",
     "threads --workers 4 --journals j.jsonl --events e.toml",
     "threads --workers 4 --journals j.jsonl --explain",
     "threads a.toml --workers 4 --journals a.toml",
