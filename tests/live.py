@@ -22,7 +22,8 @@ import time
 from collections import Counter
 from pathlib import Path
 
-from network import CONNECTIONS, PORTS, Run, lines_of, played
+from harness import worked
+from network import CONNECTIONS, PORTS, Live, Run, lines_of, played
 
 ROOT = Path(__file__).resolve().parent.parent
 sys.path.insert(0, str(ROOT / "tools"))
@@ -152,6 +153,31 @@ def limit_files():
     signal.signal(signal.SIGXFSZ, signal.SIG_IGN)
 
 
+def clocked(program, folder):
+    """The adapter of docs/LIVE.md hands in the moments of a clock, over a restart too: a cell leaves a second after the start, and not
+    before."""
+    run = Run(program, folder, 1)
+    run.end()
+    ((name, text),) = worked("LIVE.md", r"^```python\n# (\w+\.py)\n(.*?)^```$")
+    (folder / name).write_text(text)
+    (folder / "run.sh").write_text('python3 "$1" "$2" | { shift 2; exec "$@"; }\n')
+    words = [program, *sourced(run.net, 0, run.sources[0].store, run.sources[0].journal)]
+    yes = subprocess.run([program, "write", "yes", "1", "100", "1", "0000", "5258"], capture_output=True, text=True, timeout=60)
+    epoch, said = time.monotonic_ns(), []
+    for lines, pause in [(("start", "emit", "ask 5258", yes.stdout.strip(), "emit"), 1.2), (("start", "emit"), 0)]:
+        live = Live(["sh", folder / "run.sh", folder / name, epoch, *words])
+        said += [live.ask(line) for line in lines]
+        time.sleep(pause)
+        said += [live.ask("emit")]
+        live.end()
+    elapsed = (time.monotonic_ns() - epoch) * 1000
+    kinds = [" ".join(it[:1] if it[:1] != ["fault"] else it) for it in said]
+    wanted = ["started", "fault Zero", "rm", "heard", "toosoon", "cell", "started", "fault Zero", "fault Zero"]
+    if kinds != wanted or not 10**12 <= int(said[5][2]) <= elapsed:
+        return f"FAILED: the clock of docs/LIVE.md gave {said}"
+    return None
+
+
 def full_journal(program, folder):
     """A journal whose file can't grow: the process ends, and every answer that went out is in it."""
     run = Run(program, folder, 2)
@@ -198,7 +224,7 @@ def ran(program, room, seed, steps):
 
 def tried(program, room, words):
     fault = refusals(program, room / "refusals") or file_faults(program, room / "files") or full_journal(program, room / "full")
-    fault = fault or ran(program, room / "run", words.seed, words.steps) or controls(program, room)
+    fault = fault or clocked(program, room / "clocked") or ran(program, room / "run", words.seed, words.steps) or controls(program, room)
     until, seed = time.time() + 60 * (words.long or 0), words.seed
     while not fault and time.time() < until:
         seed += 1
