@@ -31,6 +31,11 @@ import processes  # noqa: E402
 
 # How many steps a control takes.
 CONTROL = 3000
+# Lines of a source's journal: it started, was about to ask, asked with a write that failed, and crashed.
+STARTED = '{"source":0,"did":{"start":0},"outcome":"started"}\n'
+ABOUT = '{"about":0,"ask":"5120"}\n'
+FAILED = '{"source":0,"did":{"ask":"5120","store":"failed"},"outcome":{"refused":"Keep"}}\n'
+CRASHED = '{"source":0,"did":"crash","outcome":"crashed"}\n'
 
 
 def joined(run):
@@ -116,8 +121,11 @@ def file_faults(program, folder):
     }
     for name, (octets, _) in spoiled.items():
         (folder / name).write_bytes(octets)
-    foreign = folder / "foreign.jsonl"
+    foreign, early = folder / "foreign.jsonl", folder / "early.jsonl"
     foreign.write_bytes(lines.replace(b'"source":0', b'"source":1'))
+    early.write_text(STARTED + '{"source":0,"did":{"emit":5},"outcome":{"emitted":{"cell":0,"next":9}}}\n')
+    (folder / "left.new").touch()
+    unfinished = "a file of its name with .new is there, which was left or is being made"
     cases = [
         ("store", store, "it is there already; without --new it is used", sourced(net, 0, store, other, "--new")),
         ("store", folder / "none", "there is no such store, or no such folder; --new makes a store", sourced(net, 0, folder / "none", journal)),
@@ -127,6 +135,10 @@ def file_faults(program, folder):
         ("journal", journal, "it has lines already, and a new source has none", sourced(net, 0, folder / "none", journal, "--new")),
         ("journal", foreign, "it is no journal of this source", sourced(net, 0, store, foreign)),
         ("journal", folder, "it is a folder", sourced(net, 0, store, folder)),
+        ("journal", early, "it tells more cells than fit before its last moment", sourced(net, 0, store, early)),
+        ("journal", "/dev/null", "the system doesn't open it", sourced(net, 0, store, "/dev/null")),
+        ("journal", "/dev/null", "the system doesn't open it", sourced(net, 0, folder / "none", "/dev/null", "--new")),
+        ("store", folder / "left", unfinished, sourced(net, 0, folder / "left", folder / "begun", "--new")),
         ("connection", 7, "the net has no such connection", sourced(net, 7, store, journal)),
         (
             "journal",
@@ -143,8 +155,34 @@ def file_faults(program, folder):
             return f"FAILED: {[str(word) for word in words]} gave {said}"
     if store.read_bytes() != whole or journal.read_bytes() != lines:
         return "FAILED: a store or a journal changed"
-    if other.exists() or (folder / "none").exists():
-        return "FAILED: a journal was made beside a store that is there, or for a switch that has no port"
+    if other.exists() or (folder / "none").exists() or (folder / "begun").read_bytes():
+        return "FAILED: a journal was made beside a store that is there, or for a switch that has no port, or it has a line"
+    return None
+
+
+def mended(program, folder):
+    """What a source finds in its journal when it starts again, and what it leaves there before its first line."""
+    run = Run(program, folder, 1)
+    run.end()
+    store, journal = run.sources[0].store, run.sources[0].journal
+    for found, left in {
+        "": "",
+        STARTED[:9]: "",
+        STARTED: STARTED + CRASHED,
+        STARTED[:-1]: STARTED + CRASHED,
+        STARTED + CRASHED: STARTED + CRASHED,
+        (STARTED + CRASHED)[:-1]: STARTED + CRASHED,
+        STARTED + CRASHED[:20]: STARTED + CRASHED,
+        STARTED + ABOUT: STARTED + ABOUT + FAILED + CRASHED,
+        (STARTED + ABOUT)[:-1]: STARTED + ABOUT + FAILED + CRASHED,
+        STARTED + ABOUT[:10]: STARTED + CRASHED,
+        ABOUT: ABOUT + FAILED,
+        ABOUT + FAILED: ABOUT + FAILED,
+    }.items():
+        journal.write_text(found)
+        status, said = told(program, sourced(run.net, 0, store, journal))
+        if (status, said, journal.read_text()) != (0, [], left):
+            return f"FAILED: the journal {found!r} became {journal.read_text()!r}, with {status} and {said}"
     return None
 
 
@@ -224,7 +262,8 @@ def ran(program, room, seed, steps):
 
 def tried(program, room, words):
     fault = refusals(program, room / "refusals") or file_faults(program, room / "files") or full_journal(program, room / "full")
-    fault = fault or clocked(program, room / "clocked") or ran(program, room / "run", words.seed, words.steps) or controls(program, room)
+    fault = fault or mended(program, room / "mended") or clocked(program, room / "clocked")
+    fault = fault or ran(program, room / "run", words.seed, words.steps) or controls(program, room)
     until, seed = time.time() + 60 * (words.long or 0), words.seed
     while not fault and time.time() < until:
         seed += 1
