@@ -78,12 +78,15 @@ class Followed:
     def case(self, case):
         folder = self.room()
         words = shlex.split(case["files"])
+        (first, line, told), *steps = case["steps"]
+        self.put(folder, first, line)
         follow = self.begin(folder, *([] if "--idle" in words else ["--idle", IDLE]), *words)
-        written = set()
-        for name, line, told in case["steps"]:
+        absent = [f"{name}: it isn't there yet\n" for name in words if name.endswith(".jsonl") and name != first]
+        self.trial.wants(f"{case['what']}, {line}", [True], [follow.hears("".join(absent) + told)])
+        for name, line, told in steps:
             self.put(folder, name, line)
-            written.add(name)
             self.trial.wants(f"{case['what']}, {line}", [True], [follow.hears(told)])
+        written = {name for name, *_ in case["steps"]}
         wanted = End(case.get("status", 0), case.get("output", ""), case.get("told", "").removeprefix("\n"))
         self.trial.wants(case["what"], wanted, follow.end())
         self.trial.wants(f"{case['what']}, the files", sorted(case.get("makes", [])), sorted(files_in(folder).keys() - written))
@@ -195,7 +198,7 @@ class Followed:
         # What a kill cut is told behind the answer.
         output = re.sub(r"^note: text \d ends in the middle of line \d+\n", "", given.output, flags=re.M)
         woven = [int(it) for it in re.findall(r"^woven (\d+) events$", given.told, re.M)]
-        rest = re.sub(r"^(woven \d+ events|waits|run/\w+\.jsonl:\d+: \{.*\})\n", "", given.told, flags=re.M)
+        rest = re.sub(r"^(woven \d+ events|waits|run/\w+\.jsonl:(\d+: \{.*\}| it isn't there yet))\n", "", given.told, flags=re.M)
         self.trial.wants("live processes", (0, "woven\nsafe\n", ""), (given.status, output, rest))
         looks = len(re.findall("^w", given.told, re.M))
         self.trial.wants("live processes, what is woven", [sorted(set(woven)), True], [woven, looks > 3])
@@ -209,10 +212,8 @@ class Followed:
         for words, told in self.cases["refused"].items():
             given = run(sys.executable, ["-B", TOOL, "--abt", self.trial.program, *shlex.split(words)], folder=self.trial.folder)
             self.trial.wants(f"the words {words}", (2, "", told), (given.status, given.output, given.told.rstrip("\n").split("\n")[-1]))
-        # The script hands its words on, wherever the option stands before a `--`.
-        for words, begins in {"log.jsonl --follow --help": "usage: abt audit --follow", "--help -- --follow": "Say whether"}.items():
-            given = run(ROOT / "abt", ["audit", *shlex.split(words)])
-            self.trial.wants(f"./abt audit {words}", (0, True), (given.status, given.output.startswith(begins)))
+        given = run(ROOT / "abt", ["audit", "log.jsonl", "--follow", "--help"])
+        self.trial.wants("the script's help", (0, True), (given.status, given.output.startswith("usage: abt audit --follow NET")))
 
 
 def with_mark(mark):

@@ -11,6 +11,7 @@ All other options of `abt audit` are handed on to that last audit. The lines `ab
 can't be followed or the program dies, and 2 if these words can't be read.
 """
 import argparse
+import contextlib
 import ctypes
 import math
 import os
@@ -42,9 +43,19 @@ class Answer(NamedTuple):
     told: str
 
 
-def say(text, stream=sys.stderr):
-    stream.buffer.write(os.fsencode(text))
-    stream.buffer.flush()
+def say(text):
+    """Tells something. What can't be told changes nothing."""
+    with contextlib.suppress(OSError, AttributeError):
+        sys.stderr.buffer.write(os.fsencode(text))
+        sys.stderr.buffer.flush()
+
+
+def show(text):
+    try:
+        sys.stdout.buffer.write(os.fsencode(text))
+        sys.stdout.buffer.flush()
+    except (OSError, AttributeError):
+        raise Fault("write") from None
 
 
 def end_with_parent():
@@ -57,7 +68,7 @@ class Following:
     def __init__(self, words, options, names):
         self.abt, self.idle, self.options = words.abt, words.idle, options
         self.journals, self.events = [Journal(name) for name in names], unnamed()
-        self.child, self.signals, self.listens = None, 0, True
+        self.child, self.signals, self.listens = None, 0, sys.stdin is not None
         # What was told last, and when and how often the files are looked at.
         self.told, self.pause = "", PAUSE
         for number in (signal.SIGINT, signal.SIGTERM, signal.SIGHUP):
@@ -77,11 +88,10 @@ class Following:
 
     def follow(self):
         """Follows the files to the end, and gives the last answer."""
-        changed, due = time.monotonic(), 0
-        is_new = False
+        changed, due, is_new = time.monotonic(), 0, self.take()
+        say("".join(f"{journal.name}: it isn't there yet\n" for journal in self.journals if journal.file is None))
         while True:
-            # In a list, so that each file is read on.
-            if any([journal.take() for journal in self.journals]):
+            if self.take():
                 changed, is_new = time.monotonic(), True
             now = time.monotonic()
             if now - changed >= self.idle or self.is_ended():
@@ -91,6 +101,10 @@ class Following:
                 if self.look(there):
                     return self.last(there)
                 due = time.monotonic() + self.pause
+
+    def take(self):
+        """Reads all files on, and gives whether one has changed."""
+        return any([journal.take() for journal in self.journals])
 
     def is_ended(self):
         """Waits a moment for what ends it: a signal, or a line `end`."""
@@ -150,7 +164,9 @@ def named(told, journals):
     by_name = {name_of(journal.copy): journal for journal in journals}
 
     def placed(found):
-        journal = by_name[found[1]]
+        journal = by_name.get(found[1])
+        if journal is None:
+            return found[0]
         return journal.name + (f":{journal.line(int(found[2]))}" if found[2] else "")
 
     def noted(found):
@@ -236,8 +252,8 @@ def main():
     try:
         following = Following(words, options, names)
         status, output, told = following.follow()
-        say(output, sys.stdout)
         say(told)
+        show(output)
         return status
     except (Fault, OSError) as why:
         say(f"fault: {why}\n")
