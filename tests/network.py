@@ -17,6 +17,8 @@ CONNECTIONS = [
     {"vpi": 1, "vci": 100 + number, "path": path, "delay": DELAY, "tau": TAU} for number, path in enumerate([[0, 1], [0], [1]])
 ]
 CODES = ["5120", "5258", "53e8", "5000", "4e00", "0000", "5258"]
+# How much may be on an access line, or on its way elsewhere, before some of it is delivered at each step.
+MOST = 3
 # How likely a kill is at a step, and again while a command is served.
 KILLS = 0.003
 # How long a process that is killed while it serves a command gets at most, in seconds.
@@ -183,6 +185,12 @@ class Run:
         elif lot < 0.8 and self.access[conn]:
             self.deliver_access(conn)
         elif self.flying:
+            self.deliver()
+        # No answer stays so long on its way that its source has always asked again.
+        for conn, line in enumerate(self.access):
+            if len(line) > MOST:
+                self.deliver_access(conn)
+        if len(self.flying) > MOST:
             self.deliver()
 
     def end(self):
