@@ -183,7 +183,11 @@ def mended(program, folder):
         status, said = told(program, sourced(run.net, 0, store, journal))
         if (status, said, journal.read_text()) != (0, [], left):
             return f"FAILED: the journal {found!r} became {journal.read_text()!r}, with {status} and {said}"
-    return None
+    journal.write_text(STARTED.replace("0}", "7}"))
+    live = Live([program, *sourced(run.net, 0, store, journal)])
+    said = [live.ask(f"start {moment}") for moment in (6, 7)]
+    live.end()
+    return None if said == [["fault", "ClockBack"], ["started"]] else f"FAILED: behind a start at 7, starts at 6 and 7 gave {said}"
 
 
 def limit_files():
