@@ -73,6 +73,10 @@ complete -c abt -n '__fish_seen_subcommand_from play' -l loss -x -d 'How many of
 complete -c abt -n '__fish_seen_subcommand_from play' -l repeat -x -d 'How many of a hundred others come twice; without it, none'
 complete -c abt -n '__fish_seen_subcommand_from play' -l delay -x -d 'The next message is one of the D + 1 sent first; without it, any'
 complete -c abt -n '__fish_seen_subcommand_from play' -l events -r -F -d 'Write the events to this file, as a scenario for abt run'
+complete -c abt -n '__fish_seen_subcommand_from play' -l draw -r -F -d 'Draw the events to this file: a picture if it ends in .svg, a page if in .html'
+complete -c abt -n '__fish_seen_subcommand_from play' -l only -x -d 'With --draw, show these connections alone, as 0,2'
+complete -c abt -n '__fish_seen_subcommand_from play' -l from -x -d 'With --draw, show the events from this one on, counted from 1'
+complete -c abt -n '__fish_seen_subcommand_from play' -l to -x -d 'With --draw, show the events up to this one'
 complete -c abt -n '__fish_seen_subcommand_from play' -s h -l help -d 'Print help'
 complete -c abt -n '__fish_seen_subcommand_from play' -F
 complete -c abt -n '__fish_seen_subcommand_from code' -l json -d 'Answer as JSON, one object a line'

@@ -14,7 +14,7 @@ use Rattle.abt_live_files.specs.declared.plan.SourcePlan.{SourcePlan}
 use Rattle.abt_live_files.specs.declared.plan.SwitchPlan.{SwitchPlan}
 use Rattle.abt_play.specs.declared.chances.Chances.{Chances}
 use Rattle.abt_play.specs.declared.plan.PlayPlan.{PlayPlan}
-use Rattle.abt_cli.specs.Pictures.{IsPicturePlan}
+use Rattle.abt_cli.specs.Pictures.{IsPictureIfNamed, IsPicturePlan}
 use Rattle.abt_cli.specs.Words.{text_in, word_in, words_in, flag_in, AreNumbers, IsUnset, IsFlag, IsCapacity, IsCount, IsTolerance, IsNumberIn}
 use Rattle.abt_cli.specs.declared.command.Command.{Command}
 use Rattle.abt_cli.specs.declared.command.Command.TheVariants.{Rate, Cell, Port, Run, Threads, Explain, Check, Audit, Police, Shape, Step, Play, Code, Write, Draw, Switch, Source}
@@ -47,16 +47,11 @@ pub record IsThreads (found : ArgMatches) (command : ThreadsCommand) : Type 0 wh
   pub explain : IsFlag found (codes "explain") command.explain
   pub quiet : IsFlag found (codes "quiet") command.quiet
 
--- The picture of an audit is the one that its words ask for, if they name a file for it.
-abbrev pub IsAuditPicture : ArgMatches → Option PicturePlan → Type 0
-IsAuditPicture found None = text_in found (codes "draw") ≡ None
-IsAuditPicture found (Some picture) = IsPicturePlan found (codes "draw") picture
-
 -- Each part of an audit is what its word says.
 pub record IsAudit (found : ArgMatches) (command : AuditCommand) : Type 0 where
   pub files : map string_bytes command.files.items ≡ words_in found (codes "FILES")
   pub events : name_of command.events ≡ text_in found (codes "events")
-  pub picture : IsAuditPicture found command.picture
+  pub picture : IsPictureIfNamed found command.picture
   pub quiet : IsFlag found (codes "quiet") command.quiet
 
 -- The seed and the chances are those that the words name. Without a word nothing is lost or repeated, and any message may be the next.
@@ -71,6 +66,7 @@ pub record IsPlay (found : ArgMatches) (plan : PlayPlan) : Type 0 where
   pub file : name_of plan.file ≡ text_in found (codes "FILE")
   pub chances : IsChancesOf found plan.chances
   pub events : name_of plan.events ≡ text_in found (codes "events")
+  pub picture : IsPictureIfNamed found plan.picture
 
 -- how a message is named
 abbrev pub kind_word : Kind → Text

@@ -2,9 +2,9 @@
 use crate::examples;
 use crate::line::command;
 use crate::names::{
-    ASK, EVENTS, FILE, FLOOR, FROM, LOSS, MESSAGE, ONLY, OUTPUT, QUANTITY, REPEAT, SEQ, TO, VCI,
-    VPI, WORKERS, chance, delay, json, possible, rate, scenario, seed, state, tau, valued, word,
-    workers, written,
+    ASK, DRAW, EVENTS, FILE, FLOOR, FROM, LOSS, MESSAGE, ONLY, OUTPUT, QUANTITY, REPEAT, SEQ, TO,
+    VCI, VPI, WORKERS, chance, delay, json, possible, rate, scenario, seed, state, tau, valued,
+    with_drawn_part, word, workers, written,
 };
 use clap::Command;
 use std::alloc::{AllocError, Global};
@@ -65,7 +65,12 @@ pub(crate) fn play_command<'a>(alloc: Global) -> Result<Command<'a>, AllocError>
         EVENTS,
         "Write the events to this file, as a scenario for abt run",
     );
-    command(
+    let draw = written(
+        alloc,
+        DRAW,
+        "Draw the events to this file: a picture if it ends in .svg, a page if in .html",
+    );
+    let play = command(
         alloc,
         "play",
         "Carry out a scenario's scripts in one thread, with losses and repeats drawn by a seed",
@@ -76,7 +81,9 @@ pub(crate) fn play_command<'a>(alloc: Global) -> Result<Command<'a>, AllocError>
     .arg(loss)?
     .arg(repeat)?
     .arg(delay(alloc))?
-    .arg(events)
+    .arg(events)?
+    .arg(draw)?;
+    with_drawn_part(alloc, play)
 }
 
 pub(crate) fn code_command<'a>(alloc: Global) -> Result<Command<'a>, AllocError> {

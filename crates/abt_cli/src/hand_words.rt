@@ -10,7 +10,7 @@ use crate::names::{
     ASK, DELAY, EVENTS, FILE, FLOOR, JSON, LOSS, MESSAGE, OUTPUT, POSSIBLE, QUANTITY, REPEAT, SEED,
     SEQ, STATE, VCI, VPI,
 };
-use crate::picture_words::picture_of;
+use crate::picture_words::{picture_if_named, picture_of};
 use crate::readers::{number_in, rate_in, tau_in, text_in, word_in, workers_in, wrong_words};
 use abt_codes::{Kind, MessageWords};
 use abt_perform::WordsFault;
@@ -71,10 +71,12 @@ pub(crate) fn play_of(alloc: Global, found: &ArgMatches<'_>) -> Result<Command, 
     let chances = chances_of(alloc, found)?;
     let file = text_in(alloc, found, FILE)?;
     let events = text_in(alloc, found, EVENTS)?;
+    let picture = picture_if_named(alloc, found)?;
     Ok(Command::Play(PlayPlan {
         file,
         chances,
         events,
+        picture,
     }))
 }
 

@@ -137,7 +137,13 @@ fn play_told(alloc: Global, plan: &PlayPlan) -> Result<String, Fail> {
     let loss = plan.chances.loss;
     let repeat = plan.chances.repeat;
     let delay = plan.chances.delay;
-    Ok(format!(in alloc; "play {file} {seed} {loss} {repeat} {delay} {events}")?)
+    match &plan.picture {
+        Some(picture) => {
+            let picture = picture_told(alloc, picture)?;
+            Ok(format!(in alloc; "play {file} {seed} {loss} {repeat} {delay} {events} {picture}")?)
+        }
+        None => Ok(format!(in alloc; "play {file} {seed} {loss} {repeat} {delay} {events}")?),
+    }
 }
 
 fn message_told(alloc: Global, words: &MessageWords) -> Result<String, Fail> {

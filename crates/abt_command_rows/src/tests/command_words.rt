@@ -6,7 +6,7 @@ use std::process::Abort;
 use std::test::Fail;
 
 // Words behind the program's name, and the command that they ask for, as `told` says it. A field that is empty is told as `-`.
-const ROWS: [(&str, &str); 71] = [
+const ROWS: [(&str, &str); 73] = [
     ("rate 53e8", "rate 53e8"),
     ("rate 53e8 --json", "rate 53e8 json"),
     ("rate --json 53e8", "rate 53e8 json"),
@@ -105,6 +105,14 @@ const ROWS: [(&str, &str); 71] = [
         "play a.toml --delay 0 --repeat 100 --loss 100 --events e.toml --seed 0",
         "play a.toml 0 100 100 0 e.toml",
     ),
+    (
+        "play a.toml --seed 1 --draw d.svg",
+        "play a.toml 1 0 0 4294967295 - picture d.svg - 0 0",
+    ),
+    (
+        "play --seed 1 --events e.toml --draw d.html --only 0,2 --from 3 --to 9",
+        "play - 1 0 0 4294967295 e.toml page d.html 0,2 3 9",
+    ),
     ("code 1.3Mbps", "code 1.3Mbps"),
     ("code 1.3Mbps --json", "code 1.3Mbps json"),
     (
@@ -150,7 +158,7 @@ const ROWS: [(&str, &str); 71] = [
 ];
 
 // Words that are refused, beside those of a plan (`plans`).
-const REFUSED: [&str; 46] = [
+const REFUSED: [&str; 52] = [
     "none",
     "rate 53e8 --stdin",
     "cell 00 --stdin",
@@ -189,6 +197,12 @@ const REFUSED: [&str; 46] = [
     "play a.toml --seed 1 --loss 101",
     "play a.toml --seed 1 --delay 4294967296",
     "play a.toml --seed 1 --events a.toml",
+    "play d.svg --seed 1 --draw d.svg",
+    "play --seed 1 --events d.svg --draw d.svg",
+    "play --seed 1 --draw -",
+    "play --seed 1 --draw d.txt",
+    "play --seed 1 --only 0",
+    "play --seed 1 --draw d.svg --from 0",
     "write maybe 1 2 3 0000 5258",
     "draw a.toml",
     "draw a.svg -o a.svg",
