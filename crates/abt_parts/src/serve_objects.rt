@@ -4,7 +4,9 @@ ghost use Rattle.std.specs.Option.{option_map};
 ghost use Rattle.abt_cell.specs.Codec.{request_of};
 ghost use Rattle.abt_perform.specs.PortText.{table_decided, table_knowing, table_served};
 ghost use Rattle.abt_text.specs.Text.{◌⋅◌};
+ghost use Rattle.abt_entry.specs.ObjectMembers.{text_member};
 ghost use Rattle.abt_parts.specs.Cells.{message_on, served_past};
+ghost use Rattle.abt_parts.specs.LineObjects.{line_object};
 ghost use Rattle.abt_parts.specs.PartObjects.{back_object, decision_object, drop_object, known_object, onward_object, sent_object, served_object, total_object};
 
 use crate::cells::message_on;
@@ -147,6 +149,23 @@ fn push_back(
     }
 }
 
+// Adds the object of a kind that answers a line, with one text.
+fn push_with_text(
+    alloc: Global,
+    text: &mut String,
+    number: u64,
+    kind: &str,
+    name: &str,
+    value: &str,
+) -> Result<(), AllocError>
+    ensures { OnOk result (string_bytes text.new ≡
+        string_bytes text.old ⋅ line_object kind.now number (text_member name.now value.now)) }
+{
+    let mut object = begin_line(alloc, kind, number)?;
+    push_text(&mut object, name, value)?;
+    end_line(object, text)
+}
+
 // Adds the object of a kind with the cell that is written for a message.
 fn push_sent(
     alloc: Global,
@@ -159,9 +178,7 @@ fn push_sent(
         (string_bytes text.new ≡ string_bytes text.old ⋅ sent_object number kind.now rm.now) }
 {
     let hex = message_hex(alloc, rm)?;
-    let mut object = begin_line(alloc, kind, number)?;
-    push_text(&mut object, "cell", hex.as_str())?;
-    end_line(object, text)
+    push_with_text(alloc, text, number, kind, "cell", hex.as_str())
 }
 
 fn push_drop(
@@ -173,7 +190,5 @@ fn push_drop(
     ensures { OnOk result
         (string_bytes text.new ≡ string_bytes text.old ⋅ drop_object number cause) }
 {
-    let mut object = begin_line(alloc, "drop", number)?;
-    push_text(&mut object, "cause", cause.name())?;
-    end_line(object, text)
+    push_with_text(alloc, text, number, "drop", "cause", cause.name())
 }
