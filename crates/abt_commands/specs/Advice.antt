@@ -1,5 +1,5 @@
 -- What is advised behind a run (docs/FORMATS.md, "Checks").
-use Rattle.std.specs.Prelude.{◌⊎◌, ◌||◌, ◌&&◌, ◌==◌, Bool, false, not, if◌then◌else◌, List, [], ◌∷◌, length, Option, None, Some, Ok, Err, codes}
+use Rattle.std.specs.Prelude.{◌⊎◌, ◌||◌, ◌&&◌, ◌==◌, Bool, false, not, if◌then◌else◌, List, [], ◌∷◌, length, Option, None, Some, Ok, codes}
 use Rattle.std.specs.Io.KnownBytes.{Keeps}
 use Rattle.abt_files.specs.Shown.{shown}
 use Rattle.abt_model.specs.declared.script_command.Command.{Command}

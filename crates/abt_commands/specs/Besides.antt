@@ -1,5 +1,5 @@
 -- What a command leaves that reads a text whole, does something with it, and tells something behind that.
-use Rattle.std.specs.Prelude.{◌≡◌, ◌⊎◌, ℕ, Option, Some, IfSome}
+use Rattle.std.specs.Prelude.{◌≡◌, ◌⊎◌, Option, Some, IfSome}
 use Rattle.std.specs.Io.KnownBytes.{Keeps}
 use Rattle.abt_text.specs.Text.{Text}
 use Rattle.abt_text.specs.declared.reading.TextFault.{TextFault}
@@ -8,7 +8,6 @@ use Rattle.abt_perform.specs.Names.{fault_line}
 use Rattle.abt_perform.specs.Plans.{Tells}
 use Rattle.abt_perform.specs.declared.fault.Fault.{Fault}
 use Rattle.abt_perform.specs.declared.fault.Fault.TheVariants.{Read, TooLong, Memory}
-use Rattle.abt_commands.specs.Ends.{Ends, EndsOver, TakesText}
 
 -- That was done with a text, and then this was told of it.
 pub record IsOfText (Did : (left old new told_old told_new : Option Text) → Type 0) (Besides : (source : Text) → (old new : Option Text) → Type 0)
