@@ -2,11 +2,12 @@
 use super::command_told::told;
 use abt_cli::command_words;
 use abt_perform::WordsFault;
+use std::alloc::Global;
 use std::process::Abort;
 use std::test::Fail;
 
 // Words behind the program's name, and the command that they ask for, as `told` says it. A field that is empty is told as `-`.
-const ROWS: [(&str, &str); 73] = [
+const ROWS: [(&str, &str); 39] = [
     ("rate 53e8", "rate 53e8"),
     ("rate 53e8 --json", "rate 53e8 json"),
     ("rate --json 53e8", "rate 53e8 json"),
@@ -70,6 +71,10 @@ const ROWS: [(&str, &str); 73] = [
         "audit a.jsonl --events e.toml --draw d.html --only 0,2 --from 3 --to 9",
         "audit a.jsonl e.toml page d.html 0,2 3 9",
     ),
+];
+
+// The same of parts by hand, nets that are asked line by line, plays, pictures and processes.
+const OTHER_ROWS: [(&str, &str); 34] = [
     ("police --tau 200 --rate 53e8", "police 200 512000"),
     ("police --rate 1000cps --tau 0", "police 0 512000"),
     (
@@ -213,17 +218,26 @@ const REFUSED: [&str; 52] = [
     "draw -o d.svg --workers 4 --events d.svg",
 ];
 
-#[test]
-fn words_ask_for_these_commands(rt: HostRuntime) -> Result<(), Fail> {
-    let alloc = rt.alloc();
-    for (words, expected) in ROWS {
+// Each row's words ask for its command.
+fn each_asks(rt: &impl Abort, alloc: Global, rows: &[(&str, &str)]) -> Result<(), Fail> {
+    for (words, expected) in rows {
         let words: Vec<&str> = words.split(' ').collect(alloc)?;
         match command_words(alloc, words.as_slice()) {
-            Ok(command) => assert_eq!(rt; told(alloc, &command)?.as_str(), expected),
+            Ok(command) => assert_eq!(rt; told(alloc, &command)?.as_str(), *expected),
             Err(fault) => refused_at_want(fault)?,
         }
     }
     Ok(())
+}
+
+#[test]
+fn words_ask_for_these_commands(rt: HostRuntime) -> Result<(), Fail> {
+    each_asks(&rt, rt.alloc(), &ROWS)
+}
+
+#[test]
+fn other_words_ask_for_these_commands(rt: HostRuntime) -> Result<(), Fail> {
+    each_asks(&rt, rt.alloc(), &OTHER_ROWS)
 }
 
 #[test]
