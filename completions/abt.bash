@@ -18,8 +18,8 @@ _abt() {
         shape) COMPREPLY=($(compgen -W "--rate --json -h --help" -- "$word")) ;;
         step) COMPREPLY=($(compgen -f -W "--json --state --possible -h --help" -- "$word")) ;;
         play) COMPREPLY=($(compgen -f -W "--seed --loss --repeat --delay --events --draw --only --from --to -h --help" -- "$word")) ;;
-        code) COMPREPLY=($(compgen -W "-h --help" -- "$word")) ;;
-        write) COMPREPLY=($(compgen -W "$([ "$COMP_CWORD" -eq 2 ] && echo request yes no) -h --help" -- "$word")) ;;
+        code) COMPREPLY=($(compgen -W "--json -h --help" -- "$word")) ;;
+        write) COMPREPLY=($(compgen -W "$([ "$COMP_CWORD" -eq 2 ] && echo request yes no) --json -h --help" -- "$word")) ;;
         draw) COMPREPLY=($(compgen -f -W "-o --output --only --from --to --workers --events -h --help" -- "$word")) ;;
         switch) COMPREPLY=($(compgen -f -W "--port --journal -h --help" -- "$word")) ;;
         source) COMPREPLY=($(compgen -f -W "--store --journal --new -h --help" -- "$word")) ;;
