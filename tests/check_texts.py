@@ -84,11 +84,21 @@ def try_first_fault(trial, sample, text):
     trial.wants(f"{sample.name}, its first fault", (run.status, wanted), (check.status, faults[:1]))
 
 
+def advice_of(command, text):
+    """What is told behind the check of a scenario that has nothing to run for a command."""
+    read = tomllib.loads(text.decode())
+    has_script = read.get("operator") or any(conn.get("script") for conn in read.get("connection", []))
+    if command == "run":
+        return "this scenario has only scripts: use abt threads, or abt play\n" if has_script and not read.get("events") else ""
+    return "this scenario has only events: use abt run\n" if read.get("events") and not has_script else ""
+
+
 def try_explained(trial, sample, text):
-    """`run --explain` and `threads --explain` print what they print without it, and the lines of `abt check`; before these a run in
-    threads tells its events, at which tests/woven.py looks."""
-    lines = trial.run("check", text=text).output
+    """`run --explain` and `threads --explain` print what they print without it, and the lines of `abt check` and advice; before these a
+    run in threads tells its events, at which tests/woven.py looks."""
+    check = trial.run("check", text=text)
     for words in (["run"], ["threads", "--workers", "2"]):
+        lines = check.output + ("" if check.status else advice_of(words[0], text))
         plain, given = trial.run(*words, text=text), trial.run(*words, "--explain", text=text)
         tells = words[0] == "threads" and not plain.status
         told = lines if tells and given.told.endswith(lines) else given.told

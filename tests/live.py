@@ -1,8 +1,5 @@
-"""Runs three sources and two ports as processes over pipes (`abt source`, `abt switch`), between which a network loses, repeats and
-reorders, kills sources with -9 at drawn instants, and has `abt audit` find that their journals are woven and safe.
-
-A source that is killed begins again over its store and its journal. The network keeps a source's access line in order and in time, and lets
-a switch live. Its choices are drawn from a seed, but when a kill comes while a command is served depends on the machine.
+"""Runs three sources and two ports as processes over a bad network (tests/network.py), and has `abt audit` find that their journals are
+woven and safe.
 
 For the audit `about` lines are left out of a source's journal, and it gets what the first port of its path served.
 
@@ -10,11 +7,12 @@ Before that, stores, journals, ports and connections that can't be had are told 
 no answer that it doesn't have. Two controls have to be found behind it: a source whose store is put back to an older file after each kill,
 and requests that overtake cells on an access line.
 
-usage: live.py PROGRAM.. [--steps N] [--seed N]
+With --long it goes on so for an hour, or for so many minutes: run after run, each with the next seed.
+
+usage: live.py PROGRAM.. [--steps N] [--seed N] [--long [MINUTES]]
 """
 import argparse
 import json
-import random
 import resource
 import shutil
 import signal
@@ -24,189 +22,20 @@ import time
 from collections import Counter
 from pathlib import Path
 
+from harness import worked
+from network import CONNECTIONS, PORTS, Live, Run, lines_of, played
+
 ROOT = Path(__file__).resolve().parent.parent
 sys.path.insert(0, str(ROOT / "tools"))
 import processes  # noqa: E402
 
-# The access lines' delay and the tolerance of policers, in picoseconds.
-DELAY, TAU = 1000, 2_000_000_000
-PORTS = [512000, 512000]
-CONNECTIONS = [
-    {"vpi": 1, "vci": 100 + number, "path": path, "delay": DELAY, "tau": TAU} for number, path in enumerate([[0, 1], [0], [1]])
-]
-CODES = ["5120", "5258", "53e8", "5000", "4e00", "0000", "5258"]
-# How likely a kill is at a step, and again while a command is served.
-KILLS = 0.003
-# How long a process that is killed while it serves a command gets at most, in seconds.
-LIVES = 0.004
 # How many steps a control takes.
 CONTROL = 3000
-
-
-class Live:
-    """A process that answers lines."""
-
-    def __init__(self, words):
-        self.process = subprocess.Popen([str(word) for word in words], stdin=subprocess.PIPE, stdout=subprocess.PIPE, bufsize=0)
-
-    def tell(self, line):
-        self.process.stdin.write(line.encode() + b"\n")
-
-    def hear(self):
-        """The words of the next answer, or none if the process ended before it was whole."""
-        said = self.process.stdout.readline()
-        return said.decode().split() if said.endswith(b"\n") else []
-
-    def ask(self, line):
-        self.tell(line)
-        return self.hear()
-
-    def kill(self):
-        self.process.kill()
-        self.process.wait()
-
-    def end(self):
-        self.process.stdin.close()
-        return self.process.wait()
-
-
-def lines_of(journal):
-    """The lines of a journal that are whole."""
-    return [json.loads(line) for line in journal.read_bytes().split(b"\n")[:-1]] if journal.exists() else []
-
-
-class Source:
-    """The source of a connection: its process, its store and its journal."""
-
-    def __init__(self, run, conn):
-        self.run, self.conn = run, conn
-        self.store, self.journal = run.folder / f"store{conn}", run.folder / f"source{conn}.jsonl"
-        self.begin("--new")
-        self.live.ask("again")
-        self.oldest = self.store.read_bytes()
-
-    def begin(self, *more):
-        words = ["source", self.run.net, self.conn, "--store", self.store, "--journal", self.journal, *more]
-        self.live = Live([self.run.program, *words])
-
-    def kill(self):
-        self.live.kill()
-        if self.run.puts_back:
-            self.store.write_bytes(self.oldest)
-        self.begin()
-        self.run.count["kills"] += 1
-
-
-class Run:
-    """Sources, ports and the network between them."""
-
-    def __init__(self, program, folder, seed, puts_back=False, overtakes=False):
-        self.program, self.folder, self.rng = program, folder, random.Random(seed)
-        self.puts_back, self.overtakes, self.count = puts_back, overtakes, Counter()
-        folder.mkdir()
-        self.net = folder / "net.toml"
-        tables = (
-            f"[[connection]]\nvpi = {it['vpi']}\nvci = {it['vci']}\npath = {it['path']}\ndelay = {it['delay']}\ntau = {it['tau']}\n"
-            for it in CONNECTIONS
-        )
-        self.net.write_text(f"ports = {PORTS}\n{''.join(tables)}")
-        self.ports = [folder / f"port{number}.jsonl" for number in range(len(PORTS))]
-        self.switches = [
-            Live([program, "switch", self.net, "--journal", journal, "--port", number]) for number, journal in enumerate(self.ports)
-        ]
-        self.sources = [Source(self, conn) for conn in range(len(CONNECTIONS))]
-        # What is on each access line, in order, and what is on its way elsewhere.
-        self.access, self.flying, self.last_at = [[] for _ in CONNECTIONS], [], [0] * len(CONNECTIONS)
-        self.now = 0
-
-    def take(self, conn, said):
-        """What a source gave out goes onto its access line."""
-        if said[:1] == ["rm"]:
-            self.count["requests"] += 1
-            place = 0 if self.overtakes else len(self.access[conn])
-            self.access[conn].insert(place, ("rm", said[1]))
-        elif said[:1] == ["cell"]:
-            self.count["cells"] += 1
-            cell, sent = int(said[1]), int(said[2])
-            at = max(sent + DELAY + self.rng.randrange(TAU + 1), self.last_at[conn])
-            if at <= sent + DELAY + TAU:
-                self.last_at[conn] = at
-                self.access[conn].append(("cell", cell, at))
-        elif said[:1]:
-            self.count[said[0]] += 1
-
-    def command(self, conn, line):
-        """Gives a source a command, while which it may be killed."""
-        source = self.sources[conn]
-        if self.rng.random() >= KILLS:
-            return self.take(conn, source.live.ask(line))
-        source.live.tell(line)
-        time.sleep(self.rng.random() * LIVES)
-        source.live.process.kill()
-        self.take(conn, source.live.hear())
-        self.count["cut short"] += 1
-        source.kill()
-
-    def switch(self, port, line):
-        said = self.switches[port].ask(line)
-        if said[0] == "send":
-            self.flying.append(("port", int(said[1]), said[2]))
-        elif said[0] == "tell":
-            self.flying.append(("source", int(said[1]), said[2]))
-        else:
-            self.count[said[0]] += 1
-
-    def deliver_access(self, conn):
-        """The access line delivers in order, loses, or repeats a request later."""
-        thing, first = self.access[conn].pop(0), CONNECTIONS[conn]["path"][0]
-        lot = self.rng.random()
-        if lot < 0.12:
-            self.count["lost"] += 1
-        elif thing[0] == "cell":
-            self.switch(first, f"{first} data {thing[1]} {CONNECTIONS[conn]['vpi']} {CONNECTIONS[conn]['vci']} {thing[2]}")
-        else:
-            self.switch(first, f"{first} {thing[1]}")
-            if lot < 0.3:
-                self.access[conn].append(thing)
-                self.count["repeated"] += 1
-
-    def deliver(self):
-        """What is elsewhere comes in any order, is lost, or comes again."""
-        thing = self.flying.pop(self.rng.randrange(len(self.flying)))
-        lot = self.rng.random()
-        if lot < 0.1:
-            self.count["lost"] += 1
-            return
-        if lot < 0.25:
-            self.flying.append(thing)
-            self.count["repeated"] += 1
-        if thing[0] == "port":
-            self.switch(thing[1], f"{thing[1]} {thing[2]}")
-        else:
-            self.command(thing[1], thing[2])
-
-    def step(self):
-        self.now += self.rng.randrange(30_000_000_000)
-        conn, lot = self.rng.randrange(len(CONNECTIONS)), self.rng.random()
-        if lot < 0.07:
-            self.command(conn, f"start {self.now}")
-        elif lot < 0.22:
-            self.command(conn, f"ask {self.rng.choice(CODES)}")
-        elif lot < 0.26:
-            self.command(conn, "again")
-        elif lot < 0.55:
-            for _ in range(3):
-                self.command(conn, f"emit {self.now}")
-                self.now += self.rng.randrange(2_500_000_000)
-        elif lot < 0.55 + KILLS:
-            self.sources[conn].kill()
-        elif lot < 0.8 and self.access[conn]:
-            self.deliver_access(conn)
-        elif self.flying:
-            self.deliver()
-
-    def end(self):
-        return [live.end() for live in [*(source.live for source in self.sources), *self.switches]]
+# Lines of a source's journal: it started, was about to ask, asked with a write that failed, and crashed.
+STARTED = '{"source":0,"did":{"start":0},"outcome":"started"}\n'
+ABOUT = '{"about":0,"ask":"5120"}\n'
+FAILED = '{"source":0,"did":{"ask":"5120","store":"failed"},"outcome":{"refused":"Keep"}}\n'
+CRASHED = '{"source":0,"did":"crash","outcome":"crashed"}\n'
 
 
 def joined(run):
@@ -246,13 +75,6 @@ def audit(program, run):
         (run.folder / name).write_text("".join(json.dumps(line) + "\n" for line in [*lines, {"end": True}]))
     done = subprocess.run([program, "audit", *texts], cwd=run.folder, capture_output=True, text=True, timeout=600)
     return done.returncode, done.stdout, done.stderr, sum(map(len, texts.values()))
-
-
-def played(program, folder, seed, steps, **control):
-    run = Run(program, folder, seed, **control)
-    for _ in range(steps):
-        run.step()
-    return run, run.end()
 
 
 def refusals(program, folder):
@@ -299,8 +121,11 @@ def file_faults(program, folder):
     }
     for name, (octets, _) in spoiled.items():
         (folder / name).write_bytes(octets)
-    foreign = folder / "foreign.jsonl"
+    foreign, early = folder / "foreign.jsonl", folder / "early.jsonl"
     foreign.write_bytes(lines.replace(b'"source":0', b'"source":1'))
+    early.write_text(STARTED + '{"source":0,"did":{"emit":5},"outcome":{"emitted":{"cell":0,"next":9}}}\n')
+    (folder / "left.new").touch()
+    unfinished = "a file of its name with .new is there, which was left or is being made"
     cases = [
         ("store", store, "it is there already; without --new it is used", sourced(net, 0, store, other, "--new")),
         ("store", folder / "none", "there is no such store, or no such folder; --new makes a store", sourced(net, 0, folder / "none", journal)),
@@ -310,6 +135,10 @@ def file_faults(program, folder):
         ("journal", journal, "it has lines already, and a new source has none", sourced(net, 0, folder / "none", journal, "--new")),
         ("journal", foreign, "it is no journal of this source", sourced(net, 0, store, foreign)),
         ("journal", folder, "it is a folder", sourced(net, 0, store, folder)),
+        ("journal", early, "it tells more cells than fit before its last moment", sourced(net, 0, store, early)),
+        ("journal", "/dev/null", "the system doesn't open it", sourced(net, 0, store, "/dev/null")),
+        ("journal", "/dev/null", "the system doesn't open it", sourced(net, 0, folder / "none", "/dev/null", "--new")),
+        ("store", folder / "left", unfinished, sourced(net, 0, folder / "left", folder / "begun", "--new")),
         ("connection", 7, "the net has no such connection", sourced(net, 7, store, journal)),
         (
             "journal",
@@ -326,14 +155,69 @@ def file_faults(program, folder):
             return f"FAILED: {[str(word) for word in words]} gave {said}"
     if store.read_bytes() != whole or journal.read_bytes() != lines:
         return "FAILED: a store or a journal changed"
-    if other.exists() or (folder / "none").exists():
-        return "FAILED: a journal was made beside a store that is there, or for a switch that has no port"
+    if other.exists() or (folder / "none").exists() or (folder / "begun").read_bytes():
+        return "FAILED: a journal was made beside a store that is there, or for a switch that has no port, or it has a line"
     return None
+
+
+def mended(program, folder):
+    """What a source finds in its journal when it starts again, and what it leaves there before its first line."""
+    run = Run(program, folder, 1)
+    run.end()
+    store, journal = run.sources[0].store, run.sources[0].journal
+    for found, left in {
+        "": "",
+        STARTED[:9]: "",
+        STARTED: STARTED + CRASHED,
+        STARTED[:-1]: STARTED + CRASHED,
+        STARTED + CRASHED: STARTED + CRASHED,
+        (STARTED + CRASHED)[:-1]: STARTED + CRASHED,
+        STARTED + CRASHED[:20]: STARTED + CRASHED,
+        STARTED + ABOUT: STARTED + ABOUT + FAILED + CRASHED,
+        (STARTED + ABOUT)[:-1]: STARTED + ABOUT + FAILED + CRASHED,
+        STARTED + ABOUT[:10]: STARTED + CRASHED,
+        ABOUT: ABOUT + FAILED,
+        ABOUT + FAILED: ABOUT + FAILED,
+    }.items():
+        journal.write_text(found)
+        status, said = told(program, sourced(run.net, 0, store, journal))
+        if (status, said, journal.read_text()) != (0, [], left):
+            return f"FAILED: the journal {found!r} became {journal.read_text()!r}, with {status} and {said}"
+    journal.write_text(STARTED.replace("0}", "7}"))
+    live = Live([program, *sourced(run.net, 0, store, journal)])
+    said = [live.ask(f"start {moment}") for moment in (6, 7)]
+    live.end()
+    return None if said == [["fault", "ClockBack"], ["started"]] else f"FAILED: behind a start at 7, starts at 6 and 7 gave {said}"
 
 
 def limit_files():
     resource.setrlimit(resource.RLIMIT_FSIZE, (3000, resource.RLIM_INFINITY))
     signal.signal(signal.SIGXFSZ, signal.SIG_IGN)
+
+
+def clocked(program, folder):
+    """The adapter of docs/LIVE.md hands in the moments of a clock, over a restart too: a cell leaves a second after the start, and not
+    before."""
+    run = Run(program, folder, 1)
+    run.end()
+    ((name, text),) = worked("LIVE.md", r"^```python\n# (\w+\.py)\n(.*?)^```$")
+    (folder / name).write_text(text)
+    (folder / "run.sh").write_text('python3 "$1" "$2" | { shift 2; exec "$@"; }\n')
+    words = [program, *sourced(run.net, 0, run.sources[0].store, run.sources[0].journal)]
+    yes = subprocess.run([program, "write", "yes", "1", "100", "1", "0000", "5258"], capture_output=True, text=True, timeout=60)
+    epoch, said = time.monotonic_ns(), []
+    for lines, pause in [(("start", "emit", "ask 5258", yes.stdout.strip(), "emit"), 1.2), (("start", "emit"), 0)]:
+        live = Live(["sh", folder / "run.sh", folder / name, epoch, *words])
+        said += [live.ask(line) for line in lines]
+        time.sleep(pause)
+        said += [live.ask("emit")]
+        live.end()
+    elapsed = (time.monotonic_ns() - epoch) * 1000
+    kinds = [" ".join(it[:1] if it[:1] != ["fault"] else it) for it in said]
+    wanted = ["started", "fault Zero", "rm", "heard", "toosoon", "cell", "started", "fault Zero", "fault Zero"]
+    if kinds != wanted or not 10**12 <= int(said[5][2]) <= elapsed:
+        return f"FAILED: the clock of docs/LIVE.md gave {said}"
+    return None
 
 
 def full_journal(program, folder):
@@ -365,20 +249,30 @@ def controls(program, room):
     return None if found["puts_back"] and found["overtakes"] else "FAILED: a control wasn't found"
 
 
-def tried(program, room, seed, steps):
-    fault = refusals(program, room / "refusals") or file_faults(program, room / "files") or full_journal(program, room / "full")
-    if fault:
-        return fault
+def ran(program, room, seed, steps):
+    """A run, and what its audit finds."""
     began = time.time()
-    run, statuses = played(program, room / "run", seed, steps)
+    run, statuses = played(program, room, seed, steps)
     status, output, told, lines = audit(program, run)
     count = ", ".join(f"{number} {name}" for name, number in sorted(run.count.items()))
-    print(f"live: {steps} steps in {time.time() - began:.0f} s, {lines} lines of journals: {count}")
+    print(f"live: seed {seed}, {steps} steps in {time.time() - began:.0f} s, {lines} lines of journals: {count}", flush=True)
     if status or output != "woven\nsafe\n" or any(statuses):
         kept = Path.cwd() / "live.failed"
         shutil.copytree(run.folder, kept, dirs_exist_ok=True)
-        return f"FAILED: status {status}, {told[:600]} {statuses}; the journals are in {kept}"
-    return controls(program, room)
+        return f"FAILED: seed {seed}, status {status}, {told[:600]} {statuses}; the journals are in {kept}"
+    shutil.rmtree(run.folder)
+    return None
+
+
+def tried(program, room, words):
+    fault = refusals(program, room / "refusals") or file_faults(program, room / "files") or full_journal(program, room / "full")
+    fault = fault or mended(program, room / "mended") or clocked(program, room / "clocked")
+    fault = fault or ran(program, room / "run", words.seed, words.steps) or controls(program, room)
+    until, seed = time.time() + 60 * (words.long or 0), words.seed
+    while not fault and time.time() < until:
+        seed += 1
+        fault = ran(program, room / "run", seed, words.steps)
+    return fault
 
 
 def main():
@@ -386,6 +280,7 @@ def main():
     reader.add_argument("program", nargs="+")
     reader.add_argument("--steps", type=int, default=12000)
     reader.add_argument("--seed", type=int, default=7)
+    reader.add_argument("--long", type=float, nargs="?", const=60, metavar="MINUTES")
     words = reader.parse_args()
     room = processes.room(None, "live-")
     try:
@@ -393,7 +288,7 @@ def main():
         for number, program in enumerate(words.program):
             folder = Path(room, f"program{number}")
             folder.mkdir()
-            faults.append(tried(Path(program).resolve(), folder, words.seed, words.steps))
+            faults.append(tried(Path(program).resolve(), folder, words))
     finally:
         processes.clear_rooms()
     if any(faults):

@@ -38,6 +38,7 @@ WRITING = {
     "audit j.svg --draw": PICTURE,
     "audit j.svg --events": EVENTS,
     "play s.svg --seed 1 --events": EVENTS,
+    "play s.svg --seed 1 --draw": PICTURE,
     "threads s.svg --workers 1 --events": EVENTS,
     "threads s.svg --workers 1 --journals": RUN,
 }

@@ -83,6 +83,7 @@ def check_kept(drawer):
     folder.mkdir()
     kept, old, tried = folder / "kept.svg", "kept" * 100_000, 0
     (folder / "run.jsonl").write_text(JOURNALS)
+    play = ["play", SCENARIOS / "threads_one_source.toml", "--seed", "1"]
 
     def ends(words, wanted, picture, **more):
         kept.write_text(old)
@@ -94,6 +95,7 @@ def check_kept(drawer):
         (["draw", SCENARIOS / "two_ports.toml", "-o", "kept.svg"], ""),
         (["draw", SCENARIOS / "threads_one_source.toml", "--workers", "1", "-o", "kept.svg"], ""),
         (["audit", "run.jsonl", "--draw", "kept.svg"], "woven\nsafe\n"),
+        ([*play, "--draw", "kept.svg"], drawer.run(*play).output),
     ]:
         ends(words, End(0, told), lambda text: text.startswith("<svg ") and text.endswith("</svg>\n"))
         # What is printed may be written before the picture. The fault's own line is written behind it.

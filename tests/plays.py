@@ -2,7 +2,9 @@
 
 The same seed has to give the same octets, and seeds have to differ. The events of each play have to be right as those of a run in threads
 (tests/woven.py), and what is told is what has to be told of them. The events of a source have to be those of its script, in its order.
-Where all is lost nothing comes; where nothing is lost each request is answered.
+They have to be those that a slow play draws with the same seed (tests/slow_play.py).
+Where all is lost nothing comes; where nothing is lost each request is answered. Some plays are drawn: what is printed stays the same, and the
+picture has to be that of the slow model's run of the play's events.
 
 usage: plays.py PROGRAM..
 """
@@ -11,9 +13,16 @@ import tomllib
 from collections import Counter
 
 from harness import End, main, samples
+from picture import Page, Picture, Run
+from reading import read as read_scenario
+from slow_play import Play
 from woven import telling_of
 
 SEEDS = 200
+# Each so many seeds a play is drawn.
+DRAWN = 20
+# How many connections a crowd has, and how many messages under way the program keeps beside one another.
+CROWD, MOST_IN_ONE_BLOCK = 150, 256
 # The chances that are tried, one after the other.
 CHANCES = [(), ("--loss", 10), ("--repeat", 30), ("--delay", 0), ("--loss", 20, "--repeat", 50, "--delay", 2), ("--repeat", 100)]
 OWN = ("start", "ask", "again", "crash", "emit")
@@ -38,6 +47,10 @@ def played(trial, sample, seed, *chances):
     return given.output, out.read_bytes()
 
 
+def named(chances):
+    return {name.removeprefix("--"): value for name, value in zip(chances[::2], chances[1::2])}
+
+
 def is_in_order(few, many):
     """Whether some stand among others, in their order."""
     rest = iter(many)
@@ -51,6 +64,10 @@ def try_events(trial, sample, read, seed, chances):
         return None
     telling, events = telling_of(trial, what, trial.folder / "out.toml"), tomllib.loads(scenario.decode())["events"]
     trial.wants(f"what is told of {what}", (telling, False), (told[: len(telling)], "\nevent " in told[len(telling) :]))
+    ports, conns, drawn, _ = read_scenario(scenario)
+    _, scripted_conns, _, operations = read_scenario(sample.read_bytes())
+    slow = Play(ports, scripted_conns, operations, seed, **named(chances))
+    trial.wants(f"the events of {what}", slow.events, drawn)
     for conn, line in enumerate(read.get("connection", ())):
         words = [it.split(" ") for it in events]
         own = [[verb, *more[: 1 if verb == "emit" else 2]] for verb, place, *more in words if verb in OWN and place == str(conn)]
@@ -63,7 +80,48 @@ def try_events(trial, sample, read, seed, chances):
     return told
 
 
+def try_pictures(trial, sample, seed, chances):
+    """A play that is drawn, as a picture, as a page and in part."""
+    told, octets = played(trial, sample, seed, *chances)
+    ports, conns, events, _ = read_scenario(octets)
+    explained, run = trial.explained(trial.folder / "out.toml"), Run(ports, conns, events)
+
+    def drawn(name, *words):
+        given = trial.run("play", sample, "--seed", seed, *chances, "--draw", name, *words)
+        trial.wants(f"what is printed of {sample.name}, seed {seed}, that is drawn", End(0, told), given)
+        return (trial.folder / name).read_text()
+
+    Page(drawn("drawn.html")).check(explained)
+    parts = [((), 0, len(events), ())]
+    if len(events) > 4:
+        parts.append((("--from", 3, "--to", len(events) - 1, "--only", 0), 2, len(events) - 1, (0,)))
+    for words, first, last, only in parts:
+        picture = Picture(drawn("drawn.svg", *words), run, first, last, only)
+        picture.check()
+        trial.wants(f"the words of a picture of {sample.name}", explained, picture.words)
+
+
+def crowd():
+    """A scenario with more messages under way at once than there are in a sample: hundreds, of many connections."""
+    script = '["start 0", "ask 5120", "again", "again", "again", "again", "listen 9"]'
+    conns = (f"[[connection]]\nvpi = 1\nvci = {conn}\npath = [{conn % 2}]\ndelay = 0\ntau = 0\nscript = {script}\n" for conn in range(CROWD))
+    return "ports = [1000000000, 1000000000]\n" + "".join(conns)
+
+
+def try_crowd(trial):
+    sample = trial.folder / "crowd.toml"
+    sample.write_text(crowd())
+    ports, conns, _, operations = read_scenario(sample.read_bytes())
+    for seed, chances in enumerate([(), ("--repeat", 20, "--loss", 5), ("--delay", 300)]):
+        _, scenario = played(trial, sample, seed, *chances)
+        slow = Play(ports, conns, operations, seed, **named(chances))
+        trial.wants(f"the events of a crowd, {chances}", slow.events, read_scenario(scenario)[2])
+        trial.wants(f"the crowd, {chances}", (True,), (slow.most > MOST_IN_ONE_BLOCK,))
+
+
 def try_sample(trial, sample, read):
+    for seed in range(0, SEEDS, DRAWN):
+        trial.checks(f"a picture of {sample.name}, seed {seed}", try_pictures, trial, sample, seed, CHANCES[seed // DRAWN % len(CHANCES)])
     tellings = {try_events(trial, sample, read, seed, CHANCES[seed % len(CHANCES)]) for seed in range(SEEDS)}
     again = [played(trial, sample, 7, "--loss", 20, "--repeat", 50) for _ in range(2)]
     trial.wants(f"one seed of {sample.name} twice", again[0], again[1])
@@ -82,6 +140,7 @@ def look(trial):
     for count, (sample, read) in enumerate(scripted(), 1):
         try_sample(trial, sample, read)
     trial.wants("the samples with scripts", (True,), (count >= 3,))
+    try_crowd(trial)
     trial.wants("octets that are no text", End(1, "", "fault: NotUtf8\n"), trial.run("play", "--seed", 1, text=b"ports = [\xff]"))
     return f"{cases} cases, {count} samples over {SEEDS} seeds"
 

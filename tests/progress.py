@@ -1,4 +1,5 @@
-"""Runs the program in terminals of their own: the line that tells how far it is, and where there is none (docs/FORMATS.md, "Progress").
+"""Runs the program in terminals of their own: the line that tells how far it is, and where there is none (docs/FORMATS.md, "Progress");
+and advice, which is told on a terminal alone ("Checks").
 
 A window of 20 columns shows what it would without the line, and the line in one row as long as it stands. Where the system gives no
 pseudo-terminals nothing is looked at.
@@ -26,6 +27,25 @@ EVENTS = [f"start 0 {moment}" for moment in range(300)]
 FILLING = "# " + 61 * "." + "\n"
 THREADS = "threads --workers 2"
 OF_LONG = ("run", "run --json", "run --explain", "explain", "explain --json", THREADS, f"{THREADS} --journals OUT", f"{THREADS} --explain")
+# A net of a port and a connection, and what makes a scenario of it.
+NET = b"ports = [512000]\n%s\n[[connection]]\nvpi = 1\nvci = 100\npath = [0]\ndelay = 0\ntau = 0\n%s\n"
+SCRIPTS, OPERATOR, EVENT = NET % (b"", b"script = ['start 0']"), NET % (b"operator = ['capacity 0 5']", b""), NET % (b"events = ['start 0 0']", b"")
+BOTH, NOTHING = NET % (b"events = ['start 0 0']", b"script = ['start 0']"), NET % (b"", b"script = []")
+FOR_SCRIPTS = "this scenario has only scripts: use abt threads, or abt play\n"
+# Commands over these, and what is told on a terminal alone; with --explain the advice is told anywhere.
+ADVISED = [
+    ("run", SCRIPTS, FOR_SCRIPTS),
+    ("run", OPERATOR, FOR_SCRIPTS),
+    ("run --json", SCRIPTS, ""),
+    ("run --explain", SCRIPTS, ""),
+    *(("run", text, "") for text in (EVENT, BOTH, NOTHING)),
+    (THREADS, EVENT, "this scenario has only events: use abt run\n"),
+    *((THREADS, text, "") for text in (SCRIPTS, OPERATOR, BOTH, NOTHING)),
+    ("run", NET % (b"events = ['akk 0']", b""), "abt check says why\n"),
+    (THREADS, NET % (b"events = ['akk 0']", b""), "abt check says why\n"),
+    ("run", b"\xff", ""),
+    ("check", SCRIPTS, ""),
+]
 CASES = [*((words, "long.toml") for words in OF_LONG), ("audit", "run.jsonl"), ("run", "faulty.toml"), ("run --explain", "faulty.toml")]
 
 
@@ -51,14 +71,36 @@ def look_at_drawn(what, told, plain, length):
     assert all(second - first >= PACE for first, second in zip(octets, octets[1:])), f"too many lines of {what}"
 
 
+def advice(words, file, name):
+    """What is advised on a terminal alone."""
+    if words == ["run"] and file.name == "faulty.toml":
+        return f"abt check{name} says why\n"
+    return "this scenario has only events: use abt run\n" if words == THREADS.split() else ""
+
+
+def look_at_advice(program, words, text, told):
+    """A short scenario as standard input in a terminal: what is told there, and that nothing is without one."""
+    with tempfile.TemporaryFile() as stdin:
+        stdin.write(text)
+        stdin.seek(0)
+        shown = Terminal([program, *words], stdin=stdin).end()
+    plain = run(program, words, text)
+    assert shown == (plain.status, plain.output.encode(), f"{plain.told}{told}".replace("\n", "\r\n").encode()), (words, shown)
+
+
 def look_at_long(program, words, file):
     """Runs a command over a long input, by name and as standard input; then with --quiet, in a dumb terminal, and in a narrow window."""
     status, out, told = run(program, [*words, file])
     assert "\x1b" not in told, ("no terminal", told[:80])
-    plain, length = (status, out.encode(), told.replace("\n", "\r\n").encode()), os.path.getsize(file)
-    look_at_drawn("a file", Terminal([program, *words, file]).end(), plain, length)
+    length = os.path.getsize(file)
+
+    def with_advice(name):
+        return status, out.encode(), (told + advice(words, file, name)).replace("\n", "\r\n").encode()
+
     with open(file, "rb") as stdin:
-        look_at_drawn("standard input", Terminal([program, *words], stdin).end(), plain, length)
+        look_at_drawn("standard input", Terminal([program, *words], stdin).end(), with_advice(""), length)
+    plain = with_advice(f" {file}")
+    look_at_drawn("a file", Terminal([program, *words, file]).end(), plain, length)
     for more, term in ((["--quiet"], "xterm"), ([], "dumb"), ([], None)):
         silent = Terminal([program, *words, *more, file], term=term).end()
         assert silent == plain, (more, term, silent[2][:80])
@@ -118,8 +160,10 @@ def look(trial):
         trial.checks(f"{words} of {file}", look_at_long, trial.program, words, trial.folder / file)
     for words, text in ((["run"], b"ports = [512000]\n"), (["shape", "--rate", "53e8"], b"0\n" * 300_000)):
         trial.checks(f"{words} of a short input", look_at_none, trial.program, words, text)
+    for words, text, told in ADVISED:
+        trial.checks(f"advice on {words}", look_at_advice, trial.program, words.split(), text, told)
     trial.checks("an interrupt", look_at_interrupt, trial.program)
-    return f"{len(CASES) + 3} kinds of commands"
+    return f"{len(CASES) + len(ADVISED) + 3} kinds of commands"
 
 
 main(look)

@@ -37,8 +37,11 @@ fn main(rt: HostRuntime) -> ExitCode {
     let progress = Progress::new(rt.alloc(), terminal);
     let mut input = Watched::new(rt.stdin(), &progress);
     let mut out = Cleared::new(rt.stdout(), &progress);
-    let mut errors = Cleared::new(rt.stderr(), &progress);
-    let status = carry_out_command(&rt, &progress, command, &mut input, &mut out, &mut errors);
+    let mut told = Cleared::new(rt.stderr(), &progress);
+    let hints = is_terminal;
+    let status = carry_out_command(
+        &rt, &progress, command, hints, &mut input, &mut out, &mut told,
+    );
     progress.clear();
     ExitCode::from(status)
 }

@@ -14,7 +14,7 @@ use Rattle.abt_live_files.specs.declared.plan.SourcePlan.{SourcePlan}
 use Rattle.abt_live_files.specs.declared.plan.SwitchPlan.{SwitchPlan}
 use Rattle.abt_play.specs.declared.chances.Chances.{Chances}
 use Rattle.abt_play.specs.declared.plan.PlayPlan.{PlayPlan}
-use Rattle.abt_cli.specs.Pictures.{IsPicturePlan}
+use Rattle.abt_cli.specs.Pictures.{IsPictureIfNamed, IsPicturePlan}
 use Rattle.abt_cli.specs.Words.{text_in, word_in, words_in, flag_in, AreNumbers, IsUnset, IsFlag, IsCapacity, IsCount, IsTolerance, IsNumberIn}
 use Rattle.abt_cli.specs.declared.command.Command.{Command}
 use Rattle.abt_cli.specs.declared.command.Command.TheVariants.{Rate, Cell, Port, Run, Threads, Explain, Check, Audit, Police, Shape, Step, Play, Code, Write, Draw, Switch, Source}
@@ -41,21 +41,17 @@ pub record AreCells (found : ArgMatches) (cells : Option (Vec (String Global) Gl
 pub record IsThreads (found : ArgMatches) (command : ThreadsCommand) : Type 0 where
   pub file : name_of command.file ≡ text_in found (codes "FILE")
   pub workers : IsCount (word_in found (codes "workers")) command.workers
+  pub json : IsFlag found (codes "json") command.json
   pub journals : name_of command.journals ≡ text_in found (codes "journals")
   pub events : name_of command.events ≡ text_in found (codes "events")
   pub explain : IsFlag found (codes "explain") command.explain
   pub quiet : IsFlag found (codes "quiet") command.quiet
 
--- The picture of an audit is the one that its words ask for, if they name a file for it.
-abbrev pub IsAuditPicture : ArgMatches → Option PicturePlan → Type 0
-IsAuditPicture found None = text_in found (codes "draw") ≡ None
-IsAuditPicture found (Some picture) = IsPicturePlan found (codes "draw") picture
-
 -- Each part of an audit is what its word says.
 pub record IsAudit (found : ArgMatches) (command : AuditCommand) : Type 0 where
   pub files : map string_bytes command.files.items ≡ words_in found (codes "FILES")
   pub events : name_of command.events ≡ text_in found (codes "events")
-  pub picture : IsAuditPicture found command.picture
+  pub picture : IsPictureIfNamed found command.picture
   pub quiet : IsFlag found (codes "quiet") command.quiet
 
 -- The seed and the chances are those that the words name. Without a word nothing is lost or repeated, and any message may be the next.
@@ -70,6 +66,7 @@ pub record IsPlay (found : ArgMatches) (plan : PlayPlan) : Type 0 where
   pub file : name_of plan.file ≡ text_in found (codes "FILE")
   pub chances : IsChancesOf found plan.chances
   pub events : name_of plan.events ≡ text_in found (codes "events")
+  pub picture : IsPictureIfNamed found plan.picture
 
 -- how a message is named
 abbrev pub kind_word : Kind → Text
@@ -118,8 +115,8 @@ abbrev pub IsCommandOf : (name : Text) → ArgMatches → Command → Type 0
 IsCommandOf name found (Rate code json) = (name ≡ codes "rate") × (string_bytes code ≡ word_in found (codes "CODE")) ×
     IsFlag found (codes "json") json
 IsCommandOf name found (Cell cell json) = (name ≡ codes "cell") × IsCell found cell × IsFlag found (codes "json") json
-IsCommandOf name found (Port capacity cells) = (name ≡ codes "port") × IsCapacity (word_in found (codes "CAPACITY")) capacity ×
-    AreCells found cells
+IsCommandOf name found (Port capacity cells json) = (name ≡ codes "port") × IsCapacity (word_in found (codes "CAPACITY")) capacity ×
+    AreCells found cells × IsFlag found (codes "json") json
 IsCommandOf name found (Run file json explain quiet) = (name ≡ codes "run") × (name_of file ≡ text_in found (codes "FILE")) ×
     IsFlag found (codes "json") json × IsFlag found (codes "explain") explain × IsFlag found (codes "quiet") quiet
 IsCommandOf name found (Threads command) = (name ≡ codes "threads") × IsThreads found command
@@ -128,23 +125,25 @@ IsCommandOf name found (Explain file json quiet) = (name ≡ codes "explain") ×
 IsCommandOf name found (Check file json) = (name ≡ codes "check") × (name_of file ≡ text_in found (codes "FILE")) ×
     IsFlag found (codes "json") json
 IsCommandOf name found (Audit command) = (name ≡ codes "audit") × IsAudit found command
-IsCommandOf name found (Police tau rate) = (name ≡ codes "police") × IsTolerance (word_in found (codes "tau")) tau ×
-    IsSaid (word_in found (codes "rate")) rate
-IsCommandOf name found (Shape rate) = (name ≡ codes "shape") × IsSaid (word_in found (codes "rate")) rate
+IsCommandOf name found (Police tau rate json) = (name ≡ codes "police") × IsTolerance (word_in found (codes "tau")) tau ×
+    IsSaid (word_in found (codes "rate")) rate × IsFlag found (codes "json") json
+IsCommandOf name found (Shape rate json) = (name ≡ codes "shape") × IsSaid (word_in found (codes "rate")) rate ×
+    IsFlag found (codes "json") json
 IsCommandOf name found (Step file form) = (name ≡ codes "step") × (string_bytes file ≡ word_in found (codes "FILE")) ×
     IsFlag found (codes "json") form.json × IsFlag found (codes "state") form.state ×
     IsFlag found (codes "possible") form.possible
 IsCommandOf name found (Play plan) = (name ≡ codes "play") × IsPlay found plan
-IsCommandOf name found (Code rate) = (name ≡ codes "code") × (string_bytes rate ≡ word_in found (codes "RATE"))
-IsCommandOf name found (Write words) = (name ≡ codes "write") × IsMessageOf found words
+IsCommandOf name found (Code rate json) = (name ≡ codes "code") × (string_bytes rate ≡ word_in found (codes "RATE")) ×
+    IsFlag found (codes "json") json
+IsCommandOf name found (Write words json) = (name ≡ codes "write") × IsMessageOf found words × IsFlag found (codes "json") json
 IsCommandOf name found (Draw command) = (name ≡ codes "draw") × IsDraw found command
 IsCommandOf name found (Switch plan) = (name ≡ codes "switch") × IsSwitch found plan
 IsCommandOf name found (Source plan) = (name ≡ codes "source") × IsSource found plan
 
 -- the numbers of a command are within their limits
 abbrev pub IsAllowed : Command → Type 0
-IsAllowed (Port capacity cells) = capacity ≤ capacity_max
+IsAllowed (Port capacity cells json) = capacity ≤ capacity_max
 IsAllowed (Threads command) = AreWorkers command.workers
-IsAllowed (Police tau rate) = tau ≤ tau_max
+IsAllowed (Police tau rate json) = tau ≤ tau_max
 IsAllowed (Draw command) = IfSome command.workers AreWorkers
 IsAllowed command = ⊤

@@ -46,6 +46,11 @@ abbrev pub IsDrawnOver : List (String Global) → (events : Option (String Globa
 IsDrawnOver files events None = ⊥
 IsDrawnOver files events (Some picture) = IsTaken files events (string_bytes picture.out)
 
+-- a picture of a play is to go to the file that may be read, or to the one for its events
+abbrev pub IsPlayDrawnOver : (file events : Option (String Global)) → Option PicturePlan → Type 0
+IsPlayDrawnOver file events None = ⊥
+IsPlayDrawnOver file events (Some picture) = IsNamed file (string_bytes picture.out) ⊎ IsNamed events (string_bytes picture.out)
+
 -- The journal of a switch is the file of its net, or the standard output, where its answers go.
 abbrev pub SwitchLosesText : SwitchPlan → Type 0
 SwitchLosesText plan = (string_bytes plan.file ≡ string_bytes plan.journal) ⊎ (string_bytes plan.journal ≡ codes "-")
@@ -71,7 +76,10 @@ LosesText (Audit command) =
     HasOne command.files.items command.events
     ⊎ IsPrinted command.events
     ⊎ IsDrawnOver command.files.items command.events command.picture
-LosesText (Play plan) = AreOne plan.file plan.events ⊎ IsPrinted plan.events
+LosesText (Play plan) =
+    AreOne plan.file plan.events
+    ⊎ IsPrinted plan.events
+    ⊎ IsPlayDrawnOver plan.file plan.events plan.picture
 LosesText (Draw command) =
     AreOne command.file command.events
     ⊎ IsNamed command.file (string_bytes command.picture.out)

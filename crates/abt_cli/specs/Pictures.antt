@@ -36,3 +36,8 @@ pub record IsPicturePlan (found : ArgMatches) (name : Text) (plan : PicturePlan)
   pub only : AreNamed (text_in found (codes "only")) plan.only.items
   pub from : IsEventOf (text_in found (codes "from")) plan.from
   pub to : IsEventOf (text_in found (codes "to")) plan.to
+
+-- The picture of an audit or of a play is the one that its words ask for, if they name a file for it.
+abbrev pub IsPictureIfNamed : ArgMatches → Option PicturePlan → Type 0
+IsPictureIfNamed found None = text_in found (codes "draw") ≡ None
+IsPictureIfNamed found (Some picture) = IsPicturePlan found (codes "draw") picture

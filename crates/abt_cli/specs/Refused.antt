@@ -56,6 +56,7 @@ SaysNone name found =
     ((name ≡ codes "police") × IsNoRate (word_in found (codes "rate"))) ⊎
     ((name ≡ codes "shape") × IsNoRate (word_in found (codes "rate"))) ⊎
     ((name ≡ codes "play") × HasNoChances found) ⊎
+    ((name ≡ codes "play") × HasNoPicture found (codes "draw")) ⊎
     ((name ≡ codes "write") × IsNoKind (word_in found (codes "MESSAGE"))) ⊎
     ((name ≡ codes "draw") × IsNoCountIn (text_in found (codes "workers"))) ⊎
     ((name ≡ codes "draw") × HasNoPicture found (codes "output")) ⊎

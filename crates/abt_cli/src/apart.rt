@@ -4,6 +4,7 @@ ghost use Rattle.abt_files.specs.Names.{AreNamesApart};
 ghost use Rattle.abt_cli.specs.Lost.{listed};
 
 use crate::command::{AuditCommand, Command};
+use abt_draw::PicturePlan;
 use abt_files::are_apart;
 use std::alloc::{AllocError, AllocGlobal};
 use std::rt::Files;
@@ -27,7 +28,7 @@ pub(crate) fn writes_apart<T: Files + AllocGlobal>(
         Command::Audit(command) => audit_writes_apart(rt, command),
         Command::Play(plan) => {
             let used = [source(&plan.file), OUTPUT];
-            both_apart(rt, &used, named(&plan.events), None)
+            both_apart(rt, &used, drawn(&plan.picture), named(&plan.events))
         }
         Command::Draw(command) => {
             let used = [source(&command.file)];
@@ -59,10 +60,7 @@ fn audit_writes_apart<T: Files + AllocGlobal>(
     if command.files.is_empty() {
         used.push(INPUT)?;
     }
-    let picture = match &command.picture {
-        Some(picture) => Some(picture.out.as_str()),
-        None => None,
-    };
+    let picture = drawn(&command.picture);
     both_apart(rt, used.as_slice(), picture, named(&command.events))
 }
 
@@ -77,6 +75,14 @@ fn source(file: &Option<String>) -> &str {
 fn named(file: &Option<String>) -> Option<&str> {
     match file {
         Some(name) => Some(name.as_str()),
+        None => None,
+    }
+}
+
+// The file for a picture.
+fn drawn(picture: &Option<PicturePlan>) -> Option<&str> {
+    match picture {
+        Some(picture) => Some(picture.out.as_str()),
         None => None,
     }
 }

@@ -24,6 +24,7 @@ pub enum Command {
     Port {
         capacity: u64,
         cells: Option<Vec<String>>,
+        json: bool,
     },
     /// Run a scenario, and report what each of its events answered; with `explain`, tell a check of it besides.
     Run {
@@ -51,10 +52,12 @@ pub enum Command {
     Police {
         tau: u64,
         rate: Rate,
+        json: bool,
     },
     /// Say when cells leave at a rate, a line of the standard input each.
     Shape {
         rate: Rate,
+        json: bool,
     },
     /// Let events happen to the net of a scenario's file, a line of the standard input each.
     Step {
@@ -66,9 +69,13 @@ pub enum Command {
     /// Say which codes are nearest to the rate that a text says.
     Code {
         rate: String,
+        json: bool,
     },
     /// Write the RM cell of a message.
-    Write(MessageWords),
+    Write {
+        words: MessageWords,
+        json: bool,
+    },
     /// Draw a scenario.
     Draw(DrawCommand),
     /// Be ports of a switch, a line of the standard input each message.
@@ -84,6 +91,8 @@ pub struct ThreadsCommand {
     pub file: Option<String>,
     /// How many link workers there are, 1 to 64.
     pub workers: u16,
+    /// Whether the events that were woven are said as JSON; then no file is written, and nothing else is told.
+    pub json: bool,
     /// The file for the journals of the run, if they are to be written; then there is neither of the next two.
     pub journals: Option<String>,
     /// The file for the events that were woven, as a scenario, if they are to be written.

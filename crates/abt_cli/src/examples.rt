@@ -112,6 +112,7 @@ pub(crate) const PLAY: &str = "Example:
   port 0: 204800 of 512000 units, 400 of 1000 cells/s
   safe
   event 6: connection 0 is granted 400 cells/s by request 1
+With --draw OUT the events are drawn besides, at most 2,000 of them: --from and --to name which.
 How a play is drawn stands in docs/SCENARIOS.md.";
 
 pub(crate) const CODE: &str = "Example:

@@ -2,9 +2,9 @@
 use crate::examples;
 use crate::line::command;
 use crate::names::{
-    ASK, EVENTS, FILE, FLOOR, FROM, LOSS, MESSAGE, ONLY, OUTPUT, QUANTITY, REPEAT, SEQ, TO, VCI,
-    VPI, WORKERS, chance, delay, json, possible, rate, scenario, seed, state, tau, valued, word,
-    workers, written,
+    ASK, DRAW, EVENTS, FILE, FLOOR, FROM, LOSS, MESSAGE, ONLY, OUTPUT, QUANTITY, REPEAT, SEQ, TO,
+    VCI, VPI, WORKERS, chance, delay, json, possible, rate, scenario, seed, state, tau, valued,
+    with_drawn_part, word, workers, written,
 };
 use clap::Command;
 use std::alloc::{AllocError, Global};
@@ -17,7 +17,8 @@ pub(crate) fn police_command<'a>(alloc: Global) -> Result<Command<'a>, AllocErro
         examples::POLICE,
     )
     .arg(tau(alloc))?
-    .arg(rate(alloc))
+    .arg(rate(alloc))?
+    .arg(json(alloc))
 }
 
 pub(crate) fn shape_command<'a>(alloc: Global) -> Result<Command<'a>, AllocError> {
@@ -27,7 +28,8 @@ pub(crate) fn shape_command<'a>(alloc: Global) -> Result<Command<'a>, AllocError
         "Say when cells leave, a line of the standard input each",
         examples::SHAPE,
     )
-    .arg(rate(alloc))
+    .arg(rate(alloc))?
+    .arg(json(alloc))
 }
 
 pub(crate) fn step_command<'a>(alloc: Global) -> Result<Command<'a>, AllocError> {
@@ -63,7 +65,12 @@ pub(crate) fn play_command<'a>(alloc: Global) -> Result<Command<'a>, AllocError>
         EVENTS,
         "Write the events to this file, as a scenario for abt run",
     );
-    command(
+    let draw = written(
+        alloc,
+        DRAW,
+        "Draw the events to this file: a picture if it ends in .svg, a page if in .html",
+    );
+    let play = command(
         alloc,
         "play",
         "Carry out a scenario's scripts in one thread, with losses and repeats drawn by a seed",
@@ -74,7 +81,9 @@ pub(crate) fn play_command<'a>(alloc: Global) -> Result<Command<'a>, AllocError>
     .arg(loss)?
     .arg(repeat)?
     .arg(delay(alloc))?
-    .arg(events)
+    .arg(events)?
+    .arg(draw)?;
+    with_drawn_part(alloc, play)
 }
 
 pub(crate) fn code_command<'a>(alloc: Global) -> Result<Command<'a>, AllocError> {
@@ -88,7 +97,8 @@ pub(crate) fn code_command<'a>(alloc: Global) -> Result<Command<'a>, AllocError>
         alloc,
         QUANTITY,
         "The rate: a decimal number of at most 9 places, and cps, bps, kbps or Mbps",
-    ))
+    ))?
+    .arg(json(alloc))
 }
 
 pub(crate) fn write_command<'a>(alloc: Global) -> Result<Command<'a>, AllocError> {
@@ -115,7 +125,8 @@ pub(crate) fn write_command<'a>(alloc: Global) -> Result<Command<'a>, AllocError
         alloc,
         ASK,
         "The code of the asked rate, which isn't below the floor",
-    ))
+    ))?
+    .arg(json(alloc))
 }
 
 pub(crate) fn draw_command<'a>(alloc: Global) -> Result<Command<'a>, AllocError> {

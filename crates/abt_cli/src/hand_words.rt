@@ -10,7 +10,7 @@ use crate::names::{
     ASK, DELAY, EVENTS, FILE, FLOOR, JSON, LOSS, MESSAGE, OUTPUT, POSSIBLE, QUANTITY, REPEAT, SEED,
     SEQ, STATE, VCI, VPI,
 };
-use crate::picture_words::picture_of;
+use crate::picture_words::{picture_if_named, picture_of};
 use crate::readers::{number_in, rate_in, tau_in, text_in, word_in, workers_in, wrong_words};
 use abt_codes::{Kind, MessageWords};
 use abt_perform::WordsFault;
@@ -35,7 +35,8 @@ pub(crate) fn police_of(alloc: Global, found: &ArgMatches<'_>) -> Result<Command
 {
     let tau = tau_in(alloc, found)?;
     let rate = rate_in(alloc, found)?;
-    Ok(Command::Police { tau, rate })
+    let json = found.get_flag(JSON);
+    Ok(Command::Police { tau, rate, json })
 }
 
 pub(crate) fn shape_of(alloc: Global, found: &ArgMatches<'_>) -> Result<Command, WordsFault>
@@ -44,7 +45,8 @@ pub(crate) fn shape_of(alloc: Global, found: &ArgMatches<'_>) -> Result<Command,
     ensures err { IfErr result (IsRefused (codes "shape") found.now) }
 {
     let rate = rate_in(alloc, found)?;
-    Ok(Command::Shape { rate })
+    let json = found.get_flag(JSON);
+    Ok(Command::Shape { rate, json })
 }
 
 pub(crate) fn step_of(alloc: Global, found: &ArgMatches<'_>) -> Result<Command, WordsFault>
@@ -69,10 +71,12 @@ pub(crate) fn play_of(alloc: Global, found: &ArgMatches<'_>) -> Result<Command, 
     let chances = chances_of(alloc, found)?;
     let file = text_in(alloc, found, FILE)?;
     let events = text_in(alloc, found, EVENTS)?;
+    let picture = picture_if_named(alloc, found)?;
     Ok(Command::Play(PlayPlan {
         file,
         chances,
         events,
+        picture,
     }))
 }
 
@@ -99,7 +103,8 @@ pub(crate) fn code_of(alloc: Global, found: &ArgMatches<'_>) -> Result<Command, 
     ensures err { IfErr result (IsRefused (codes "code") found.now) }
 {
     let rate = word_in(alloc, found, QUANTITY)?;
-    Ok(Command::Code { rate })
+    let json = found.get_flag(JSON);
+    Ok(Command::Code { rate, json })
 }
 
 pub(crate) fn write_of(alloc: Global, found: &ArgMatches<'_>) -> Result<Command, WordsFault>
@@ -108,7 +113,8 @@ pub(crate) fn write_of(alloc: Global, found: &ArgMatches<'_>) -> Result<Command,
     ensures err { IfErr result (IsRefused (codes "write") found.now) }
 {
     let words = message_in(alloc, found)?;
-    Ok(Command::Write(words))
+    let json = found.get_flag(JSON);
+    Ok(Command::Write { words, json })
 }
 
 // The words of a message.

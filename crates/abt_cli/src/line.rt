@@ -6,8 +6,8 @@ use crate::hand_line::{
 };
 use crate::live_line::{source_command, switch_command};
 use crate::names::{
-    CODE, DRAW, EVENTS, EXPLAIN, FROM, JOURNALS, JSON, ONLY, TO, capacity, cell, cells, explain,
-    journal_files, json, quiet, scenario, stdin, valued, word, workers, written,
+    CODE, DRAW, EVENTS, EXPLAIN, JOURNALS, JSON, capacity, cell, cells, explain, journal_files,
+    json, quiet, scenario, stdin, with_drawn_part, word, workers, written,
 };
 use clap::Command;
 use std::alloc::{AllocError, Global};
@@ -90,7 +90,7 @@ fn cell_command<'a>(alloc: Global) -> Result<Command<'a>, AllocError> {
     command(alloc, "cell", "Say what an RM cell says", examples::CELL)
         .arg(cell(alloc)?)?
         .arg(json(alloc))?
-        .arg(stdin(alloc)?.conflicts_with(JSON)?)
+        .arg(stdin(alloc)?)
 }
 
 fn port_command<'a>(alloc: Global) -> Result<Command<'a>, AllocError> {
@@ -102,6 +102,7 @@ fn port_command<'a>(alloc: Global) -> Result<Command<'a>, AllocError> {
     )
     .arg(capacity(alloc))?
     .arg(cells(alloc)?)?
+    .arg(json(alloc))?
     .arg(stdin(alloc)?)
 }
 
@@ -144,8 +145,9 @@ fn threads_command<'a>(alloc: Global) -> Result<Command<'a>, AllocError> {
     )
     .arg(scenario(alloc))?
     .arg(workers.required(true))?
-    .arg(journals.conflicts_with(EXPLAIN)?)?
-    .arg(events.conflicts_with(JOURNALS)?)?
+    .arg(json(alloc).conflicts_with(EXPLAIN)?)?
+    .arg(journals.conflicts_with(EXPLAIN)?.conflicts_with(JSON)?)?
+    .arg(events.conflicts_with(JOURNALS)?.conflicts_with(JSON)?)?
     .arg(explain)?
     .arg(quiet(alloc))
 }
@@ -192,30 +194,4 @@ fn audit_command<'a>(alloc: Global) -> Result<Command<'a>, AllocError> {
     );
     let audit = audit.arg(journal_files(alloc))?.arg(events)?.arg(draw)?;
     with_drawn_part(alloc, audit)?.arg(quiet(alloc))
-}
-
-// What is shown of an audit that is drawn.
-fn with_drawn_part<'a>(alloc: Global, audit: Command<'a>) -> Result<Command<'a>, AllocError> {
-    let only = valued(
-        alloc,
-        ONLY,
-        "LIST",
-        "With --draw, show these connections alone, as 0,2",
-    );
-    let from = valued(
-        alloc,
-        FROM,
-        "N",
-        "With --draw, show the events from this one on, counted from 1",
-    );
-    let to = valued(
-        alloc,
-        TO,
-        "N",
-        "With --draw, show the events up to this one",
-    );
-    audit
-        .arg(only.requires_arg(DRAW)?)?
-        .arg(from.requires_arg(DRAW)?)?
-        .arg(to.requires_arg(DRAW)?)
 }

@@ -1,6 +1,6 @@
 //! Commands that would lose a text, as one file is both read and written, or written twice.
-ghost use Rattle.std.specs.Prelude.{◌≡◌, ◌↔◌, string_bytes, Any, IsTrue};
-ghost use Rattle.abt_cli.specs.Lost.{AreOne, HasOne, IsAmong, IsDrawnOver, IsNamed, IsTaken, LosesText, SourceLosesText, SwitchLosesText};
+ghost use Rattle.std.specs.Prelude.{◌≡◌, ◌↔◌, ◌⊎◌, string_bytes, Any, IsTrue};
+ghost use Rattle.abt_cli.specs.Lost.{AreOne, HasOne, IsAmong, IsDrawnOver, IsNamed, IsPlayDrawnOver, IsTaken, LosesText, SourceLosesText, SwitchLosesText};
 
 use crate::command::Command;
 use abt_draw::PicturePlan;
@@ -28,7 +28,9 @@ pub(crate) fn loses_text(command: &Command) -> bool
                 || is_drawn_over(files, &command.events, &command.picture)
         }
         Command::Play(plan) => {
-            are_one(&plan.file, &plan.events) || is_named(&plan.events, PRINTED)
+            are_one(&plan.file, &plan.events)
+                || is_named(&plan.events, PRINTED)
+                || is_play_drawn_over(&plan.file, &plan.events, &plan.picture)
         }
         Command::Draw(command) => {
             let picture = command.picture.out.as_str();
@@ -108,6 +110,27 @@ fn is_drawn_over(files: &[String], events: &Option<String>, picture: &Option<Pic
         Some(picture) => is_taken(files, events, picture.out.as_str()),
         None => false,
     }
+}
+
+// Whether a picture is to go to the file that its play may read, or to the one for its events.
+fn is_play_drawn_over(
+    file: &Option<String>,
+    events: &Option<String>,
+    picture: &Option<PicturePlan>,
+) -> bool
+    ensures { IsTrue result ↔ IsPlayDrawnOver file.now events.now picture.now }
+{
+    match picture {
+        Some(picture) => is_either(file, events, picture.out.as_str()),
+        None => false,
+    }
+}
+
+// Whether one of two files that may be named has this name.
+fn is_either(file: &Option<String>, other: &Option<String>, name: &str) -> bool
+    ensures { IsTrue result ↔ (IsNamed file.now name.now ⊎ IsNamed other.now name.now) }
+{
+    is_named(file, name) || is_named(other, name)
 }
 
 // Whether an audit uses a name already: for one of its files, or for that of its events.

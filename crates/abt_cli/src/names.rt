@@ -1,5 +1,5 @@
 //! The arguments and options of all commands: each name stands here once, with its help.
-use clap::{Arg, ArgAction, value_parser};
+use clap::{Arg, ArgAction, Command, value_parser};
 use std::alloc::{AllocError, Global};
 
 /// The rate code of `abt rate`.
@@ -68,7 +68,7 @@ pub const EVENTS: &str = "events";
 /// The file for the picture of `abt draw`.
 pub const OUTPUT: &str = "output";
 
-/// The file for the picture of `abt audit`.
+/// The file for the picture of `abt audit` and of `abt play`.
 pub const DRAW: &str = "draw";
 
 /// The connections that a picture shows, its first event and its last.
@@ -299,4 +299,33 @@ pub(crate) fn delay<'a>(alloc: Global) -> Arg<'a> {
         "The next message is one of the D + 1 sent first; without it, any",
     )
     .value_parser(value_parser!(u64).range(0..=4294967295))
+}
+
+/// What is shown of events that are drawn besides.
+pub(crate) fn with_drawn_part<'a>(
+    alloc: Global,
+    command: Command<'a>,
+) -> Result<Command<'a>, AllocError> {
+    let only = valued(
+        alloc,
+        ONLY,
+        "LIST",
+        "With --draw, show these connections alone, as 0,2",
+    );
+    let from = valued(
+        alloc,
+        FROM,
+        "N",
+        "With --draw, show the events from this one on, counted from 1",
+    );
+    let to = valued(
+        alloc,
+        TO,
+        "N",
+        "With --draw, show the events up to this one",
+    );
+    command
+        .arg(only.requires_arg(DRAW)?)?
+        .arg(from.requires_arg(DRAW)?)?
+        .arg(to.requires_arg(DRAW)?)
 }

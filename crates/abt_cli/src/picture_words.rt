@@ -1,12 +1,12 @@
 //! The words of pictures.
 ghost use Rattle.std.specs.Prelude.{◌≡◌, ◌⊎◌, ℕ, List, Option, None, Some, map, codes, IfOk, IfErr, IfSome, IfNone};
 ghost use Rattle.abt_perform.specs.declared.plan.WordsFault.TheVariants.{Memory};
-ghost use Rattle.abt_cli.specs.Pictures.{AreNamed, IsEventOf, IsPicturePlan};
+ghost use Rattle.abt_cli.specs.Pictures.{AreNamed, IsEventOf, IsPictureIfNamed, IsPicturePlan};
 ghost use Rattle.abt_cli.specs.Pictures as pictures;
 ghost use Rattle.abt_cli.specs.Refused.{HasNoPicture};
 ghost use Rattle.abt_cli.specs.Words.{AreNumbers, text_in};
 
-use crate::names::{FROM, ONLY, TO};
+use crate::names::{DRAW, FROM, ONLY, TO};
 use crate::readers::{numbers_of, wrong_words};
 use abt_draw::PicturePlan;
 use abt_perform::WordsFault;
@@ -45,6 +45,23 @@ pub(crate) fn picture_of(
         from,
         to,
     })
+}
+
+/// The picture of an audit or of a play, if a file is named for it.
+///
+/// # Errors
+/// Words that are wrong, or want of memory.
+pub(crate) fn picture_if_named(
+    alloc: Global,
+    found: &ArgMatches<'_>,
+) -> Result<Option<PicturePlan>, WordsFault>
+    ensures ok { IfOk result (IsPictureIfNamed found.now) }
+    ensures err { IfErr result (λ fault. (fault ≡ Memory) ⊎ HasNoPicture found.now (codes "draw")) }
+{
+    if found.get_str(DRAW).is_none() {
+        return Ok(None);
+    }
+    Ok(Some(picture_of(alloc, found, DRAW)?))
 }
 
 // The file under a name, and whether it is for a page; none if its name ends in no way that is known.

@@ -21,6 +21,7 @@ pub(crate) fn plan_of(command: Command) -> Option<Plan>
         Command::Port {
             capacity,
             cells: Some(cells),
+            json: false,
         } => Some(Plan::Port { capacity, cells }),
         Command::Run {
             file,
@@ -32,11 +33,11 @@ pub(crate) fn plan_of(command: Command) -> Option<Plan>
     }
 }
 
-// The plan of a run in threads of which no file is written.
+// The plan of a run in threads that isn't said as JSON, and of which no file is written.
 fn plan_of_threads(command: ThreadsCommand) -> Option<Plan>
-    ensures plan { result ≡ spec.of_threads command command.journals command.events }
+    ensures plan { result ≡ spec.of_threads command command.json command.journals command.events }
 {
-    if command.journals.is_some() || command.events.is_some() {
+    if command.json || command.journals.is_some() || command.events.is_some() {
         return None;
     }
     Some(Plan::Threads {

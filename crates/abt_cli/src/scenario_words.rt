@@ -1,14 +1,13 @@
 //! The words of the commands of cells, scenarios and journals.
-ghost use Rattle.std.specs.Prelude.{◌≡◌, ◌⊎◌, IfErr, IfOk, codes};
-ghost use Rattle.abt_cli.specs.Commands.{AreCells, IsAllowed, IsAuditPicture, IsCell, IsCommandOf};
-ghost use Rattle.abt_cli.specs.Refused.{HasNoPicture, IsRefused};
+ghost use Rattle.std.specs.Prelude.{IfErr, IfOk, codes};
+ghost use Rattle.abt_cli.specs.Commands.{AreCells, IsAllowed, IsCell, IsCommandOf};
+ghost use Rattle.abt_cli.specs.Refused.{IsRefused};
 ghost use Rattle.abt_perform.specs.declared.plan.WordsFault.TheVariants.{Memory};
 
 use crate::command::{AuditCommand, Command, ThreadsCommand};
-use crate::names::{CODE, DRAW, EVENTS, EXPLAIN, FILE, FILES, HEX, JOURNALS, JSON, QUIET, STDIN};
-use crate::picture_words::picture_of;
+use crate::names::{CODE, EVENTS, EXPLAIN, FILE, FILES, HEX, JOURNALS, JSON, QUIET, STDIN};
+use crate::picture_words::picture_if_named;
 use crate::readers::{capacity_of, text_in, word_in, words_in, workers_of};
-use abt_draw::PicturePlan;
 use abt_perform::WordsFault;
 use clap::ArgMatches;
 use std::alloc::{AllocError, Global};
@@ -50,7 +49,12 @@ pub(crate) fn port_of(alloc: Global, found: &ArgMatches<'_>) -> Result<Command, 
 {
     let capacity = capacity_of(alloc, found)?;
     let cells = cells_in(alloc, found)?;
-    Ok(Command::Port { capacity, cells })
+    let json = found.get_flag(JSON);
+    Ok(Command::Port {
+        capacity,
+        cells,
+        json,
+    })
 }
 
 // The cells that are named, unless cells come from the standard input.
@@ -92,6 +96,7 @@ pub(crate) fn threads_of(alloc: Global, found: &ArgMatches<'_>) -> Result<Comman
     Ok(Command::Threads(ThreadsCommand {
         file,
         workers,
+        json: found.get_flag(JSON),
         journals,
         events,
         explain: found.get_flag(EXPLAIN),
@@ -125,7 +130,7 @@ pub(crate) fn audit_of(alloc: Global, found: &ArgMatches<'_>) -> Result<Command,
     ensures command { IfOk result (IsCommandOf (codes "audit") found.now) }
     ensures err { IfErr result (IsRefused (codes "audit") found.now) }
 {
-    let picture = audit_picture(alloc, found)?;
+    let picture = picture_if_named(alloc, found)?;
     let files = words_in(alloc, found, FILES)?;
     let events = text_in(alloc, found, EVENTS)?;
     let quiet = found.get_flag(QUIET);
@@ -135,15 +140,4 @@ pub(crate) fn audit_of(alloc: Global, found: &ArgMatches<'_>) -> Result<Command,
         picture,
         quiet,
     }))
-}
-
-// The picture of an audit, if a file is named for it.
-fn audit_picture(alloc: Global, found: &ArgMatches<'_>) -> Result<Option<PicturePlan>, WordsFault>
-    ensures ok { IfOk result (IsAuditPicture found.now) }
-    ensures err { IfErr result (λ fault. (fault ≡ Memory) ⊎ HasNoPicture found.now (codes "draw")) }
-{
-    if found.get_str(DRAW).is_none() {
-        return Ok(None);
-    }
-    Ok(Some(picture_of(alloc, found, DRAW)?))
 }

@@ -1,5 +1,6 @@
 pub mod Quantity
 pub mod Nearest
 pub mod CodeText
+pub mod CodeObjects
 pub mod Message
 pub mod Printed

@@ -4,6 +4,7 @@
 mod fault;
 mod message;
 mod nearest;
+mod objects;
 mod performing;
 mod plan;
 mod quantity;
@@ -13,6 +14,7 @@ mod written;
 pub use fault::CodesFault;
 pub use message::{Kind, MessageWords, rm_in};
 pub use nearest::{above, below, exactly, rate_said};
+pub use objects::{code_objects, written_object};
 pub use performing::perform_codes;
 pub use plan::CodesPlan;
 pub use quantity::{Quantity, RateUnit, quantity_in};

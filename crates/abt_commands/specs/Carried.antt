@@ -1,5 +1,5 @@
 -- What carrying a command out leaves, by its exit status.
-use Rattle.std.specs.Prelude.{ℕ, Option, string_bytes}
+use Rattle.std.specs.Prelude.{ℕ, Bool, Option, string_bytes}
 use Rattle.abt_text.specs.Text.{Text}
 use Rattle.abt_keep.specs.Record.{KeptRecord}
 use Rattle.abt_codes.specs.declared.plan.CodesPlan.TheVariants as codes
@@ -17,22 +17,22 @@ use Rattle.abt_cli.specs.declared.command.Command.{Command}
 use Rattle.abt_cli.specs.declared.command.Command.TheVariants.{Rate, Cell, Port, Run, Threads, Explain, Check, Audit, Police, Shape, Step, Play, Code, Write, Draw, Switch, Source}
 
 -- Over the files and the stores of a system, which are seen by what they hold.
-abbrev pub IsCarriedOut : {K J : Type 0} → (content : K → KeptRecord) → (contents : J → Option Text) → Command → (status : ℕ)
+abbrev pub IsCarriedOut : {K J : Type 0} → (content : K → KeptRecord) → (contents : J → Option Text) → (advised : Bool) → Command → (status : ℕ)
     → (left_old left_new old new told_old told_new : Option Text) → Type 0
-IsCarriedOut content contents (Rate code json) = SaysRate json code
-IsCarriedOut content contents (Cell hex json) = SaysCell json hex
-IsCarriedOut content contents (Port capacity cells) = ServesPort capacity cells
-IsCarriedOut content contents (Run file json explain quiet) = Runs json explain file
-IsCarriedOut content contents (Threads command) = RunsThreads command
-IsCarriedOut content contents (Explain file json quiet) = Explains json file
-IsCarriedOut content contents (Check file json) = Checks file json
-IsCarriedOut content contents (Audit command) = Audits command
-IsCarriedOut content contents (Police tau rate) = AnswersLines (lines.Police tau rate)
-IsCarriedOut content contents (Shape rate) = AnswersLines (lines.Shape rate)
-IsCarriedOut content contents (Step file form) = Steps (string_bytes file) form
-IsCarriedOut content contents (Play plan) = Plays plan
-IsCarriedOut content contents (Code rate) = SaysCodes (codes.Code rate)
-IsCarriedOut content contents (Write words) = SaysCodes (codes.Write words)
-IsCarriedOut content contents (Draw command) = Draws command
-IsCarriedOut content contents (Switch plan) = Switches contents plan
-IsCarriedOut content contents (Source plan) = Sources content contents plan
+IsCarriedOut content contents advised (Rate code json) = SaysRate json code
+IsCarriedOut content contents advised (Cell hex json) = SaysCell json hex
+IsCarriedOut content contents advised (Port capacity cells json) = ServesPort json capacity cells
+IsCarriedOut content contents advised (Run file json explain quiet) = Runs json explain advised file
+IsCarriedOut content contents advised (Threads command) = RunsThreads advised command
+IsCarriedOut content contents advised (Explain file json quiet) = Explains json file
+IsCarriedOut content contents advised (Check file json) = Checks file json
+IsCarriedOut content contents advised (Audit command) = Audits command
+IsCarriedOut content contents advised (Police tau rate json) = AnswersLines json (lines.Police tau rate)
+IsCarriedOut content contents advised (Shape rate json) = AnswersLines json (lines.Shape rate)
+IsCarriedOut content contents advised (Step file form) = Steps (string_bytes file) form
+IsCarriedOut content contents advised (Play plan) = Plays plan
+IsCarriedOut content contents advised (Code rate json) = SaysCodes json (codes.Code rate)
+IsCarriedOut content contents advised (Write words json) = SaysCodes json (codes.Write words)
+IsCarriedOut content contents advised (Draw command) = Draws command
+IsCarriedOut content contents advised (Switch plan) = Switches contents plan
+IsCarriedOut content contents advised (Source plan) = Sources content contents plan

@@ -1,22 +1,25 @@
--- What a run leaves whose scenario is checked besides.
-use Rattle.std.specs.Prelude.{◌≡◌, ◌⊎◌, ℕ, Option, None, Some, IfSome, String, string_bytes}
+-- What a run leaves whose scenario is checked besides, or of which advice is told.
+use Rattle.std.specs.Prelude.{◌⊎◌, ℕ, Option, None, String, string_bytes}
 use Rattle.std.specs.Option.{option_map}
 use Rattle.std.specs.Str.{IsUtf8}
 use Rattle.std.specs.Io.KnownBytes.{Keeps}
 use Rattle.std.specs.declared.alloc.Global.{Global}
 use Rattle.abt_text.specs.Text.{Text}
-use Rattle.abt_text.specs.declared.reading.TextFault.{TextFault}
-use Rattle.abt_text.specs.declared.reading.TextFault.TheVariants as text
 use Rattle.abt_perform.specs.Names.{fault_line}
 use Rattle.abt_perform.specs.Plans.{IsRefused, Prints, Tells}
-use Rattle.abt_perform.specs.declared.fault.Fault.{Fault}
-use Rattle.abt_perform.specs.declared.fault.Fault.TheVariants.{Read, TooLong, Memory}
+use Rattle.abt_perform.specs.declared.fault.Fault.TheVariants.{Memory}
 use Rattle.abt_perform.specs.declared.plan.Plan.{Plan}
 use Rattle.abt_perform.specs.declared.plan.Plan.TheVariants.{Run}
 use Rattle.abt_check.specs.Performed.{IsAnswerTo}
 use Rattle.abt_check.specs.declared.telling.Answer.{Answer}
-use Rattle.abt_commands.specs.Ends.{Ends, EndsOver, TakesText}
-use Rattle.abt_commands.specs.Opening.{TellsUnopened}
+use Rattle.abt_commands.specs.Advice.{TellsAdvice, TellsOfNothing}
+use Rattle.abt_commands.specs.Besides.{IsDone, IsUndone}
+use Rattle.abt_commands.specs.Ends.{Ends, EndsOver, Quietly, TakesText}
+use Rattle.abt_commands.specs.Opening.{TellsOpenFault, TellsUnopened}
+use Rattle.abt_commands.specs.declared.advice.Runs.{Runs}
+use Rattle.abt_commands.specs.declared.advice.Runs.TheVariants.{Events}
+use Rattle.abt_commands.specs.declared.run_besides.Besides.{Besides}
+use Rattle.abt_commands.specs.declared.run_besides.Besides.TheVariants.{Check, Advice}
 
 -- to run the scenario that a reader has
 abbrev pub the_run : Plan
@@ -30,50 +33,34 @@ TellsCheck source old new =
     ⊎ (Tells (fault_line Memory) old new
     ⊎ ((answer : Answer) × IsAnswerTo source answer × Tells (string_bytes answer.text) old new))
 
--- Nothing was told, and then the check.
-pub record TellsBesides (source : Text) (old new : Option Text) : Type 0 where
+-- The check was told, and then which commands run a scenario that has only what this one doesn't.
+pub record TellsCheckFirst (runs : Runs) (source : Text) (old new : Option Text) : Type 0 where
   pub between : Option Text
-  pub quiet : Keeps old between
-  pub checked : TellsCheck source between new
+  pub checked : TellsCheck source old between
+  pub advised : TellsOfNothing runs source between new
 
--- The run's fault was told, and behind it the check.
-pub record IsRefusedChecked (source : Text) (old new told_old told_new : Option Text) : Type 0 where
-  pub between : Option Text
-  pub refused : IsRefused the_run (Some source) old new told_old between
-  pub checked : TellsCheck source between told_new
+-- what is told besides of a text
+abbrev pub TellsBesides : Besides → (file : Option Text) → (source : Text) → (old new : Option Text) → Type 0
+TellsBesides Check file source = TellsCheckFirst Events source
+TellsBesides Advice file source = TellsAdvice Events file source
 
--- why a text wasn't read, as the program tells it
-abbrev pub unread : TextFault → Fault
-unread text.Read = Read
-unread text.TooLong = TooLong
-unread text.Memory = Memory
+-- what a run leaves of which something is told besides, done or refused
+abbrev pub IsRunBesides : Besides → (file : Option Text) → (left old new told_old told_new : Option Text) → Type 0
+IsRunBesides besides file = IsDone (Quietly (Prints the_run)) (TellsBesides besides file)
 
--- The text that a reader had left was run, and its check told, and nothing else.
-pub record IsDoneChecked (left old new told_old told_new : Option Text) : Type 0 where
-  pub source : Text
-  pub is_left : IfSome left (λ octets. source ≡ octets)
-  pub done : Prints the_run (Some source) old new
-  pub told : TellsBesides source told_old told_new
-
--- No text was read, which is told.
-pub record IsUnread (left old new told_old told_new : Option Text) : Type 0 where
-  pub fault : TextFault
-  pub silent : Keeps old new
-  pub told : Tells (fault_line (unread fault)) told_old told_new
-
--- The text has a fault, which is told, and behind it the check.
-pub record IsFaultChecked (left old new told_old told_new : Option Text) : Type 0 where
-  pub source : Text
-  pub is_left : IfSome left (λ octets. source ≡ octets)
-  pub checked : IsRefusedChecked source old new told_old told_new
-
-abbrev pub IsUndoneChecked : (left old new told_old told_new : Option Text) → Type 0
-IsUndoneChecked left old new told_old told_new =
-    IsUnread left old new told_old told_new ⊎ IsFaultChecked left old new told_old told_new
+abbrev pub IsRefusedBesides : Besides → (file : Option Text) → (left old new told_old told_new : Option Text) → Type 0
+IsRefusedBesides besides file = IsUndone (IsRefused the_run) (TellsBesides besides file)
 
 -- what such a run leaves over one reader
-abbrev pub EndsCheckedOver : (status : ℕ) → (left_old left_new old new told_old told_new : Option Text) → Type 0
-EndsCheckedOver = Ends TakesText IsDoneChecked IsUndoneChecked
+abbrev pub EndsBesides : Besides → (file : Option Text) → (status : ℕ) → (left_old left_new old new told_old told_new : Option Text) → Type 0
+EndsBesides besides file = Ends TakesText (IsRunBesides besides file) (IsRefusedBesides besides file)
 
 abbrev pub RunsChecked : Option (String Global) → (status : ℕ) → (left_old left_new old new told_old told_new : Option Text) → Type 0
-RunsChecked file = EndsOver (option_map string_bytes file) TellsUnopened TakesText IsDoneChecked IsUndoneChecked
+RunsChecked file =
+    EndsOver (option_map string_bytes file) TellsUnopened TakesText (IsRunBesides Check (option_map string_bytes file))
+    (IsRefusedBesides Check (option_map string_bytes file))
+
+abbrev pub RunsAdvised : Option (String Global) → (status : ℕ) → (left_old left_new old new told_old told_new : Option Text) → Type 0
+RunsAdvised file =
+    EndsOver (option_map string_bytes file) TellsOpenFault TakesText (IsRunBesides Advice (option_map string_bytes file))
+    (IsRefusedBesides Advice (option_map string_bytes file))

@@ -1,4 +1,6 @@
+pub mod Advice
 pub mod Audits
+pub mod Besides
 pub mod Carried
 pub mod Check
 pub mod Checked
@@ -15,4 +17,5 @@ pub mod Steps
 pub mod Threads
 pub mod ThreadsEvents
 pub mod ThreadsJournals
+pub mod ThreadsObjects
 pub mod Unwritten

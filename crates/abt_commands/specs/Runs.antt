@@ -7,7 +7,7 @@ use Rattle.abt_explain.specs.Explained as lines
 use Rattle.abt_json.specs.Printed as objects
 use Rattle.abt_json.specs.declared.plan.JsonPlan.TheVariants.{Run, Explain}
 use Rattle.abt_perform.specs.Plans as plain
-use Rattle.abt_commands.specs.Checked.{RunsChecked, the_run}
+use Rattle.abt_commands.specs.Checked.{RunsAdvised, RunsChecked, the_run}
 use Rattle.abt_commands.specs.Ends.{Ends, EndsOver, Quietly, TakesText}
 use Rattle.abt_commands.specs.Opening.{TellsOpenFault, TellsUnopened}
 
@@ -17,16 +17,18 @@ RunsPlain file =
 
 abbrev pub RunsAsJson : Option (String Global) → (status : ℕ) → (left_old left_new old new told_old told_new : Option Text) → Type 0
 RunsAsJson file =
-    EndsOver (option_map string_bytes file) TellsOpenFault TakesText (Quietly (objects.Prints (Run None))) (objects.IsRefused (Run None))
+    EndsOver (option_map string_bytes file) TellsUnopened TakesText (Quietly (objects.Prints (Run None))) (objects.IsRefused (Run None))
 
--- As JSON no check is told besides.
-abbrev pub Runs : (json explain : Bool) → Option (String Global) → (status : ℕ)
+-- As JSON nothing is told besides.
+abbrev pub Runs : (json explain advised : Bool) → Option (String Global) → (status : ℕ)
     → (left_old left_new old new told_old told_new : Option Text) → Type 0
-Runs json explain file status left_old left_new old new told_old told_new = MatchBool json
+Runs json explain advised file status left_old left_new old new told_old told_new = MatchBool json
     (RunsAsJson file status left_old left_new old new told_old told_new)
     (MatchBool explain
     (RunsChecked file status left_old left_new old new told_old told_new)
-    (RunsPlain file status left_old left_new old new told_old told_new))
+    (MatchBool advised
+    (RunsAdvised file status left_old left_new old new told_old told_new)
+    (RunsPlain file status left_old left_new old new told_old told_new)))
 
 -- the explanation went out, all of it
 abbrev pub IsExplained : (json : Bool) → (left old new : Option Text) → Type 0

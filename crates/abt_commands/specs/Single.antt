@@ -1,6 +1,6 @@
 -- What the commands over rates, cells and lines leave.
-use Rattle.std.specs.Prelude.{ℕ, Bool, MatchBool, Option, MatchOption, String, Vec}
-use Rattle.std.specs.Io.KnownBytes.{Keeps}
+use Rattle.std.specs.Prelude.{ℕ, Bool, MatchBool, List, Option, MatchOption, String, Vec}
+use Rattle.std.specs.Io.KnownBytes.{Appends, Keeps}
 use Rattle.std.specs.declared.alloc.Global.{Global}
 use Rattle.abt_text.specs.Text.{Text}
 use Rattle.abt_codes.specs.Printed as codes
@@ -9,6 +9,7 @@ use Rattle.abt_json.specs.Printed as objects
 use Rattle.abt_json.specs.declared.plan.JsonPlan.{JsonPlan}
 use Rattle.abt_json.specs.declared.plan.JsonPlan.TheVariants as as_json
 use Rattle.abt_parts.specs.Answered as parts
+use Rattle.abt_parts.specs.PortObjects.{AreUnprinted, port_objects}
 use Rattle.abt_parts.specs.declared.plan.PartsPlan.{PartsPlan}
 use Rattle.abt_parts.specs.declared.plan.PartsPlan.TheVariants as in_lines
 use Rattle.abt_perform.specs.Plans as plain
@@ -24,11 +25,11 @@ abbrev pub PerformsAsJson : JsonPlan → (status : ℕ) → (left_old left_new o
 PerformsAsJson plan = Ends (objects.ReadsFor plan) (Quietly (objects.Prints plan)) (objects.IsRefused plan)
 
 -- Each line of the input is answered.
-abbrev pub AnswersLines : PartsPlan → (status : ℕ) → (left_old left_new old new told_old told_new : Option Text) → Type 0
-AnswersLines plan = Ends TakesAny (Quietly (parts.IsAnswered plan)) (parts.IsRefused plan)
+abbrev pub AnswersLines : (json : Bool) → PartsPlan → (status : ℕ) → (left_old left_new old new told_old told_new : Option Text) → Type 0
+AnswersLines json plan = Ends TakesAny (Quietly (parts.IsAnswered json plan)) (parts.IsRefused json plan)
 
-abbrev pub SaysCodes : CodesPlan → (status : ℕ) → (left_old left_new old new told_old told_new : Option Text) → Type 0
-SaysCodes plan = Ends Keeps (Quietly (λ left. codes.IsPrinted plan)) (λ left. codes.IsRefused plan)
+abbrev pub SaysCodes : (json : Bool) → CodesPlan → (status : ℕ) → (left_old left_new old new told_old told_new : Option Text) → Type 0
+SaysCodes json plan = Ends Keeps (Quietly (λ left. codes.IsPrinted json plan)) (λ left. codes.IsRefused json plan)
 
 abbrev pub SaysRate : (json : Bool) → String Global → (status : ℕ) → (left_old left_new old new told_old told_new : Option Text) → Type 0
 SaysRate json code status left_old left_new old new told_old told_new = MatchBool json
@@ -38,13 +39,21 @@ SaysRate json code status left_old left_new old new told_old told_new = MatchBoo
 -- Without a cell, those of the lines.
 abbrev pub SaysCell : (json : Bool) → Option (String Global) → (status : ℕ) → (left_old left_new old new told_old told_new : Option Text) → Type 0
 SaysCell json cell status left_old left_new old new told_old told_new = MatchOption cell
-    (AnswersLines in_lines.Cells status left_old left_new old new told_old told_new)
+    (AnswersLines json in_lines.Cells status left_old left_new old new told_old told_new)
     (λ hex. MatchBool json
     (PerformsAsJson (as_json.Cell hex) status left_old left_new old new told_old told_new)
     (Performs (in_words.Cell hex) status left_old left_new old new told_old told_new))
 
-abbrev pub ServesPort : (capacity : ℕ) → Option (Vec (String Global) Global) → (status : ℕ)
+-- The objects of some cells went out, or there is a fault, which is told.
+abbrev pub ServesByObjects : (capacity : ℕ) → (cells : List Text) → (status : ℕ)
     → (left_old left_new old new told_old told_new : Option Text) → Type 0
-ServesPort capacity cells status left_old left_new old new told_old told_new = MatchOption cells
-    (AnswersLines (in_lines.Port capacity) status left_old left_new old new told_old told_new)
-    (λ hexes. Performs (in_words.Port capacity hexes) status left_old left_new old new told_old told_new)
+ServesByObjects capacity cells = Ends Keeps (Quietly (λ left old new. Appends old new (port_objects capacity cells)))
+    (λ left. AreUnprinted capacity cells)
+
+abbrev pub ServesPort : (json : Bool) → (capacity : ℕ) → Option (Vec (String Global) Global) → (status : ℕ)
+    → (left_old left_new old new told_old told_new : Option Text) → Type 0
+ServesPort json capacity cells status left_old left_new old new told_old told_new = MatchOption cells
+    (AnswersLines json (in_lines.Port capacity) status left_old left_new old new told_old told_new)
+    (λ hexes. MatchBool json
+    (ServesByObjects capacity (plain.texts_of hexes.items) status left_old left_new old new told_old told_new)
+    (Performs (in_words.Port capacity hexes) status left_old left_new old new told_old told_new))

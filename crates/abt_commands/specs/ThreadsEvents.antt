@@ -7,10 +7,12 @@ use Rattle.abt_perform_threads.specs.Performing.{IsRunOf, IsRefused}
 use Rattle.abt_perform_threads.specs.declared.performing.JudgedRun.{JudgedRun}
 use Rattle.abt_explain.specs.Told.{TellsEvents}
 use Rattle.abt_cli.specs.declared.command.ThreadsCommand.{ThreadsCommand}
-use Rattle.abt_commands.specs.Checked.{IsUnread, TellsCheck}
+use Rattle.abt_commands.specs.Besides.{IsUnread}
+use Rattle.abt_commands.specs.Checked.{TellsCheckFirst}
 use Rattle.abt_commands.specs.Ends.{Ends, EndsOver, TakesText}
 use Rattle.abt_commands.specs.Opening.{TellsUnopened}
 use Rattle.abt_commands.specs.Saved.{IsSavedIfNamed, IsUnsavedIfNamed}
+use Rattle.abt_commands.specs.declared.advice.Runs.TheVariants.{Scripts}
 
 -- the file for the events
 abbrev pub events_file_of : ThreadsCommand → Option Text
@@ -22,7 +24,7 @@ TellsEventsBesides explain run old new = MatchBool explain (TellsEvents run.ran.
 
 -- the check of the scenario is told, if the events are; else nothing is
 abbrev pub TellsCheckBesides : (explain : Bool) → (source : Text) → (old new : Option Text) → Type 0
-TellsCheckBesides explain source old new = MatchBool explain (TellsCheck source old new) (Keeps old new)
+TellsCheckBesides explain source old new = MatchBool explain (TellsCheckFirst Scripts source old new) (Keeps old new)
 
 -- The events of a run are in their file, and were told.
 pub record TellsSaved (command : ThreadsCommand) (run : JudgedRun) (old new : Option Text) : Type 0 where

@@ -22,7 +22,7 @@ use Rattle.abt_files.specs.declared.why.Why.TheVariants.{Memory}
 use Rattle.abt_journal_text.specs.declared.write_fault.WriteFault.TheVariants as unwritten
 use Rattle.abt_cli.specs.declared.command.ThreadsCommand.{ThreadsCommand}
 use Rattle.abt_commands.specs.Ends.{Ends, EndsOver, Quietly, TakesText}
-use Rattle.abt_commands.specs.Opening.{TellsOpenFault, open_line}
+use Rattle.abt_commands.specs.Opening.{TellsUnopened, open_line}
 use Rattle.abt_commands.specs.Unwritten.{TellsReason, TellsUnwritten}
 
 -- An output is given its name.
@@ -135,4 +135,4 @@ EndsKeptOver workers journals = Ends TakesText (Quietly (IsKeptOver workers)) (I
 
 abbrev pub KeepsJournals : ThreadsCommand → (journals : Text) → (status : ℕ) → (left_old left_new old new told_old told_new : Option Text) → Type 0
 KeepsJournals command journals =
-    EndsOver (option_map string_bytes command.file) TellsOpenFault TakesText (Quietly (IsKeptOver command.workers)) (IsUnkeptOver command.workers journals)
+    EndsOver (option_map string_bytes command.file) TellsUnopened TakesText (Quietly (IsKeptOver command.workers)) (IsUnkeptOver command.workers journals)

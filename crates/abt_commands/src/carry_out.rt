@@ -29,11 +29,14 @@ use std::sync::Wait;
 use std::thread::Threads;
 
 /// Carries a command out over the files that it names, or else over an input that is there, and gives the exit status: 0 if it is
-/// done, and 1 if a line on `errors` tells why not, or a check tells a fault. What is read of files that may be long is counted.
+/// done, and 1 if a line on `errors` tells why not, or a check tells a fault. What is read of files that may be long is counted. With
+/// `advised`, as on a terminal, `errors` are told besides who says what is wrong in a scenario, and which command runs one that has nothing
+/// to run for this one.
 pub fn carry_out_command<T, R: Read, W: Write, E: Write, P: Write + Drop>(
     rt: &T,
     progress: &Progress<P>,
     command: Command,
+    advised: bool,
     input: &mut R,
     out: &mut W,
     errors: &mut E,
@@ -41,7 +44,7 @@ pub fn carry_out_command<T, R: Read, W: Write, E: Write, P: Write + Drop>(
 where
     T: Files + AllocGlobal + Stores + Threads + Wait + Sync,
     requires { IsAllowed command }
-    ensures { IsCarriedOut T.Store.content T.File.contents command result
+    ensures { IsCarriedOut T.Store.content T.File.contents advised command result
         (R.remaining input.old) (R.remaining input.new) (W.contents out.old) (W.contents out.new)
         (E.contents errors.old) (E.contents errors.new) }
 {
@@ -49,14 +52,22 @@ where
     match command {
         Command::Rate { code, json } => rate(alloc, code, json, input, out, errors),
         Command::Cell { cell: hex, json } => cell(alloc, hex, json, input, out, errors),
-        Command::Port { capacity, cells } => port(alloc, capacity, cells, input, out, errors),
+        Command::Port {
+            capacity,
+            cells,
+            json,
+        } => port(alloc, capacity, cells, json, input, out, errors),
         Command::Run {
             file,
             json,
             explain,
             quiet: _,
-        } => run(rt, progress, &file, json, explain, input, out, errors),
-        Command::Threads(command) => threads(rt, progress, &command, input, out, errors),
+        } => run(
+            rt, progress, &file, json, explain, advised, input, out, errors,
+        ),
+        Command::Threads(command) => {
+            threads(rt, progress, &command, advised, input, out, errors)
+        }
         Command::Explain {
             file,
             json,
@@ -64,20 +75,30 @@ where
         } => explain(rt, progress, &file, json, input, out, errors),
         Command::Check { file, json } => check(rt, progress, &file, json, input, out, errors),
         Command::Audit(command) => audit(rt, progress, &command, input, out, errors),
-        Command::Police { tau, rate } => {
-            answer_lines(alloc, PartsPlan::Police { tau, rate }, input, out, errors)
-        }
-        Command::Shape { rate } => answer_lines(
+        Command::Police { tau, rate, json } => answer_lines(
+            alloc,
+            PartsPlan::Police { tau, rate },
+            json,
+            input,
+            out,
+            errors,
+        ),
+        Command::Shape { rate, json } => answer_lines(
             alloc,
             PartsPlan::Shape { rate },
+            json,
             input,
             out,
             errors,
         ),
         Command::Step { file, form } => step(rt, file.as_str(), form, input, out, errors),
         Command::Play(plan) => play(rt, progress, &plan, input, out, errors),
-        Command::Code { rate } => say_codes(alloc, CodesPlan::Code(rate), input, out, errors),
-        Command::Write(words) => say_codes(alloc, CodesPlan::Write(words), input, out, errors),
+        Command::Code { rate, json } => {
+            say_codes(alloc, CodesPlan::Code(rate), json, input, out, errors)
+        }
+        Command::Write { words, json } => {
+            say_codes(alloc, CodesPlan::Write(words), json, input, out, errors)
+        }
         Command::Draw(command) => draw(rt, progress, &command, input, out, errors),
         Command::Switch(plan) => switch(rt, &plan, input, out, errors),
         Command::Source(plan) => source(rt, &plan, input, out, errors),

@@ -20,7 +20,7 @@ pub(crate) fn cell<R: Read, W: Write, E: Write>(
         (W.contents out.old) (W.contents out.new) (E.contents errors.old) (E.contents errors.new) }
 {
     match cell {
-        None => perform_parts(alloc, &PartsPlan::Cells, input, out, errors),
+        None => perform_parts(alloc, &PartsPlan::Cells, json, input, out, errors),
         Some(hex) if json => perform_json(alloc, &JsonPlan::Cell(hex), input, out, errors),
         Some(hex) => perform(alloc, &Plan::Cell(hex), input, out, errors),
     }

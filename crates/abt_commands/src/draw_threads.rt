@@ -71,7 +71,7 @@ where
 }
 
 // Runs the scenario that a reader has left, and weaves the journals of the run. What `abt threads` shows of it goes nowhere.
-fn run_of<T: Threads + Wait + Sync, R: Read>(
+pub(crate) fn run_of<T: Threads + Wait + Sync, R: Read>(
     rt: &T,
     alloc: Global,
     workers: u16,

@@ -1,6 +1,7 @@
 //! The commands of the program, carried out: a file each.
 #![tactic(auto)]
 
+mod advice;
 mod audit;
 mod audit_picture;
 mod carry_out;
@@ -18,14 +19,16 @@ mod play;
 mod port;
 mod rate;
 mod run;
-mod run_checked;
+mod run_besides;
 mod saving;
 mod source;
 mod step;
 mod switch;
 mod threads;
+mod threads_advised;
 mod threads_events;
 mod threads_journals;
+mod threads_objects;
 mod unwritten;
 
 pub use carry_out::carry_out_command;

@@ -105,7 +105,7 @@ fn tell_why<E: Write>(name: &str, why: Why, errors: &mut E)
 }
 
 // Tells a name as it is shown.
-fn tell_shown<E: Write>(errors: &mut E, name: &str)
+pub(crate) fn tell_shown<E: Write>(errors: &mut E, name: &str)
     ensures { Tells (shown name.now) (E.contents errors.old) (E.contents errors.new) }
 {
     let _ = put_shown(errors, name);

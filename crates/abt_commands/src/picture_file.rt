@@ -1,7 +1,9 @@
 //! Pictures that are written to a file of their own.
-ghost use Rattle.std.specs.Prelude.{◌≡◌, ◌⊎◌};
+ghost use Rattle.std.specs.Prelude.{◌≡◌, ◌⊎◌, string_bytes};
+ghost use Rattle.std.specs.Result.{IsOkAnd};
 ghost use Rattle.std.specs.Io.KnownBytes.{Keeps};
 ghost use Rattle.abt_draw.specs.Drawn.{TellsSome};
+ghost use Rattle.abt_commands.specs.Saved.{IsFiled};
 
 use crate::saving::{why_of_file, write_file};
 use crate::unwritten::tell_unwritten;
@@ -22,6 +24,7 @@ pub(crate) fn keep_picture<T: Files + AllocGlobal, E: Write>(
     ensures status { (result ≡ 0) ⊎ (result ≡ 1) }
     ensures quiet { result ≡ 0 → Keeps (E.contents errors.old) (E.contents errors.new) }
     ensures told { result ≡ 1 → TellsSome (E.contents errors.old) (E.contents errors.new) }
+    ensures kept { result ≡ 0 → IsOkAnd text (λ drawing. IsFiled (string_bytes drawing)) }
 {
     match text {
         Ok(text) => keep_text(rt, plan, text.as_str(), errors),
@@ -42,6 +45,7 @@ pub(crate) fn keep_text<T: Files + AllocGlobal, E: Write>(
     ensures status { (result ≡ 0) ⊎ (result ≡ 1) }
     ensures quiet { result ≡ 0 → Keeps (E.contents errors.old) (E.contents errors.new) }
     ensures told { result ≡ 1 → TellsSome (E.contents errors.old) (E.contents errors.new) }
+    ensures kept { result ≡ 0 → IsFiled text.now }
 {
     match write_file(rt, plan.out.as_str(), text.as_bytes()) {
         Ok(()) => 0,

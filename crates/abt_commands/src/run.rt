@@ -2,7 +2,7 @@
 ghost use Rattle.abt_commands.specs.Runs.{Runs, RunsAsJson, RunsPlain};
 
 use crate::input::{Input, opened};
-use crate::run_checked::run_checked;
+use crate::run_besides::{run_advised, run_checked};
 use abt_json::{JsonPlan, perform_json};
 use abt_perform::{Plan, perform};
 use abt_progress::Progress;
@@ -10,19 +10,20 @@ use std::alloc::AllocGlobal;
 use std::io::{Read, Write};
 use std::rt::Files;
 
-// Runs the scenario of a file, or else of the input that is there, reports on it in lines or as JSON, or checks it besides, and gives the
-// exit status.
+// Runs the scenario of a file, or else of the input that is there, reports on it in lines or as JSON, or checks it or gives advice
+// besides, and gives the exit status.
 pub(crate) fn run<T: Files + AllocGlobal, R: Read, W: Write, E: Write, P: Write + Drop>(
     rt: &T,
     progress: &Progress<P>,
     file: &Option<String>,
     json: bool,
     explain: bool,
+    advised: bool,
     input: &mut R,
     out: &mut W,
     errors: &mut E,
 ) -> u8
-    ensures { Runs json explain file.now result (R.remaining input.old) (R.remaining input.new)
+    ensures { Runs json explain advised file.now result (R.remaining input.old) (R.remaining input.new)
         (W.contents out.old) (W.contents out.new) (E.contents errors.old) (E.contents errors.new) }
 {
     if json {
@@ -30,6 +31,9 @@ pub(crate) fn run<T: Files + AllocGlobal, R: Read, W: Write, E: Write, P: Write 
     }
     if explain {
         return run_checked(rt, progress, file, input, out, errors);
+    }
+    if advised {
+        return run_advised(rt, progress, file, input, out, errors);
     }
     run_plain(rt, progress, file, input, out, errors)
 }
@@ -54,7 +58,7 @@ fn run_plain<T: Files + AllocGlobal, R: Read, W: Write, E: Write, P: Write + Dro
     }
 }
 
-// Reports on the run as JSON. Of a file that isn't opened the fault alone is told.
+// Reports on the run as JSON.
 fn run_as_json<T: Files + AllocGlobal, R: Read, W: Write, E: Write, P: Write + Drop>(
     rt: &T,
     progress: &Progress<P>,
@@ -70,6 +74,6 @@ fn run_as_json<T: Files + AllocGlobal, R: Read, W: Write, E: Write, P: Write + D
     match opened(rt, progress, file) {
         Ok(Input::Here) => perform_json(rt.alloc(), &plan, input, out, errors),
         Ok(Input::File(mut file)) => perform_json(rt.alloc(), &plan, &mut file, out, errors),
-        Err(unopened) => unopened.tell_fault(errors),
+        Err(unopened) => unopened.tell(errors),
     }
 }

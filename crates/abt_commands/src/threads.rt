@@ -3,8 +3,10 @@ ghost use Rattle.std.specs.Prelude.{◌≡◌};
 ghost use Rattle.abt_commands.specs.Threads.{RunsThreads, ShowsRun, tells_events};
 
 use crate::input::{Input, opened};
+use crate::threads_advised::show_advised;
 use crate::threads_events::tell_run;
 use crate::threads_journals::keep_journals;
+use crate::threads_objects::say_run;
 use abt_cli::ThreadsCommand;
 use abt_perform::Plan;
 use abt_perform_threads::perform_threads;
@@ -21,21 +23,28 @@ pub(crate) fn threads<T, R: Read, W: Write, E: Write, P: Write + Drop>(
     rt: &T,
     progress: &Progress<P>,
     command: &ThreadsCommand,
+    advised: bool,
     input: &mut R,
     out: &mut W,
     errors: &mut E,
 ) -> u8
 where
     T: Files + AllocGlobal + Threads + Wait + Sync,
-    ensures { RunsThreads command.now result (R.remaining input.old) (R.remaining input.new)
+    ensures { RunsThreads advised command.now result (R.remaining input.old) (R.remaining input.new)
         (W.contents out.old) (W.contents out.new) (E.contents errors.old) (E.contents errors.new) }
 {
+    if command.json {
+        return say_run(rt, progress, command, input, out, errors);
+    }
     if let Some(journals) = &command.journals {
         let journals = journals.as_str();
         return keep_journals(rt, progress, command, journals, input, out, errors);
     }
     if tells_events(command) {
         return tell_run(rt, progress, command, input, out, errors);
+    }
+    if advised {
+        return show_advised(rt, progress, command, input, out, errors);
     }
     show_run(rt, progress, command, input, out, errors)
 }

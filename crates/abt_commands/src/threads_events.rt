@@ -2,8 +2,9 @@
 ghost use Rattle.std.specs.Prelude.{◌≡◌, ◌⊎◌};
 ghost use Rattle.abt_commands.specs.ThreadsEvents.{EndsToldOver, IsRunTold, IsTold, IsUnfinished, IsUntold, TellsCheckBesides, TellsEventsBesides, TellsRunOf, TellsSaved, TellsUnsaved};
 
+use crate::advice::Runs;
 use crate::input::{Input, opened};
-use crate::run_checked::{tell_check, unread};
+use crate::run_besides::{tell_check_first, unread};
 use crate::saving::save_if_named;
 use abt_cli::ThreadsCommand;
 use abt_explain::tell_events;
@@ -142,6 +143,6 @@ fn check_besides<E: Write>(alloc: Global, explain: bool, text: &[u8], errors: &m
     ensures { TellsCheckBesides explain text.now (E.contents errors.old) (E.contents errors.new) }
 {
     if explain {
-        tell_check(alloc, text, errors);
+        tell_check_first(alloc, Runs::Scripts, text, errors);
     }
 }

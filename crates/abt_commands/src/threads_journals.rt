@@ -20,7 +20,7 @@ use std::thread::Threads;
 const JOURNALS_LINE: &str = "fault: journals\n";
 
 // Runs the scenario of a file, or else of the input that is there, in threads, writes its journals to the file for them, and gives the
-// exit status. Of a file that isn't opened the fault alone is told.
+// exit status.
 pub(crate) fn keep_journals<T, R: Read, W: Write, E: Write, P: Write + Drop>(
     rt: &T,
     progress: &Progress<P>,
@@ -39,7 +39,7 @@ where
     match opened(rt, progress, &command.file) {
         Ok(Input::Here) => over_reader(rt, workers, journals, input, out, errors),
         Ok(Input::File(mut file)) => over_reader(rt, workers, journals, &mut file, out, errors),
-        Err(unopened) => unopened.tell_fault(errors),
+        Err(unopened) => unopened.tell(errors),
     }
 }
 

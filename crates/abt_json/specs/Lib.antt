@@ -1,3 +1,4 @@
 pub mod Objects
+pub mod Kinds
 pub mod Explained
 pub mod Printed

@@ -30,9 +30,15 @@ use Rattle.abt_entry.specs.ObjectMembers.{text_member, number_member, rate_membe
 abbrev pub spacing_token : ℕ → Token
 spacing_token units = if units == 0 then null else number (decimal (spacing_of units))
 
+abbrev pub spacing_member : ℕ → List Token
+spacing_member units = key (codes "spacing") ∷ spacing_token units ∷ []
+
+-- the code of a rate, its units and its spacing
+abbrev pub rate_members : ℕ → List Token
+rate_members units = rate_member (codes "code") units ++ number_member (codes "units") units ++ spacing_member units
+
 abbrev pub rate_object : ℕ → Text
-rate_object units =
-    object_line (rate_member (codes "code") units ++ number_member (codes "units") units ++ key (codes "spacing") ∷ spacing_token units ∷ [])
+rate_object units = object_line (rate_members units)
 
 abbrev pub rate_json_of : Option ℕ → Result Text Fault
 rate_json_of (Some units) = Ok (rate_object units)
@@ -61,8 +67,12 @@ channel_members vc = number_member (codes "vpi") vc.vpi ++ number_member (codes 
 abbrev pub terms_members : Terms → List Token
 terms_members request = channel_members request.vc ++ request_members request
 
+-- which message it is, and its request
+abbrev pub message_members : Rm → List Token
+message_members rm = text_member (codes "message") (message_name rm) ++ terms_members (request_of rm)
+
 abbrev pub cell_object : Rm → Text
-cell_object rm = object_line (text_member (codes "message") (message_name rm) ++ terms_members (request_of rm))
+cell_object rm = object_line (message_members rm)
 
 abbrev pub cell_json_of : Result Rm Fault → Result Text Fault
 cell_json_of (Ok rm) = Ok (cell_object rm)

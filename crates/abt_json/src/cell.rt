@@ -3,7 +3,7 @@ ghost use Rattle.std.specs.Prelude.{◌≡◌, ◌⊎◌, ◌++◌, Ok, Err, IfO
 ghost use Rattle.abt_cell.specs.Message.{Terms};
 ghost use Rattle.abt_perform.specs.declared.fault.Fault.TheVariants.{Memory};
 ghost use Rattle.abt_entry.specs.ObjectMembers.{Adds};
-ghost use Rattle.abt_json.specs.Objects.{cell_json, cell_object, message_name, channel_members, terms_members, rates_members, request_members};
+ghost use Rattle.abt_json.specs.Objects.{cell_json, cell_object, message_members, message_name, channel_members, terms_members, rates_members, request_members};
 
 use abt_cell::{Request, Rm, Vc};
 use abt_entry::{begin, end, push_number, push_rate, push_text};
@@ -26,10 +26,20 @@ fn cell_object(alloc: Global, rm: &Rm) -> Result<Vec<u8>, AllocError>
 {
     let mut text = Vec::new(alloc);
     let mut object = begin(alloc, &mut text)?;
-    push_text(&mut object, "message", message_name(rm))?;
-    push_terms(alloc, &mut object, &rm.request())?;
+    push_message(alloc, &mut object, rm)?;
     end(object, &mut text)?;
     Ok(text)
+}
+
+/// Adds which message a request or an answer is, its channel, its number, its floor and its asked rate.
+///
+/// # Errors
+/// If memory is refused.
+pub fn push_message(alloc: Global, object: &mut Writer, rm: &Rm) -> Result<(), AllocError>
+    ensures { OnOk result (Adds (message_members rm.now) object.old object.new) }
+{
+    push_text(object, "message", message_name(rm))?;
+    push_terms(alloc, object, &rm.request())
 }
 
 // Adds a request with its channel.

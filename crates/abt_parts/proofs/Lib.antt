@@ -1,5 +1,7 @@
+mod Closing
 mod Decoding
 mod Digits
 mod Served
+mod ByObjects
 mod Unserved
 mod Words

@@ -1,5 +1,5 @@
 -- What goes out when lines are answered by hand.
-use Rattle.std.specs.Prelude.{◌≤◌, ⊤, None, Option}
+use Rattle.std.specs.Prelude.{◌≤◌, ⊤, Bool, true, false, None, Option}
 use Rattle.abt_rate.specs.Limits.{capacity_max, tau_max}
 use Rattle.abt_gcra.specs.Policing.{fresh_policing}
 use Rattle.abt_text.specs.Text.{Text}
@@ -13,6 +13,7 @@ use Rattle.abt_perform.specs.declared.fault.Fault.{Fault}
 use Rattle.abt_perform.specs.declared.fault.Fault.TheVariants as fault
 use Rattle.abt_node.specs.Table.{new_table}
 use Rattle.abt_parts.specs.Cells.{read_lines, served_lines}
+use Rattle.abt_parts.specs.PartObjects.{policed_objects, read_objects, served_objects, shaped_objects}
 use Rattle.abt_parts.specs.Police.{policed_lines}
 use Rattle.abt_parts.specs.Shape.{shaped_lines}
 use Rattle.abt_parts.specs.declared.plan.PartsPlan.{PartsPlan}
@@ -32,9 +33,20 @@ answers_to (Shape rate) source = shaped_lines rate (record { next = 0; emitted =
 answers_to Cells source = read_lines 1 (seen_lines source)
 answers_to (Port capacity) source = served_lines (new_table 0 capacity) 1 (seen_lines source)
 
+-- the same as objects
+abbrev pub objects_to : PartsPlan → Text → Text
+objects_to (Police tau rate) source = policed_objects rate (fresh_policing tau) 1 (seen_lines source)
+objects_to (Shape rate) source = shaped_objects rate (record { next = 0; emitted = None }) 1 (seen_lines source)
+objects_to Cells source = read_objects 1 (seen_lines source)
+objects_to (Port capacity) source = served_objects (new_table 0 capacity) 1 (seen_lines source)
+
+abbrev pub said_to : (json : Bool) → PartsPlan → Text → Text
+said_to false plan = answers_to plan
+said_to true plan = objects_to plan
+
 -- the answers to all that a reader had left went out, and nothing else
-abbrev pub IsAnswered : PartsPlan → (left old new : Option Text) → Type 0
-IsAnswered plan left old new = IsServed (answers_to plan) left old new
+abbrev pub IsAnswered : (json : Bool) → PartsPlan → (left old new : Option Text) → Type 0
+IsAnswered json plan left old new = IsServed (said_to json plan) left old new
 
 -- the program's fault for one of the lines
 abbrev pub fault_of_lines : LinesFault → Fault
@@ -44,7 +56,7 @@ fault_of_lines Write = fault.Write
 fault_of_lines Memory = fault.Memory
 
 -- Lines that aren't all answered: why, what went out, which is a beginning of the answers, and what was told.
-pub record IsRefused (plan : PartsPlan) (left old new errors_old errors_new : Option Text) : Type 0 where
+pub record IsRefused (json : Bool) (plan : PartsPlan) (left old new errors_old errors_new : Option Text) : Type 0 where
   pub fault : LinesFault
-  pub printed : IsServedPart (answers_to plan) left old new
+  pub printed : IsServedPart (said_to json plan) left old new
   pub told : Tells (fault_line (fault_of_lines fault)) errors_old errors_new

@@ -1,32 +1,25 @@
 //! Lines of any reader, answered by what a plan asks for.
-ghost use Rattle.std.specs.Prelude.{◌≡◌, ◌≤◌, ◌⊎◌, OnOk, OnErr};
+ghost use Rattle.std.specs.Prelude.{◌≡◌, ◌⊎◌, OnOk, OnErr};
 ghost use Rattle.std.specs.Io.KnownBytes.{IsAtEnd, Keeps};
-ghost use Rattle.abt_rate.specs.Limits.{capacity_max, tau_max};
-ghost use Rattle.abt_lines.specs.Served.{IsServedPart};
-ghost use Rattle.abt_parts.specs.Answered.{IsAllowedPlan, IsAnswered, IsRefused, answers_to, fault_of_lines};
-ghost use Rattle.abt_parts.specs.declared.plan.PartsPlan.TheVariants as parts;
+ghost use Rattle.abt_lines.specs.Served.{IsServed, IsServedPart};
+ghost use Rattle.abt_parts.specs.Answered.{IsAllowedPlan, IsAnswered, IsRefused, fault_of_lines, said_to};
 
-use crate::cells::ReadLines;
+use crate::by_objects::answer_by_objects;
+use crate::in_words::answer_in_words;
 use crate::plan::PartsPlan;
-use crate::police::PolicedLines;
-use crate::serve::ServedLines;
-use crate::shape::ShapedLines;
-use abt_gcra::Policer;
-use abt_lines::{LinesFault, serve_lines};
-use abt_node::Port;
+use abt_lines::LinesFault;
 use abt_perform::{Fault, tell_fault};
-use abt_rate::Rate;
-use abt_shaper::Shaper;
 use std::alloc::Global;
 use std::io::{Read, Write};
 
-/// Answers all lines of a reader, and gives the exit status: 0 if all answers went out to `writer`, also those that are faults of lines,
+/// Answers all lines of a reader, in words or as JSON, and gives the exit status: 0 if all answers went out to `writer`, also those that are faults of lines,
 /// and 1 if a line on `errors` tells why not. A line that can't be written there changes no status.
 ///
 /// What a read of the input ends is answered, and the answers written, before the next read.
 pub fn perform_parts<R: Read, W: Write, E: Write>(
     alloc: Global,
     plan: &PartsPlan,
+    json: bool,
     reader: &mut R,
     writer: &mut W,
     errors: &mut E,
@@ -35,13 +28,13 @@ pub fn perform_parts<R: Read, W: Write, E: Write>(
     ensures status { (result ≡ 0) ⊎ (result ≡ 1) }
     ensures end { result ≡ 0 → IsAtEnd (R.remaining reader.new) }
     ensures ok { result ≡ 0 →
-        IsAnswered plan.now (R.remaining reader.old) (W.contents writer.old) (W.contents writer.new) }
+        IsAnswered json plan.now (R.remaining reader.old) (W.contents writer.old) (W.contents writer.new) }
     ensures quiet { result ≡ 0 → Keeps (E.contents errors.old) (E.contents errors.new) }
     ensures err { result ≡ 1 →
-        IsRefused plan.now (R.remaining reader.old) (W.contents writer.old) (W.contents writer.new)
+        IsRefused json plan.now (R.remaining reader.old) (W.contents writer.old) (W.contents writer.new)
         (E.contents errors.old) (E.contents errors.new) }
 {
-    match answer_lines(alloc, plan, reader, writer) {
+    match answer_lines(alloc, plan, json, reader, writer) {
         Ok(()) => 0,
         Err(fault) => {
             tell_fault(fault_of_lines(fault), errors);
@@ -54,98 +47,22 @@ pub fn perform_parts<R: Read, W: Write, E: Write>(
 fn answer_lines<R: Read, W: Write>(
     alloc: Global,
     plan: &PartsPlan,
+    json: bool,
     reader: &mut R,
     writer: &mut W,
 ) -> Result<(), LinesFault>
     requires { IsAllowedPlan plan.now }
     ensures end { OnOk result (IsAtEnd (R.remaining reader.new)) }
-    ensures ok { OnOk result (IsAnswered plan.now (R.remaining reader.old) (W.contents writer.old)
-        (W.contents writer.new)) }
-    ensures err { OnErr result (IsServedPart (answers_to plan.now) (R.remaining reader.old)
+    ensures ok { OnOk result (IsServed (said_to json plan.now) (R.remaining reader.old)
+        (W.contents writer.old) (W.contents writer.new)) }
+    ensures err { OnErr result (IsServedPart (said_to json plan.now) (R.remaining reader.old)
         (W.contents writer.old) (W.contents writer.new)) }
 {
-    match *plan {
-        PartsPlan::Police { tau, rate } => police_lines(alloc, tau, rate, reader, writer),
-        PartsPlan::Shape { rate } => shape_lines(alloc, rate, reader, writer),
-        PartsPlan::Cells => read_lines(alloc, reader, writer),
-        PartsPlan::Port { capacity } => serve_cells(alloc, capacity, reader, writer),
+    if json {
+        answer_by_objects(alloc, plan, reader, writer)
+    } else {
+        answer_in_words(alloc, plan, reader, writer)
     }
-}
-
-// Answers all lines as a policer does that has taken no cell yet.
-fn police_lines<R: Read, W: Write>(
-    alloc: Global,
-    tau: u64,
-    rate: Rate,
-    reader: &mut R,
-    writer: &mut W,
-) -> Result<(), LinesFault>
-    requires { tau ≤ tau_max }
-    ensures end { OnOk result (IsAtEnd (R.remaining reader.new)) }
-    ensures ok { OnOk result (IsAnswered (parts.Police tau rate) (R.remaining reader.old)
-        (W.contents writer.old) (W.contents writer.new)) }
-    ensures err { OnErr result (IsServedPart (answers_to (parts.Police tau rate)) (R.remaining reader.old)
-        (W.contents writer.old) (W.contents writer.new)) }
-{
-    let policer = Policer::new(tau);
-    let mut lines = PolicedLines {
-        policer,
-        held: rate,
-    };
-    serve_lines(alloc, &mut lines, reader, writer)
-}
-
-// Answers all lines as a shaper does that may send at once.
-fn shape_lines<R: Read, W: Write>(
-    alloc: Global,
-    rate: Rate,
-    reader: &mut R,
-    writer: &mut W,
-) -> Result<(), LinesFault>
-    ensures end { OnOk result (IsAtEnd (R.remaining reader.new)) }
-    ensures ok { OnOk result (IsAnswered (parts.Shape rate) (R.remaining reader.old)
-        (W.contents writer.old) (W.contents writer.new)) }
-    ensures err { OnErr result (IsServedPart (answers_to (parts.Shape rate)) (R.remaining reader.old)
-        (W.contents writer.old) (W.contents writer.new)) }
-{
-    let shaper = Shaper::new(0);
-    let mut lines = ShapedLines { shaper, rate };
-    serve_lines(alloc, &mut lines, reader, writer)
-}
-
-// Answers each line by what its cell says.
-fn read_lines<R: Read, W: Write>(
-    alloc: Global,
-    reader: &mut R,
-    writer: &mut W,
-) -> Result<(), LinesFault>
-    ensures end { OnOk result (IsAtEnd (R.remaining reader.new)) }
-    ensures ok { OnOk result (IsAnswered parts.Cells (R.remaining reader.old)
-        (W.contents writer.old) (W.contents writer.new)) }
-    ensures err { OnErr result (IsServedPart (answers_to parts.Cells) (R.remaining reader.old)
-        (W.contents writer.old) (W.contents writer.new)) }
-{
-    serve_lines(alloc, &mut ReadLines, reader, writer)
-}
-
-#[tactic(auto, using(crate::proofs::Unserved::unserved))]
-// Answers all lines as a port without connections does.
-fn serve_cells<R: Read, W: Write>(
-    alloc: Global,
-    capacity: u64,
-    reader: &mut R,
-    writer: &mut W,
-) -> Result<(), LinesFault>
-    requires { capacity ≤ capacity_max }
-    ensures end { OnOk result (IsAtEnd (R.remaining reader.new)) }
-    ensures ok { OnOk result (IsAnswered (parts.Port capacity) (R.remaining reader.old)
-        (W.contents writer.old) (W.contents writer.new)) }
-    ensures err { OnErr result (IsServedPart (answers_to (parts.Port capacity)) (R.remaining reader.old)
-        (W.contents writer.old) (W.contents writer.new)) }
-{
-    let port = Port::new(alloc, 0, capacity)?;
-    let mut lines = ServedLines { port };
-    serve_lines(alloc, &mut lines, reader, writer)
 }
 
 // The program's fault for one of the lines.

@@ -101,7 +101,7 @@ fn push_verdict(
 }
 
 // How much earlier than due a cell comes, in picoseconds.
-fn early_of(before: Policer, at: u64) -> u64
+pub(crate) fn early_of(before: Policer, at: u64) -> u64
     ensures { result ≡ early_of before at }
 {
     match before.tat() {

@@ -1,2 +1,5 @@
+pub mod Boxes
+pub mod Counted
+pub mod Joined
 pub mod Staying
 pub mod Stages

@@ -7,3 +7,4 @@ pub mod Performing
 pub mod Played
 pub mod Stage
 pub mod UnderWay
+pub mod Waiting

@@ -1,6 +1,7 @@
 //! Plays: a scenario's scripts carried out in one thread, with deliveries, losses and repeats drawn by a seed.
 #![tactic(auto)]
 
+mod blocks;
 mod chances;
 mod command_events;
 mod draws;
@@ -8,11 +9,14 @@ mod fault;
 mod fitting;
 mod followed;
 mod hand;
+mod inboxes;
+mod parcel;
 mod performing;
 mod plan;
 mod player;
 mod playing;
 mod stage;
+mod tally;
 mod under_way;
 
 pub use chances::{Chances, Fate};

@@ -1,5 +1,6 @@
 //! Plans of plays.
 use crate::chances::Chances;
+use abt_draw::PicturePlan;
 
 /// A play of a scenario's scripts.
 #[derive(Drop)]
@@ -10,4 +11,6 @@ pub struct PlayPlan {
     pub chances: Chances,
     /// The file for the scenario of the events, if they are to be written.
     pub events: Option<String>,
+    /// The picture of the events, if they are to be drawn.
+    pub picture: Option<PicturePlan>,
 }

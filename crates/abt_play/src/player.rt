@@ -1,8 +1,9 @@
 //! A play under way.
-ghost use Rattle.std.specs.Prelude.{◌≡◌, ◌<◌, ◌++◌, [], ◌∷◌, IfOk, IfSome, OnOk, length, vec_len};
+ghost use Rattle.std.specs.Prelude.{◌≡◌, ◌↔◌, ◌<◌, IsTrue, IfOk, OnOk, vec_len};
 ghost use Rattle.abt_net.specs.Topology.{Topology};
 ghost use Rattle.abt_play.specs.Draws.{generator_of};
 ghost use Rattle.abt_play.specs.Stage.{IsOnStage};
+ghost use Rattle.abt_play.specs.Waiting.{CanHear};
 
 use crate::chances::Chances;
 use crate::command_events::event_of;
@@ -10,8 +11,10 @@ use crate::draws::Draws;
 use crate::fault::StopFault;
 use crate::followed::following;
 use crate::hand::Hand;
+use crate::inboxes::Inboxes;
+use crate::parcel::Parcel;
 use crate::stage::Stage;
-use crate::under_way::{Parcel, send};
+use crate::under_way::UnderWay;
 use abt_model::{Command, Event, Operation, Outcome, Script};
 use abt_net::Net;
 use abt_node::Onward;
@@ -30,9 +33,9 @@ pub(crate) struct Player<'net> {
     // The sources that have commands left.
     pub(crate) hands: Vec<Hand<'net>>,
     // The messages under way, in the order in which they were sent.
-    pub(crate) parcels: Vec<Parcel>,
-    // The answers that came to sources and that these haven't looked at, the oldest first.
-    pub(crate) answers: Vec<Event>,
+    pub(crate) parcels: UnderWay,
+    // The answers that came to sources and that these haven't looked at.
+    pub(crate) answers: Inboxes,
     // When the last cell of each connection arrived.
     pub(crate) arrivals: Vec<u64>,
     // The operations that are left.
@@ -58,8 +61,8 @@ impl<'net> Player<'net> {
             chances: *chances,
             draws: Draws::new(chances.seed),
             hands: hands_of(alloc, scripts)?,
-            parcels: Vec::new(alloc),
-            answers: Vec::new(alloc),
+            parcels: UnderWay::new(alloc),
+            answers: Inboxes::new(alloc),
             arrivals: zeros(alloc, net.conns().len())?,
             operations,
         })
@@ -163,10 +166,9 @@ impl<'net> Player<'net> {
     {
         // Names a type within an outcome, without which the checker can't follow one.
         let _ = Onward::Pass;
-        let Some(place) = place_of_answer(&self.answers, conn) else {
+        let Some(told) = self.answers.take(conn) else {
             return Ok(());
         };
-        let told = self.answers.remove(place);
         self.stage.attempt(&told)?;
         Ok(())
     }
@@ -231,13 +233,12 @@ impl<'net> Player<'net> {
         ensures { (net : Topology) → IsOnStage net self.old.stage →
             OnOk result (IsOnStage net self.new.stage) }
     {
-        if place >= self.parcels.len() {
+        let Some(parcel) = self.parcels.take(place) else {
             return Ok(());
-        }
-        let parcel = self.parcels.remove(place);
+        };
         match parcel.event {
-            Event::Told { .. } => {
-                wait(&mut self.answers, parcel.event)?;
+            Event::Told { conn, .. } => {
+                self.answers.put(conn, &parcel.event)?;
                 Ok(())
             }
             _ => self.carry(&parcel),
@@ -296,7 +297,7 @@ impl<'net> Player<'net> {
         let first = self.draws.word();
         let second = self.draws.word();
         let fate = self.chances.fate(first, second);
-        send(&mut self.parcels, &Parcel { event, repeats }, fate)?;
+        self.parcels.send(&Parcel { event, repeats }, fate)?;
         Ok(())
     }
 
@@ -324,12 +325,10 @@ impl<'net> Player<'net> {
     }
 
     // Whether an answer has come to the source of a connection, or a message of that connection is under way.
-    fn can_hear(&self, conn: u16) -> bool {
-        place_of_answer(&self.answers, conn).is_some()
-            || self
-                .parcels
-                .iter()
-                .any(|parcel| parcel.event.conn() == Some(conn))
+    fn can_hear(&self, conn: u16) -> bool
+        ensures { IsTrue result ↔ CanHear conn self.now.answers self.now.parcels }
+    {
+        self.answers.has(conn) || self.parcels.has(conn)
     }
 
     // How many hops the path of an event's connection has.
@@ -342,21 +341,6 @@ impl<'net> Player<'net> {
             None => 0,
         }
     }
-}
-
-// An answer waits at its source, behind those that came before it.
-fn wait(answers: &mut Vec<Event>, told: Event) -> Result<(), AllocError>
-    ensures { OnOk result (answers.new.items ≡ answers.old.items ++ told ∷ []) }
-{
-    answers.push(told)?;
-    Ok(())
-}
-
-// The place of the oldest answer to the source of a connection.
-fn place_of_answer(answers: &[Event], conn: u16) -> Option<usize>
-    ensures { IfSome result (λ place. place < length answers.now) }
-{
-    answers.iter().position(|told| told.conn() == Some(conn))
 }
 
 // The sources whose scripts have commands.

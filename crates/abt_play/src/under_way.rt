@@ -1,64 +1,117 @@
-//! Messages under way.
-ghost use Rattle.std.specs.Prelude.{◌≡◌, ◌++◌, OnOk};
+//! All messages under way.
+ghost use Rattle.std.specs.Prelude.{◌≡◌, ◌↔◌, ◌<◌, ◌≤◌, ◌++◌, [], ◌∷◌, length, IsTrue, IfSome, IfNone, OnOk, OnErr};
 ghost use Rattle.abt_play.specs.declared.chances.Fate.TheVariants as fate;
-ghost use Rattle.abt_play.specs.UnderWay.{both, copies};
+ghost use Rattle.abt_play.specs.UnderWay.{both, copies, count_of, IsTaken};
 
+use crate::blocks::Blocks;
 use crate::chances::Fate;
+use crate::parcel::Parcel;
+use crate::tally::Tally;
 use abt_model::Event;
-use std::alloc::AllocError;
+use std::alloc::{AllocError, Global};
+use std::marker::Model;
 
-/// A message under way.
-#[derive(Clone, Copy, Debug, PartialEq, Eq)]
-pub(crate) struct Parcel {
-    // The event that it comes.
-    pub(crate) event: Event,
-    // How often it, and what follows it, may still be repeated.
-    pub(crate) repeats: u8,
+/// The messages under way, in the order in which they were sent. How many there are of each connection is counted.
+#[derive(Drop)]
+pub(crate) struct UnderWay {
+    parcels: Blocks,
+    tally: Tally,
 }
 
-// Adds a message that is sent to those under way, as often as its fate has it.
-pub(crate) fn send(parcels: &mut Vec<Parcel>, parcel: &Parcel, fate: Fate) -> Result<(), AllocError>
-    ensures { OnOk result (parcels.new.items ≡ parcels.old.items ++ copies fate parcel.now) }
-{
-    match fate {
-        Fate::Lost => Ok(()),
-        Fate::Once => add(parcels, parcel),
-        Fate::Twice => add_twice(parcels, parcel),
+impl Model for UnderWay {
+    ghost use Rattle.std.specs.Prelude.{◌≡◌, ℕ, List, slice_index};
+    ghost use Rattle.abt_play.specs.UnderWay.{count_of};
+    ghost use Rattle.abt_play.specs.declared.parcel.Parcel.{Parcel};
+
+    ghost Value = { List Parcel };
+
+    ghost view = { λ u. u.parcels };
+
+    ghost invariant = { λ u. (c : ℕ) → slice_index u.tally c ≡ count_of c u.parcels };
+}
+
+impl UnderWay {
+    // No messages.
+    pub(crate) fn new(alloc: Global) -> UnderWay
+        ensures { result ≡ [] }
+    {
+        UnderWay {
+            parcels: Blocks::new(alloc),
+            tally: Tally::new(alloc),
+        }
     }
-}
 
-// Adds a message once.
-fn add(parcels: &mut Vec<Parcel>, parcel: &Parcel) -> Result<(), AllocError>
-    ensures { OnOk result (parcels.new.items ≡ parcels.old.items ++ copies fate.Once parcel.now) }
-{
-    parcels.push(Parcel {
-        event: parcel.event,
-        repeats: parcel.repeats,
-    })?;
-    Ok(())
-}
-
-// Adds a message twice, if it may be repeated.
-fn add_twice(parcels: &mut Vec<Parcel>, parcel: &Parcel) -> Result<(), AllocError>
-    ensures { OnOk result (parcels.new.items ≡ parcels.old.items ++ copies fate.Twice parcel.now) }
-{
-    match parcel.repeats.checked_sub(1) {
-        Some(repeats) => add_both(parcels, &parcel.event, repeats),
-        None => add(parcels, parcel),
+    // How many messages there are.
+    pub(crate) fn len(&self) -> usize
+        ensures { result ≡ length self.now }
+    {
+        self.parcels.len()
     }
-}
 
-// Adds both copies of a message, each of which may be repeated so often.
-fn add_both(parcels: &mut Vec<Parcel>, event: &Event, repeats: u8) -> Result<(), AllocError>
-    ensures { OnOk result (parcels.new.items ≡ parcels.old.items ++ both event.now repeats) }
-{
-    parcels.push(Parcel {
-        event: *event,
-        repeats,
-    })?;
-    parcels.push(Parcel {
-        event: *event,
-        repeats,
-    })?;
-    Ok(())
+    // Whether there is a message of a connection.
+    pub(crate) fn has(&self, conn: u16) -> bool
+        ensures { IsTrue result ↔ (0 < count_of conn self.now) }
+    {
+        self.tally.has(conn)
+    }
+
+    // Takes a message out, by its place.
+    pub(crate) fn take(&mut self, place: usize) -> Option<Parcel>
+        ensures some { IfSome result (IsTaken place self.old self.new) }
+        ensures none { IfNone result (length self.old ≤ place) }
+        ensures same { IfNone result (self.new ≡ self.old) }
+    {
+        let parcel = self.parcels.take(place)?;
+        self.tally.lower(parcel.event.conn());
+        Some(parcel)
+    }
+
+    // Adds a message that is sent, as often as its fate has it.
+    pub(crate) fn send(&mut self, parcel: &Parcel, fate: Fate) -> Result<(), AllocError>
+        ensures { OnOk result (self.new ≡ self.old ++ copies fate parcel.now) }
+    {
+        match fate {
+            Fate::Lost => Ok(()),
+            Fate::Once => self.add(parcel),
+            Fate::Twice => self.add_twice(parcel),
+        }
+    }
+
+    // Adds a message twice, if it may be repeated.
+    fn add_twice(&mut self, parcel: &Parcel) -> Result<(), AllocError>
+        ensures { OnOk result (self.new ≡ self.old ++ copies fate.Twice parcel.now) }
+    {
+        match parcel.repeats.checked_sub(1) {
+            Some(repeats) => self.add_both(&parcel.event, repeats),
+            None => self.add(parcel),
+        }
+    }
+
+    // Adds both copies of a message, each of which may be repeated so often.
+    fn add_both(&mut self, event: &Event, repeats: u8) -> Result<(), AllocError>
+        ensures { OnOk result (self.new ≡ self.old ++ both event.now repeats) }
+    {
+        let copy = Parcel {
+            event: *event,
+            repeats,
+        };
+        self.add(&copy)?;
+        self.add(&copy)
+    }
+
+    // Adds a message behind the others.
+    fn add(&mut self, parcel: &Parcel) -> Result<(), AllocError>
+        ensures ok { OnOk result (self.new ≡ self.old ++ parcel.now ∷ []) }
+        ensures err { OnErr result (self.new ≡ self.old) }
+    {
+        let conn = parcel.event.conn();
+        self.tally.raise(conn)?;
+        match self.parcels.push(parcel) {
+            Ok(()) => Ok(()),
+            Err(refused) => {
+                self.tally.lower(conn);
+                Err(refused)
+            }
+        }
+    }
 }

@@ -1,5 +1,5 @@
 //! A policer, asked line by line.
-ghost use Rattle.std.specs.Prelude.{◌≡◌, ◌≤◌, true};
+ghost use Rattle.std.specs.Prelude.{◌≡◌, ◌≤◌, false, true};
 ghost use Rattle.abt_parts.specs.Answered.{IsAnswered};
 ghost use Rattle.abt_rate.specs.Limits.{tau_max};
 
@@ -18,10 +18,10 @@ pub fn is_policed<R: Read, W: Write, E: Write>(
     errors: &mut E,
 ) -> bool
     requires { tau ≤ tau_max }
-    ensures { result ≡ true → IsAnswered (PartsPlan.Police tau rate) (R.remaining reader.old)
+    ensures { result ≡ true → IsAnswered false (PartsPlan.Police tau rate) (R.remaining reader.old)
         (W.contents writer.old) (W.contents writer.new) }
 {
     let plan = PartsPlan::Police { tau, rate };
-    let status = perform_parts(alloc, &plan, reader, writer, errors);
+    let status = perform_parts(alloc, &plan, false, reader, writer, errors);
     status == 0
 }

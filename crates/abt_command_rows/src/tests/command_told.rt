@@ -15,12 +15,17 @@ pub(super) fn told(alloc: Global, command: &Command) -> Result<String, Fail> {
             &[("json", *json)],
         ),
         Command::Cell { cell, json } => flagged(alloc, &["cell", named(cell)], &[("json", *json)]),
-        Command::Port { capacity, cells } => {
+        Command::Port {
+            capacity,
+            cells,
+            json,
+        } => {
             let cells = match cells {
                 Some(cells) => listed(alloc, cells.as_slice())?,
                 None => String::from_str(alloc, "-")?,
             };
-            Ok(format!(in alloc; "port {capacity} {cells}")?)
+            let text = format!(in alloc; "port {capacity} {cells}")?;
+            flagged(alloc, &[text.as_str()], &[("json", *json)])
         }
         Command::Run {
             file,
@@ -48,13 +53,15 @@ pub(super) fn told(alloc: Global, command: &Command) -> Result<String, Fail> {
 
 fn other_told(alloc: Global, command: &Command) -> Result<String, Fail> {
     match command {
-        Command::Police { tau, rate } => {
+        Command::Police { tau, rate, json } => {
             let units = rate.units();
-            Ok(format!(in alloc; "police {tau} {units}")?)
+            let text = format!(in alloc; "police {tau} {units}")?;
+            flagged(alloc, &[text.as_str()], &[("json", *json)])
         }
-        Command::Shape { rate } => {
+        Command::Shape { rate, json } => {
             let units = rate.units();
-            Ok(format!(in alloc; "shape {units}")?)
+            let text = format!(in alloc; "shape {units}")?;
+            flagged(alloc, &[text.as_str()], &[("json", *json)])
         }
         Command::Step { file, form } => flagged(
             alloc,
@@ -66,8 +73,15 @@ fn other_told(alloc: Global, command: &Command) -> Result<String, Fail> {
             ],
         ),
         Command::Play(plan) => play_told(alloc, plan),
-        Command::Code { rate } => Ok(format!(in alloc; "code {rate}")?),
-        Command::Write(words) => message_told(alloc, words),
+        Command::Code { rate, json } => flagged(
+            alloc,
+            &["code", rate.as_str()],
+            &[("json", *json)],
+        ),
+        Command::Write { words, json } => {
+            let text = message_told(alloc, words)?;
+            flagged(alloc, &[text.as_str()], &[("json", *json)])
+        }
         Command::Draw(command) => draw_told(alloc, command),
         _ => Err(Fail::from("another command")),
     }
@@ -85,7 +99,11 @@ fn threads_told(alloc: Global, command: &ThreadsCommand) -> Result<String, Fail>
             named(&command.journals),
             named(&command.events),
         ],
-        &[("explain", command.explain), ("quiet", command.quiet)],
+        &[
+            ("json", command.json),
+            ("explain", command.explain),
+            ("quiet", command.quiet),
+        ],
     )
 }
 
@@ -119,7 +137,13 @@ fn play_told(alloc: Global, plan: &PlayPlan) -> Result<String, Fail> {
     let loss = plan.chances.loss;
     let repeat = plan.chances.repeat;
     let delay = plan.chances.delay;
-    Ok(format!(in alloc; "play {file} {seed} {loss} {repeat} {delay} {events}")?)
+    match &plan.picture {
+        Some(picture) => {
+            let picture = picture_told(alloc, picture)?;
+            Ok(format!(in alloc; "play {file} {seed} {loss} {repeat} {delay} {events} {picture}")?)
+        }
+        None => Ok(format!(in alloc; "play {file} {seed} {loss} {repeat} {delay} {events}")?),
+    }
 }
 
 fn message_told(alloc: Global, words: &MessageWords) -> Result<String, Fail> {

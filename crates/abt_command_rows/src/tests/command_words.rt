@@ -2,21 +2,25 @@
 use super::command_told::told;
 use abt_cli::command_words;
 use abt_perform::WordsFault;
+use std::alloc::Global;
 use std::process::Abort;
 use std::test::Fail;
 
 // Words behind the program's name, and the command that they ask for, as `told` says it. A field that is empty is told as `-`.
-const ROWS: [(&str, &str); 63] = [
+const ROWS: [(&str, &str); 39] = [
     ("rate 53e8", "rate 53e8"),
     ("rate 53e8 --json", "rate 53e8 json"),
     ("rate --json 53e8", "rate 53e8 json"),
     ("cell 00", "cell 00"),
     ("cell 00 --json", "cell 00 json"),
     ("cell --stdin", "cell -"),
+    ("cell --stdin --json", "cell - json"),
     ("port 7 00 11 zz", "port 7 00,11,zz"),
     ("port 007 00", "port 7 00"),
     ("port 7 --stdin", "port 7 -"),
     ("port --stdin 7", "port 7 -"),
+    ("port 7 00 --json", "port 7 00 json"),
+    ("port 7 --stdin --json", "port 7 - json"),
     ("run", "run -"),
     ("run a.toml", "run a.toml"),
     ("run a.toml --json", "run a.toml json"),
@@ -36,6 +40,10 @@ const ROWS: [(&str, &str); 63] = [
     (
         "threads a.toml --workers 4 --explain",
         "threads a.toml 4 - - explain",
+    ),
+    (
+        "threads a.toml --workers 4 --json --quiet",
+        "threads a.toml 4 - - json quiet",
     ),
     (
         "threads a.toml --workers 4 --quiet",
@@ -63,9 +71,18 @@ const ROWS: [(&str, &str); 63] = [
         "audit a.jsonl --events e.toml --draw d.html --only 0,2 --from 3 --to 9",
         "audit a.jsonl e.toml page d.html 0,2 3 9",
     ),
+];
+
+// The same of parts by hand, nets that are asked line by line, plays, pictures and processes.
+const OTHER_ROWS: [(&str, &str); 34] = [
     ("police --tau 200 --rate 53e8", "police 200 512000"),
     ("police --rate 1000cps --tau 0", "police 0 512000"),
+    (
+        "police --json --tau 200 --rate 53e8",
+        "police 200 512000 json",
+    ),
     ("shape --rate 53e8", "shape 512000"),
+    ("shape --rate 53e8 --json", "shape 512000 json"),
     ("step a.toml", "step a.toml"),
     ("step a.toml --json", "step a.toml json"),
     ("step --state a.toml", "step a.toml state"),
@@ -93,13 +110,26 @@ const ROWS: [(&str, &str); 63] = [
         "play a.toml --delay 0 --repeat 100 --loss 100 --events e.toml --seed 0",
         "play a.toml 0 100 100 0 e.toml",
     ),
+    (
+        "play a.toml --seed 1 --draw d.svg",
+        "play a.toml 1 0 0 4294967295 - picture d.svg - 0 0",
+    ),
+    (
+        "play --seed 1 --events e.toml --draw d.html --only 0,2 --from 3 --to 9",
+        "play - 1 0 0 4294967295 e.toml page d.html 0,2 3 9",
+    ),
     ("code 1.3Mbps", "code 1.3Mbps"),
+    ("code 1.3Mbps --json", "code 1.3Mbps json"),
     (
         "write request 1 2 3 0000 5258",
         "write request 1 2 3 0000 5258",
     ),
     ("write yes 1 2 3 0000 5258", "write yes 1 2 3 0000 5258"),
     ("write no 1 2 3 0000 5258", "write no 1 2 3 0000 5258"),
+    (
+        "write --json no 1 2 3 0000 5258",
+        "write no 1 2 3 0000 5258 json",
+    ),
     ("draw -o d.svg", "draw - - - picture d.svg - 0 0"),
     (
         "draw a.toml --output d.html",
@@ -133,16 +163,17 @@ const ROWS: [(&str, &str); 63] = [
 ];
 
 // Words that are refused, beside those of a plan (`plans`).
-const REFUSED: [&str; 45] = [
+const REFUSED: [&str; 52] = [
     "none",
     "rate 53e8 --stdin",
     "cell 00 --stdin",
-    "cell --stdin --json",
     "port 7 00 --stdin",
-    "port 7 00 --json",
+    "code 1.3Mbps --quiet",
     "run --json --explain",
     "run --journals j.jsonl",
-    "threads --workers 4 --json",
+    "threads --workers 4 --json --explain",
+    "threads --workers 4 --json --events e.toml",
+    "threads --workers 4 --json --journals j.jsonl",
     "threads --workers 4 --journals j.jsonl --events e.toml",
     "threads --workers 4 --journals j.jsonl --explain",
     "threads a.toml --workers 4 --journals a.toml",
@@ -171,6 +202,12 @@ const REFUSED: [&str; 45] = [
     "play a.toml --seed 1 --loss 101",
     "play a.toml --seed 1 --delay 4294967296",
     "play a.toml --seed 1 --events a.toml",
+    "play d.svg --seed 1 --draw d.svg",
+    "play --seed 1 --events d.svg --draw d.svg",
+    "play --seed 1 --draw -",
+    "play --seed 1 --draw d.txt",
+    "play --seed 1 --only 0",
+    "play --seed 1 --draw d.svg --from 0",
     "write maybe 1 2 3 0000 5258",
     "draw a.toml",
     "draw a.svg -o a.svg",
@@ -181,17 +218,26 @@ const REFUSED: [&str; 45] = [
     "draw -o d.svg --workers 4 --events d.svg",
 ];
 
-#[test]
-fn words_ask_for_these_commands(rt: HostRuntime) -> Result<(), Fail> {
-    let alloc = rt.alloc();
-    for (words, expected) in ROWS {
+// Each row's words ask for its command.
+fn each_asks(rt: &impl Abort, alloc: Global, rows: &[(&str, &str)]) -> Result<(), Fail> {
+    for (words, expected) in rows {
         let words: Vec<&str> = words.split(' ').collect(alloc)?;
         match command_words(alloc, words.as_slice()) {
-            Ok(command) => assert_eq!(rt; told(alloc, &command)?.as_str(), expected),
+            Ok(command) => assert_eq!(rt; told(alloc, &command)?.as_str(), *expected),
             Err(fault) => refused_at_want(fault)?,
         }
     }
     Ok(())
+}
+
+#[test]
+fn words_ask_for_these_commands(rt: HostRuntime) -> Result<(), Fail> {
+    each_asks(&rt, rt.alloc(), &ROWS)
+}
+
+#[test]
+fn other_words_ask_for_these_commands(rt: HostRuntime) -> Result<(), Fail> {
+    each_asks(&rt, rt.alloc(), &OTHER_ROWS)
 }
 
 #[test]

@@ -1,0 +1,5 @@
+use Rattle.abt_json.proofs.Closing.{kind_line}
+use Rattle.abt_codes.proofs.objects.push_below.Goals as goal
+
+pub returns : goal.returns
+returns c = kind_line c.end_line.result _ _ _ _ _ _ c.in_ok-object.ensures c.in_ok-push_rate_members.ensures c.end_line.ensures
