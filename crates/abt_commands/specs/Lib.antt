@@ -1,4 +1,5 @@
 pub mod Audits
+pub mod AuditsLog
 pub mod Carried
 pub mod Check
 pub mod Checked

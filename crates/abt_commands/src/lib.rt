@@ -2,6 +2,7 @@
 #![tactic(auto)]
 
 mod audit;
+mod audit_log;
 mod audit_picture;
 mod carry_out;
 mod cell;
