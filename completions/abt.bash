@@ -13,7 +13,7 @@ _abt() {
         threads) COMPREPLY=($(compgen -f -W "--workers --json --journals --events --explain --quiet -h --help" -- "$word")) ;;
         explain) COMPREPLY=($(compgen -f -W "--json --quiet -h --help" -- "$word")) ;;
         check) COMPREPLY=($(compgen -f -W "--json -h --help" -- "$word")) ;;
-        audit) COMPREPLY=($(compgen -f -W "--events --draw --only --from --to --quiet -h --help" -- "$word")) ;;
+        audit) COMPREPLY=($(compgen -f -W "--events --draw --only --from --to --port --source --quiet -h --help" -- "$word")) ;;
         police) COMPREPLY=($(compgen -W "--tau --rate --json -h --help" -- "$word")) ;;
         shape) COMPREPLY=($(compgen -W "--rate --json -h --help" -- "$word")) ;;
         step) COMPREPLY=($(compgen -f -W "--json --state --possible -h --help" -- "$word")) ;;

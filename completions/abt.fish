@@ -53,6 +53,8 @@ complete -c abt -n '__fish_seen_subcommand_from audit' -l draw -r -F -d 'Draw th
 complete -c abt -n '__fish_seen_subcommand_from audit' -l only -x -d 'With --draw, show these connections alone, as 0,2'
 complete -c abt -n '__fish_seen_subcommand_from audit' -l from -x -d 'With --draw, show the events from this one on, counted from 1'
 complete -c abt -n '__fish_seen_subcommand_from audit' -l to -x -d 'With --draw, show the events up to this one'
+complete -c abt -n '__fish_seen_subcommand_from audit' -l port -x -d 'Judge the log of this port alone, by its number in the net, taking what comes in as sent'
+complete -c abt -n '__fish_seen_subcommand_from audit' -l source -x -d 'Judge the log of the source of this connection alone, taking what comes in as sent'
 complete -c abt -n '__fish_seen_subcommand_from audit' -l quiet -d 'Draw no progress line; one is drawn on standard error where that is a terminal'
 complete -c abt -n '__fish_seen_subcommand_from audit' -s h -l help -d 'Print help'
 complete -c abt -n '__fish_seen_subcommand_from audit' -F

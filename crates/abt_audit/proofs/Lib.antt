@@ -4,6 +4,8 @@ pub mod Judged
 pub mod Lists
 pub mod Named
 pub mod Once
+pub mod OneLogs
+pub mod OneLogsShown
 pub mod OwnAnswers
 pub mod Parted
 pub mod Settled

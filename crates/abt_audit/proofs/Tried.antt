@@ -52,7 +52,7 @@ each_way_is_tried net writes ports sources settled are c conn journal after othe
     (woven_fits net ports others events woven c conn other unfit.known beside)
 
 -- what was added changes nothing for the source, so what was written fits if all does
-written_fits : (vc : Channel) (facts : List Fact) (first spots : List Spot) (place : ℕ) (entries full : List SourceEntry) (at : List Spot)
+pub written_fits : (vc : Channel) (facts : List Fact) (first spots : List Spot) (place : ℕ) (entries full : List SourceEntry) (at : List Spot)
     → Completes first spots place entries full at → FitsFrom vc facts full (length full) → FitsFrom vc facts entries (length entries)
 written_fits vc facts first spots place entries [] [] is fits = subst (λ (es : List SourceEntry). FitsFrom vc facts es (length es)) (sym is) tt
 written_fits vc facts first spots place entries [] (spot ∷ at) is fits = absurd is

@@ -8,3 +8,6 @@ pub mod Protocol
 pub mod Contradicted
 pub mod Performing
 pub mod Why
+pub mod OneLog
+pub mod OneLogShown
+pub mod Obeyed

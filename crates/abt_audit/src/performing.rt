@@ -122,7 +122,7 @@ fn audit_texts<R: Read + Drop, W: Write>(
 }
 
 // The fault of an audit for a fault of a text.
-fn fault_of_text(fault: TextFault) -> AuditFault
+pub(crate) fn fault_of_text(fault: TextFault) -> AuditFault
     ensures value { result ≡ spec.fault_of_text fault }
     ensures either { (result ≡ audit_fault.Memory) ⊎ (result ≡ audit_fault.Text fault) }
 {
@@ -167,7 +167,7 @@ fn judge_book(
 }
 
 // Tells a fault as far as the writer takes it. A fault that names no text is told without memory.
-fn tell<E: Write>(alloc: Global, names: &[String], fault: &AuditFault, errors: &mut E)
+pub(crate) fn tell<E: Write>(alloc: Global, names: &[String], fault: &AuditFault, errors: &mut E)
     ensures { TellsFault names.now fault.now (E.contents errors.old) (E.contents errors.new) }
 {
     match fault {
@@ -182,7 +182,7 @@ fn tell<E: Write>(alloc: Global, names: &[String], fault: &AuditFault, errors: &
 }
 
 // Tells a text that was made, or want of memory for it.
-fn tell_made<E: Write>(made: Result<Vec<u8>, AllocError>, errors: &mut E)
+pub(crate) fn tell_made<E: Write>(made: Result<Vec<u8>, AllocError>, errors: &mut E)
     ensures { MatchResult made
         (λ text. Tells text.items (E.contents errors.old) (E.contents errors.new))
         (λ _. Tells (fault_line program.Memory) (E.contents errors.old) (E.contents errors.new)) }
@@ -229,7 +229,7 @@ fn program_fault(alloc: Global, fault: Fault, more: &[u8]) -> Result<Vec<u8>, Al
 }
 
 // The octets of a text, and then more.
-fn octets_of(alloc: Global, text: &str, more: &[u8]) -> Result<Vec<u8>, AllocError>
+pub(crate) fn octets_of(alloc: Global, text: &str, more: &[u8]) -> Result<Vec<u8>, AllocError>
     ensures { IfOk result (λ octets. octets.items ≡ text.now ⋅ more.now) }
 {
     let mut octets = Vec::new(alloc);

@@ -32,7 +32,7 @@ fn is_same(one: Option<Outcome>, other: Option<Outcome>) -> bool
 }
 
 // How many entries, from the first on, have the outcomes that the source of a connection gives.
-fn reach(vc: Vc, entries: &[SourceEntry]) -> usize
+pub(crate) fn reach(vc: Vc, entries: &[SourceEntry]) -> usize
     ensures { IsReach vc entries.now result }
 {
     let mut actor = SourceActor::new(vc);

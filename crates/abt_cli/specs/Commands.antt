@@ -1,5 +1,5 @@
 -- The commands that words ask for: which field is which word, which words ask for none, and what holds of every command.
-use Rattle.std.specs.Prelude.{◌≡◌, ◌^◌, ◌≤◌, ⊤, ℕ, map, Option, None, Some, IfSome, String, Vec, option_map, codes, string_bytes}
+use Rattle.std.specs.Prelude.{◌≡◌, ◌^◌, ◌≤◌, ⊤, ℕ, map, Option, None, Some, IfSome, String, Vec, option_map, option_and_then, codes, string_bytes}
 use Rattle.std.specs.declared.alloc.Global.{Global}
 use Rattle.clap.specs.declared.parser.matches.ArgMatches.{ArgMatches}
 use Rattle.abt_rate.specs.Limits.{capacity_max, tau_max, AreWorkers}
@@ -14,12 +14,15 @@ use Rattle.abt_live_files.specs.declared.plan.SourcePlan.{SourcePlan}
 use Rattle.abt_live_files.specs.declared.plan.SwitchPlan.{SwitchPlan}
 use Rattle.abt_play.specs.declared.chances.Chances.{Chances}
 use Rattle.abt_play.specs.declared.plan.PlayPlan.{PlayPlan}
+use Rattle.abt_weave.specs.declared.actor.Actor as whose
+use Rattle.abt_weave.specs.declared.actor.Actor.TheVariants as actor
 use Rattle.abt_cli.specs.Pictures.{IsPictureIfNamed, IsPicturePlan}
 use Rattle.abt_cli.specs.Words.{text_in, word_in, words_in, flag_in, AreNumbers, IsUnset, IsFlag, IsCapacity, IsCount, IsTolerance, IsNumberIn}
 use Rattle.abt_cli.specs.declared.command.Command.{Command}
-use Rattle.abt_cli.specs.declared.command.Command.TheVariants.{Rate, Cell, Port, Run, Threads, Explain, Check, Audit, Police, Shape, Step, Play, Code, Write, Draw, Switch, Source}
+use Rattle.abt_cli.specs.declared.command.Command.TheVariants.{Rate, Cell, Port, Run, Threads, Explain, Check, Audit, AuditLog, Police, Shape, Step, Play, Code, Write, Draw, Switch, Source}
 use Rattle.abt_cli.specs.declared.command.ThreadsCommand.{ThreadsCommand}
 use Rattle.abt_cli.specs.declared.command.AuditCommand.{AuditCommand}
+use Rattle.abt_cli.specs.declared.command.LogCommand.{LogCommand}
 use Rattle.abt_cli.specs.declared.command.DrawCommand.{DrawCommand}
 
 -- the file that is named, if one is
@@ -52,6 +55,24 @@ pub record IsAudit (found : ArgMatches) (command : AuditCommand) : Type 0 where
   pub files : map string_bytes command.files.items ≡ words_in found (codes "FILES")
   pub events : name_of command.events ≡ text_in found (codes "events")
   pub picture : IsPictureIfNamed found command.picture
+  pub quiet : IsFlag found (codes "quiet") command.quiet
+
+-- the word, if there is one, says a number below 2^16
+abbrev pub SaysShort : Option Text → ℕ → Type 0
+SaysShort word number = option_and_then (number_below (2 ^ 16)) word ≡ Some number
+
+-- The port or the source whose log is judged alone is the one that a word names; none, if no word does.
+abbrev pub IsActorIn : (port source : Option Text) → Option whose.Actor → Type 0
+IsActorIn port source None = (port ≡ None) × (source ≡ None)
+IsActorIn port source (Some (actor.Port p)) = SaysShort port p
+IsActorIn port source (Some (actor.Source c)) = (port ≡ None) × SaysShort source c
+
+abbrev pub IsLogActor : ArgMatches → Option whose.Actor → Type 0
+IsLogActor found = IsActorIn (text_in found (codes "port")) (text_in found (codes "source"))
+
+-- Each part of an audit of one log, but for whose it is, is what its word says.
+pub record IsLogAudit (found : ArgMatches) (command : LogCommand) : Type 0 where
+  pub files : map string_bytes command.files.items ≡ words_in found (codes "FILES")
   pub quiet : IsFlag found (codes "quiet") command.quiet
 
 -- The seed and the chances are those that the words name. Without a word nothing is lost or repeated, and any message may be the next.
@@ -124,7 +145,8 @@ IsCommandOf name found (Explain file json quiet) = (name ≡ codes "explain") ×
     IsFlag found (codes "json") json × IsFlag found (codes "quiet") quiet
 IsCommandOf name found (Check file json) = (name ≡ codes "check") × (name_of file ≡ text_in found (codes "FILE")) ×
     IsFlag found (codes "json") json
-IsCommandOf name found (Audit command) = (name ≡ codes "audit") × IsAudit found command
+IsCommandOf name found (Audit command) = (name ≡ codes "audit") × IsAudit found command × IsLogActor found None
+IsCommandOf name found (AuditLog command) = (name ≡ codes "audit") × IsLogAudit found command × IsLogActor found (Some command.actor)
 IsCommandOf name found (Police tau rate json) = (name ≡ codes "police") × IsTolerance (word_in found (codes "tau")) tau ×
     IsSaid (word_in found (codes "rate")) rate × IsFlag found (codes "json") json
 IsCommandOf name found (Shape rate json) = (name ≡ codes "shape") × IsSaid (word_in found (codes "rate")) rate ×

@@ -9,7 +9,8 @@ use Rattle.abt_draw.specs.declared.plan.PicturePlan.{PicturePlan}
 use Rattle.abt_perform.specs.declared.plan.WordsFault.{WordsFault}
 use Rattle.abt_perform.specs.declared.plan.WordsFault.TheVariants.{Memory}
 use Rattle.abt_play.specs.declared.chances.Chances.{Chances}
-use Rattle.abt_cli.specs.Commands.{kind_word, IsChancesOf, IsCountIn}
+use Rattle.abt_weave.specs.declared.actor.Actor.{Actor}
+use Rattle.abt_cli.specs.Commands.{kind_word, IsChancesOf, IsActorIn, IsCountIn}
 use Rattle.abt_cli.specs.Pictures.{IsPicturePlan}
 use Rattle.abt_cli.specs.Words.{text_in, word_in, words_in, AreNumbers, IsCapacity, IsCount, IsNumberIn, IsTolerance}
 
@@ -46,12 +47,20 @@ HasNoChances found = (chances : Chances) → IsChancesOf found chances → ⊥
 abbrev pub HasNoPicture : ArgMatches → (name : Text) → Type 0
 HasNoPicture found name = (picture : PicturePlan) → IsPicturePlan found name picture → ⊥
 
+-- A word that is to name a port or a source names none.
+abbrev pub IsNoActorIn : (port source : Option Text) → Type 0
+IsNoActorIn port source = (actor : Option Actor) → IsActorIn port source actor → ⊥
+
+abbrev pub HasNoLogActor : ArgMatches → Type 0
+HasNoLogActor found = IsNoActorIn (text_in found (codes "port")) (text_in found (codes "source"))
+
 -- The words of this command say none.
 abbrev pub SaysNone : (name : Text) → ArgMatches → Type 0
 SaysNone name found =
     ((name ≡ codes "port") × IsNoCapacity (word_in found (codes "CAPACITY"))) ⊎
     ((name ≡ codes "threads") × IsNoCount (word_in found (codes "workers"))) ⊎
     ((name ≡ codes "audit") × HasNoPicture found (codes "draw")) ⊎
+    ((name ≡ codes "audit") × HasNoLogActor found) ⊎
     ((name ≡ codes "police") × IsNoTolerance (word_in found (codes "tau"))) ⊎
     ((name ≡ codes "police") × IsNoRate (word_in found (codes "rate"))) ⊎
     ((name ≡ codes "shape") × IsNoRate (word_in found (codes "rate"))) ⊎

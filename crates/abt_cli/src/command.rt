@@ -5,6 +5,7 @@ use abt_live_files::{SourcePlan, SwitchPlan};
 use abt_play::PlayPlan;
 use abt_rate::Rate;
 use abt_step::AnswerForm;
+use abt_weave::Actor;
 
 /// A command, and what its words name. A scenario whose file is `None` is that of the standard input.
 #[derive(Drop)]
@@ -48,6 +49,8 @@ pub enum Command {
     },
     /// Say whether journals are those of one safe run.
     Audit(AuditCommand),
+    /// Say whether the log of one port or one source obeys, judged alone.
+    AuditLog(LogCommand),
     /// Judge the arrivals of cells, a line of the standard input each, by a tolerance in picoseconds and a rate.
     Police {
         tau: u64,
@@ -112,6 +115,17 @@ pub struct AuditCommand {
     pub events: Option<String>,
     /// What is to be shown of the events, and into which file, if they are to be drawn.
     pub picture: Option<PicturePlan>,
+    /// Whether nothing is shown of how far it is.
+    pub quiet: bool,
+}
+
+/// An audit of the log of one port, or of one source.
+#[derive(Drop)]
+pub struct LogCommand {
+    /// The files of the journals, in this order; the standard input, if there are none.
+    pub files: Vec<String>,
+    /// Whose log is judged. The entries of all others are read, and not judged.
+    pub actor: Actor,
     /// Whether nothing is shown of how far it is.
     pub quiet: bool,
 }

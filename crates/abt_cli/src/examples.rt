@@ -71,6 +71,8 @@ pub(crate) const AUDIT: &str = "Example:
 woven: one list of events is just these journals. safe: no event of that list broke a promise.
 A fault names the file and the line; of entries that fit in no order, or that can't have been answered as they say,
 each is told with its file and its line.
+With --port or --source one log is judged alone, taking what comes in as sent, and answered as
+  port 0 obeys: entries 3
 How journals are written stands in docs/JOURNALS.md.";
 
 pub(crate) const POLICE: &str = "Example:

@@ -11,6 +11,7 @@ mod hand_words;
 mod line;
 mod live_line;
 mod live_words;
+mod log_words;
 mod lost;
 mod names;
 mod picture_words;
@@ -21,7 +22,7 @@ mod scenario_words;
 mod telling;
 mod words;
 
-pub use command::{AuditCommand, Command, DrawCommand, ThreadsCommand};
+pub use command::{AuditCommand, Command, DrawCommand, LogCommand, ThreadsCommand};
 pub use environment::given_command;
 pub use telling::answer_words;
 pub use words::{command_words, plan_words};

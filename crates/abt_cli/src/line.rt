@@ -6,8 +6,8 @@ use crate::hand_line::{
 };
 use crate::live_line::{source_command, switch_command};
 use crate::names::{
-    CODE, DRAW, EVENTS, EXPLAIN, JOURNALS, JSON, capacity, cell, cells, explain, journal_files,
-    json, quiet, scenario, stdin, with_drawn_part, word, workers, written,
+    CODE, DRAW, EVENTS, EXPLAIN, JOURNALS, JSON, OF_SOURCE, PORT, capacity, cell, cells, explain,
+    journal_files, json, quiet, scenario, stdin, valued, with_drawn_part, word, workers, written,
 };
 use clap::Command;
 use std::alloc::{AllocError, Global};
@@ -193,5 +193,25 @@ fn audit_command<'a>(alloc: Global) -> Result<Command<'a>, AllocError> {
         examples::AUDIT,
     );
     let audit = audit.arg(journal_files(alloc))?.arg(events)?.arg(draw)?;
-    with_drawn_part(alloc, audit)?.arg(quiet(alloc))
+    let audit = with_drawn_part(alloc, audit)?;
+    with_one_log(alloc, audit)?.arg(quiet(alloc))
+}
+
+// Whose log is judged alone. Nothing is woven then, so there are no events.
+fn with_one_log<'a>(alloc: Global, audit: Command<'a>) -> Result<Command<'a>, AllocError> {
+    let port = valued(
+        alloc,
+        PORT,
+        "P",
+        "Judge the log of this port alone, by its number in the net, taking what comes in as sent",
+    );
+    let source = valued(
+        alloc,
+        OF_SOURCE,
+        "C",
+        "Judge the log of the source of this connection alone, taking what comes in as sent",
+    );
+    let port = port.conflicts_with(OF_SOURCE)?.conflicts_with(EVENTS)?;
+    let source = source.conflicts_with(EVENTS)?.conflicts_with(DRAW)?;
+    audit.arg(port.conflicts_with(DRAW)?)?.arg(source)
 }

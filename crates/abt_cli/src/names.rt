@@ -71,6 +71,9 @@ pub const OUTPUT: &str = "output";
 /// The file for the picture of `abt audit` and of `abt play`.
 pub const DRAW: &str = "draw";
 
+/// The source whose log `abt audit` judges alone; a port is named by `PORT`.
+pub const OF_SOURCE: &str = "source";
+
 /// The connections that a picture shows, its first event and its last.
 pub const ONLY: &str = "only";
 

@@ -13,6 +13,7 @@ impl Command {
             Command::Run { quiet, .. } | Command::Explain { quiet, .. } => !*quiet,
             Command::Threads(command) => !command.quiet,
             Command::Audit(command) => !command.quiet,
+            Command::AuditLog(command) => !command.quiet,
             _ => false,
         }
     }

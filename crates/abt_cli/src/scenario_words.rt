@@ -5,6 +5,7 @@ ghost use Rattle.abt_cli.specs.Refused.{IsRefused};
 ghost use Rattle.abt_perform.specs.declared.plan.WordsFault.TheVariants.{Memory};
 
 use crate::command::{AuditCommand, Command, ThreadsCommand};
+use crate::log_words::{log_actor, log_audit};
 use crate::names::{CODE, EVENTS, EXPLAIN, FILE, FILES, HEX, JOURNALS, JSON, QUIET, STDIN};
 use crate::picture_words::picture_if_named;
 use crate::readers::{capacity_of, text_in, word_in, words_in, workers_of};
@@ -130,6 +131,9 @@ pub(crate) fn audit_of(alloc: Global, found: &ArgMatches<'_>) -> Result<Command,
     ensures command { IfOk result (IsCommandOf (codes "audit") found.now) }
     ensures err { IfErr result (IsRefused (codes "audit") found.now) }
 {
+    if let Some(actor) = log_actor(alloc, found)? {
+        return Ok(Command::AuditLog(log_audit(alloc, found, actor)?));
+    }
     let picture = picture_if_named(alloc, found)?;
     let files = words_in(alloc, found, FILES)?;
     let events = text_in(alloc, found, EVENTS)?;

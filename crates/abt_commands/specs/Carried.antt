@@ -5,6 +5,7 @@ use Rattle.abt_keep.specs.Record.{KeptRecord}
 use Rattle.abt_codes.specs.declared.plan.CodesPlan.TheVariants as codes
 use Rattle.abt_parts.specs.declared.plan.PartsPlan.TheVariants as lines
 use Rattle.abt_commands.specs.Audits.{Audits}
+use Rattle.abt_commands.specs.AuditsLog.{AuditsLog}
 use Rattle.abt_commands.specs.Check.{Checks}
 use Rattle.abt_commands.specs.Draws.{Draws}
 use Rattle.abt_commands.specs.Plays.{Plays}
@@ -14,7 +15,7 @@ use Rattle.abt_commands.specs.Single.{AnswersLines, SaysCell, SaysCodes, SaysRat
 use Rattle.abt_commands.specs.Steps.{Steps}
 use Rattle.abt_commands.specs.Threads.{RunsThreads}
 use Rattle.abt_cli.specs.declared.command.Command.{Command}
-use Rattle.abt_cli.specs.declared.command.Command.TheVariants.{Rate, Cell, Port, Run, Threads, Explain, Check, Audit, Police, Shape, Step, Play, Code, Write, Draw, Switch, Source}
+use Rattle.abt_cli.specs.declared.command.Command.TheVariants.{Rate, Cell, Port, Run, Threads, Explain, Check, Audit, AuditLog, Police, Shape, Step, Play, Code, Write, Draw, Switch, Source}
 
 -- Over the files and the stores of a system, which are seen by what they hold.
 abbrev pub IsCarriedOut : {K J : Type 0} → (content : K → KeptRecord) → (contents : J → Option Text) → (advised : Bool) → Command → (status : ℕ)
@@ -27,6 +28,7 @@ IsCarriedOut content contents advised (Threads command) = RunsThreads advised co
 IsCarriedOut content contents advised (Explain file json quiet) = Explains json file
 IsCarriedOut content contents advised (Check file json) = Checks file json
 IsCarriedOut content contents advised (Audit command) = Audits command
+IsCarriedOut content contents advised (AuditLog command) = AuditsLog command
 IsCarriedOut content contents advised (Police tau rate json) = AnswersLines json (lines.Police tau rate)
 IsCarriedOut content contents advised (Shape rate json) = AnswersLines json (lines.Shape rate)
 IsCarriedOut content contents advised (Step file form) = Steps (string_bytes file) form

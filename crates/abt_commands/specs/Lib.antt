@@ -1,6 +1,7 @@
 pub mod Advice
 pub mod Audits
 pub mod Besides
+pub mod AuditsLog
 pub mod Carried
 pub mod Check
 pub mod Checked

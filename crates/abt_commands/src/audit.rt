@@ -132,7 +132,7 @@ fn show_input<R: Read, W: Write, E: Write>(
 }
 
 // The files of these names, in their order, counted as they are read; or the first that can't be read.
-fn open_all<'a, 'b, T: Files + AllocGlobal, P: Write + Drop>(
+pub(crate) fn open_all<'a, 'b, T: Files + AllocGlobal, P: Write + Drop>(
     rt: &T,
     progress: &'a Progress<P>,
     names: &'b [String],

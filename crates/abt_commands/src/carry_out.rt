@@ -3,6 +3,7 @@ ghost use Rattle.abt_commands.specs.Carried.{IsCarriedOut};
 ghost use Rattle.abt_cli.specs.Commands.{IsAllowed};
 
 use crate::audit::audit;
+use crate::audit_log::audit_log;
 use crate::cell::cell;
 use crate::check::check;
 use crate::codes::say_codes;
@@ -75,6 +76,7 @@ where
         } => explain(rt, progress, &file, json, input, out, errors),
         Command::Check { file, json } => check(rt, progress, &file, json, input, out, errors),
         Command::Audit(command) => audit(rt, progress, &command, input, out, errors),
+        Command::AuditLog(command) => audit_log(rt, progress, &command, input, out, errors),
         Command::Police { tau, rate, json } => answer_lines(
             alloc,
             PartsPlan::Police { tau, rate },

@@ -3,6 +3,7 @@
 
 mod advice;
 mod audit;
+mod audit_log;
 mod audit_picture;
 mod carry_out;
 mod cell;

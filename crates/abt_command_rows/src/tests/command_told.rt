@@ -1,8 +1,9 @@
 //! Commands in words.
-use abt_cli::{AuditCommand, Command, DrawCommand, ThreadsCommand};
+use abt_cli::{AuditCommand, Command, DrawCommand, LogCommand, ThreadsCommand};
 use abt_codes::{Kind, MessageWords};
 use abt_draw::PicturePlan;
 use abt_play::PlayPlan;
+use abt_weave::Actor;
 use std::alloc::Global;
 use std::test::Fail;
 
@@ -47,6 +48,7 @@ pub(super) fn told(alloc: Global, command: &Command) -> Result<String, Fail> {
             flagged(alloc, &["check", named(file)], &[("json", *json)])
         }
         Command::Audit(command) => audit_told(alloc, command),
+        Command::AuditLog(command) => log_told(alloc, command),
         _ => other_told(alloc, command),
     }
 }
@@ -117,6 +119,16 @@ fn audit_told(alloc: Global, command: &AuditCommand) -> Result<String, Fail> {
         }
         None => format!(in alloc; "audit {files} {events}")?,
     };
+    flagged(alloc, &[text.as_str()], &[("quiet", command.quiet)])
+}
+
+fn log_told(alloc: Global, command: &LogCommand) -> Result<String, Fail> {
+    let files = listed(alloc, command.files.as_slice())?;
+    let (kind, number) = match command.actor {
+        Actor::Port(port) => ("port", port),
+        Actor::Source(source) => ("source", source),
+    };
+    let text = format!(in alloc; "audit {kind} {number} {files}")?;
     flagged(alloc, &[text.as_str()], &[("quiet", command.quiet)])
 }
 

@@ -7,7 +7,7 @@ use std::process::Abort;
 use std::test::Fail;
 
 // Words behind the program's name, and the command that they ask for, as `told` says it. A field that is empty is told as `-`.
-const ROWS: [(&str, &str); 39] = [
+const ROWS: [(&str, &str); 42] = [
     ("rate 53e8", "rate 53e8"),
     ("rate 53e8 --json", "rate 53e8 json"),
     ("rate --json 53e8", "rate 53e8 json"),
@@ -70,6 +70,15 @@ const ROWS: [(&str, &str); 39] = [
     (
         "audit a.jsonl --events e.toml --draw d.html --only 0,2 --from 3 --to 9",
         "audit a.jsonl e.toml page d.html 0,2 3 9",
+    ),
+    ("audit --port 0", "audit port 0 -"),
+    (
+        "audit a.jsonl b.jsonl --port 65535",
+        "audit port 65535 a.jsonl,b.jsonl",
+    ),
+    (
+        "audit --quiet a.jsonl --source 007",
+        "audit source 7 a.jsonl quiet",
     ),
 ];
 
@@ -163,7 +172,7 @@ const OTHER_ROWS: [(&str, &str); 34] = [
 ];
 
 // Words that are refused, beside those of a plan (`plans`).
-const REFUSED: [&str; 52] = [
+const REFUSED: [&str; 61] = [
     "none",
     "rate 53e8 --stdin",
     "cell 00 --stdin",
@@ -192,6 +201,15 @@ const REFUSED: [&str; 52] = [
     "audit --only 0",
     "audit --draw d.svg --from 0",
     "audit --draw d.svg --only 0,",
+    "audit --port 65536",
+    "audit --port x",
+    "audit --source 0x1",
+    "audit --port",
+    "audit --port 0 --port 1",
+    "audit --port 0 --source 0",
+    "audit --port 0 --events e.toml",
+    "audit --source 0 --draw d.svg",
+    "audit --source 0 --json",
     "police --tau 1000000000001 --rate 53e8",
     "police --tau 200",
     "shape --rate 53e",

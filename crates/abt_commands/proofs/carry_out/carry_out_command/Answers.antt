@@ -7,6 +7,9 @@ returns-in-Explain g c = rw c.in-Explain.is c.explain.ensures
 pub returns-in-Check : goal.returns-in-Check
 returns-in-Check g c = rw c.in-Check.is c.check.ensures
 
+pub returns-in-AuditLog : goal.returns-in-AuditLog
+returns-in-AuditLog g c = rw c.in-AuditLog.is c.audit_log.ensures
+
 pub returns-in-Police : goal.returns-in-Police
 returns-in-Police g c = rw c.in-Police.is c.answer_lines.ensures
 

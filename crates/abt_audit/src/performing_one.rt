@@ -1,0 +1,160 @@
+//! Texts of readers, of which the log of one port or one source is judged.
+ghost use Rattle.std.specs.Prelude.{◌≡◌, ◌⊎◌, length, map, IfErr, IfOk, string_bytes};
+ghost use Rattle.std.specs.Io.KnownBytes.{Keeps};
+ghost use Rattle.abt_audit.specs.OneLogShown.{EndsLogBy, IsLogNotShown, IsLogShown, IsMismatchAt, IsNotObeyed, IsObeyed, TellsLogFault};
+ghost use Rattle.abt_audit.specs.OneLogShown as spec;
+
+use crate::fault::AuditFault;
+use crate::gathering::read_all;
+use crate::naming::with_notes;
+use crate::one_log::{LogVerdict, entries_judged, judge_log};
+use crate::one_log_fault::LogFault;
+use crate::performing::{fault_of_text, octets_of, tell, tell_made};
+use crate::settling::settled_run;
+use crate::why::fault_text;
+use abt_derive::restart;
+use abt_journal_text::{Book, Run};
+use abt_text::put;
+use abt_weave::{Actor, WeaveFault};
+use std::alloc::{AllocError, Global};
+use std::io::{Read, Write};
+
+/// Judges the log of one port or one source alone, out of the texts that some readers have left, and gives the exit status: 0 if it obeys
+/// and its line went out to `writer`, and 1 if `errors` tells why not. What can't be written there changes no status. The names of the
+/// texts are for what is told.
+pub fn perform_log_audit<R: Read + Drop, W: Write, E: Write>(
+    alloc: Global,
+    names: &[String],
+    readers: Vec<R>,
+    actor: Actor,
+    writer: &mut W,
+    errors: &mut E,
+) -> u8
+    ensures status { (result ≡ 0) ⊎ (result ≡ 1) }
+    ensures ok { result ≡ 0 → IsLogShown (map R.remaining readers.items) actor
+        (W.contents writer.old) (W.contents writer.new) }
+    ensures quiet { result ≡ 0 → Keeps (E.contents errors.old) (E.contents errors.new) }
+    ensures err { result ≡ 1 → IsLogNotShown names.now (map R.remaining readers.items) actor
+        (W.contents writer.old) (W.contents writer.new) (E.contents errors.old) (E.contents errors.new) }
+{
+    match show_log(alloc, names, readers, actor, writer) {
+        Ok(()) => 0,
+        Err(fault) => {
+            tell_log(alloc, names, &fault, errors);
+            drop(fault);
+            1
+        }
+    }
+}
+
+// Judges the log, and writes that it obeys.
+fn show_log<R: Read + Drop, W: Write>(
+    alloc: Global,
+    names: &[String],
+    readers: Vec<R>,
+    actor: Actor,
+    writer: &mut W,
+) -> Result<(), LogFault>
+    ensures ok { IfOk result (λ _. IsLogShown (map R.remaining readers.items) actor
+        (W.contents writer.old) (W.contents writer.new)) }
+    ensures err { IfErr result (λ fault. EndsLogBy names.now (map R.remaining readers.items) actor fault
+        (W.contents writer.old) (W.contents writer.new)) }
+{
+    let book = match read_all(alloc, readers) {
+        Ok(book) => book,
+        Err(fault) => return Err(LogFault::Audit(fault_of_text(fault))),
+    };
+    let shown = match judge_log_in(alloc, names, book, actor) {
+        Ok(shown) => shown,
+        Err(fault) => return Err(fault),
+    };
+    match put(writer, shown.as_slice()) {
+        Ok(()) => Ok(()),
+        Err(_) => Err(LogFault::Audit(AuditFault::Write)),
+    }
+}
+
+// Judges a log of what was told, and gives what goes out of that.
+fn judge_log_in(
+    alloc: Global,
+    names: &[String],
+    book: Book,
+    actor: Actor,
+) -> Result<Vec<u8>, LogFault>
+    ensures ok { IfOk result (λ shown. IsObeyed book actor shown.items) }
+    ensures err { IfErr result (IsNotObeyed names.now book actor) }
+{
+    let Some(read) = book.into_run(alloc)? else {
+        return Err(LogFault::Audit(AuditFault::Nothing));
+    };
+    let count = entries_judged(&read, actor);
+    let restarted = restart(alloc, read)?;
+    let run = settled_run(alloc, restarted)?;
+    match judge_log(alloc, &run, actor)? {
+        LogVerdict::Absent => Err(LogFault::Absent(actor)),
+        LogVerdict::Obeys => Ok(obeyed(alloc, &run, actor, count)?),
+        LogVerdict::Differs(place) => Err(LogFault::Audit(differing(
+            alloc, names, run, actor, place,
+        ))),
+    }
+}
+
+// What goes out of a log that obeys.
+fn obeyed(alloc: Global, run: &Run, actor: Actor, count: u64) -> Result<Vec<u8>, AllocError>
+    ensures { IfOk result (λ shown. shown.items ≡ spec.obeyed_text actor count run.now.cuts.items) }
+{
+    let line = obeys_line(alloc, actor, count)?;
+    with_notes(alloc, line.as_bytes(), run.cuts.as_slice())
+}
+
+fn obeys_line(alloc: Global, actor: Actor, count: u64) -> Result<String, AllocError>
+    ensures { IfOk result (λ line. string_bytes line ≡ spec.obeys_line actor count) }
+{
+    match actor {
+        Actor::Port(port) => format!(in alloc; "port {port} obeys: entries {count}\n"),
+        Actor::Source(source) => format!(in alloc; "source {source} obeys: entries {count}\n"),
+    }
+}
+
+// The fault of a log whose entry of a place is the first that differs.
+fn differing(alloc: Global, names: &[String], run: Run, actor: Actor, place: u64) -> AuditFault
+    requires { length run.journals ≡ length run.net.capacities }
+    ensures { IsMismatchAt names.now actor place run result }
+{
+    let fault = WeaveFault::Mismatch { actor, place };
+    let Ok(lines) = fault_text(alloc, names, &run, &fault) else {
+        return AuditFault::Memory;
+    };
+    let Ok(lines) = with_notes(alloc, lines.as_slice(), run.cuts.as_slice()) else {
+        return AuditFault::Memory;
+    };
+    AuditFault::Stuck { fault, lines, run }
+}
+
+// Tells a fault as far as the writer takes it.
+fn tell_log<E: Write>(alloc: Global, names: &[String], fault: &LogFault, errors: &mut E)
+    ensures { TellsLogFault names.now fault.now (E.contents errors.old) (E.contents errors.new) }
+{
+    match fault {
+        LogFault::Audit(fault) => tell(alloc, names, fault, errors),
+        LogFault::Absent(actor) => tell_made(absent_text(alloc, *actor), errors),
+    }
+}
+
+fn absent_text(alloc: Global, actor: Actor) -> Result<Vec<u8>, AllocError>
+    ensures { IfOk result (λ text. text.items ≡ spec.absent_text actor) }
+{
+    let text = absent_words(alloc, actor)?;
+    octets_of(alloc, text.as_str(), b"")
+}
+
+fn absent_words(alloc: Global, actor: Actor) -> Result<String, AllocError>
+    ensures { IfOk result (λ text. string_bytes text ≡ spec.absent_text actor) }
+{
+    match actor {
+        Actor::Port(port) => format!(in alloc; "fault: port\n{port}: the net has no such port\n"),
+        Actor::Source(source) => {
+            format!(in alloc; "fault: connection\n{source}: the net has no such connection\n")
+        }
+    }
+}
