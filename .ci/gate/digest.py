@@ -1,7 +1,7 @@
 """What the evidence of a crate rests on, as one digest: which of its must-fail edits the prover refuses, and that its tests are proved.
 
-It takes in the kit, the rule (the scripts that try an edit and judge it, and this one), the crate's line of crates.txt, its own src/, specs/
-and proofs/, and of each crate below only what a check above can see: its definitions, its lemmas, and its code without the bodies of
+It takes in the kit's logic, the rule (the scripts that try an edit and judge it, and this one), the crate's line of crates.txt, its own src/,
+specs/ and proofs/, and of each crate below only what a check above can see: its definitions, its lemmas, and its code without the bodies of
 functions. The proof of a caller cites only a function's contract. A body counts where its function is `const`, which a caller's check may
 run, or in a cycle of calls. Comments and the layout of code count nowhere.
 """
@@ -15,18 +15,20 @@ import kit  # noqa: E402
 from crates import below, crates_of, of_tests  # noqa: E402
 from functions import functions_of, pieces  # noqa: E402
 
-# The scripts by which an edit is tried and judged.
+# The kit's one-line identity: its name and its logic.
 KIT_ID = Path(kit.rt().rtlib.KIT, "KIT-ID")
+# The scripts by which an edit is tried and judged.
 RULE = ("functions.py", "copies.py", "edit.py", "check.py", "trial.py", "digest.py")
 
 
 def bare(text):
     """Code as the compiler reads it: without comments, with one space for each gap between words. A string stays as it is."""
-    out = []
+    out, ends_in_gap = [], True
     for kind, piece in pieces(text):
         words = piece if kind == "string" else " " if kind == "comment" else re.sub(r"\s+", " ", piece)
-        is_gap_again = kind != "string" and out and out[-1].endswith(" ")
-        out.append(words.removeprefix(" ") if is_gap_again else words)
+        words = words.removeprefix(" ") if kind != "string" and ends_in_gap else words
+        ends_in_gap = kind != "string" and words.endswith(" ") if words else ends_in_gap
+        out.append(words)
     return "".join(out)
 
 
@@ -47,6 +49,15 @@ def without_bodies(text):
     return bare("\n".join(lines))
 
 
+def kit_name():
+    return KIT_ID.read_text().split()[0]
+
+
+def logic_of_kit():
+    """The logic by which the kit proves: all of its identity but its name."""
+    return KIT_ID.read_text().split()[1:]
+
+
 def sum_of(*parts):
     return hashlib.sha256(repr(parts).encode()).hexdigest()
 
@@ -59,7 +70,7 @@ class Digests:
         self.of_tests = of_tests(self.crates)
         self.seen_sums = {}
         scripts = [Path(__file__).with_name(name).read_bytes() for name in RULE]
-        self.rule = sum_of(KIT_ID.read_text(), scripts)
+        self.rule = sum_of(logic_of_kit(), scripts)
 
     def files(self, name, part):
         """The files of a part of a crate, by their names in the crate."""

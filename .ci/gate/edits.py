@@ -52,7 +52,7 @@ def try_crate(crate, words):
         if edit.fault:
             edit.verdict = f"BAD EDIT: {edit.fault}"
         elif (crate.name, edit.path.stem) in words.known:
-            edit.is_refused, edit.how, edit.verdict = True, "known", words.ledger.read(crate.name)[1][edit.path.stem][1]
+            edit.is_refused, edit.how, edit.verdict = True, "known", words.ledger.read(crate.name).refused[edit.path.stem][-1]
     left = [edit for edit in tried.edits if not edit.fault and edit.how != "known"]
     if left:
         tried.shared, tried.alone = try_edits(crate, left, words.alone)

@@ -9,6 +9,7 @@ from pathlib import Path
 
 HERE = Path(__file__).resolve().parent
 sys.path[:0] = [str(HERE), str(HERE.parents[1] / "tests")]
+from digest import kit_name  # noqa: E402
 from harness import claims, put, run  # noqa: E402
 from ledger import sum_of_edit  # noqa: E402
 
@@ -48,7 +49,7 @@ def judged(root):
         if it["name"] not in (false, *REFUSED):
             (folder / f"{it['name']}.edit").unlink()
     with open(file, "a") as evidence:
-        evidence.write(f"refused\t{false}\t{sum_of_edit(folder / f'{false}.edit')}\tby hand\n")
+        evidence.write(f"refused\t{false}\t{sum_of_edit(folder / f'{false}.edit')}\t{kit_name()}\tby hand\n")
     told, status = edits(root, "--new")
     are_known = f"{len(REFUSED) + 1} passed, 0 failed" in told and "edits: 0 tried" in told
     yield f"all edits are known, but: {told[-400:]}", not status and are_known

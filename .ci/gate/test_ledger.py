@@ -68,9 +68,11 @@ def rule(folder):
             Path(folder, name).write_text(text + "\n# More.\n")
             yield f"with another {name} each digest differs", not any(before[it_] == now for it_, now in it.digests().items())
             Path(folder, name).write_text(text)
-        Path(folder, "KIT-ID").write_text(kit_id.read_text() + "another\n")
         own, digest.KIT_ID = digest.KIT_ID, Path(folder, "KIT-ID")
-        yield "with another kit each digest differs", not any(before[it_] == now for it_, now in it.digests().items())
+        digest.KIT_ID.write_text(kit_id.read_text() + "another\n")
+        yield "with another logic each digest differs", not any(before[it_] == now for it_, now in it.digests().items())
+        digest.KIT_ID.write_text("another-" + kit_id.read_text())
+        yield "with another kit of the same logic no digest differs", it.digests() == before
         digest.__file__, digest.KIT_ID = was, own
 
 
@@ -129,6 +131,10 @@ def draws(folder):
     yield "all are drawn where more are asked for", len(ledger.drawn(1000, "seed")) == sum(sizes.values())
     it.edit("edit_1", text="file: src/lib.rt\nold: a\nnew: other\n")
     yield "what isn't known isn't drawn", ("low", "edit_1") not in Ledger(it.root).drawn(1000, "seed")
+    rows = it.root / ".ci/evidence/beside"
+    rows.write_text(rows.read_text().replace(f"\t{digest.kit_name()}\t", "\tanother-kit\t", 1))
+    yield "what another kit saw is known", len([one for one in Ledger(it.root).known() if one[0] == "beside"]) == sizes["beside"]
+    yield "what another kit saw is drawn first", all("beside" in {name for name, _ in Ledger(it.root).drawn(1, f"seed {k}")} for k in range(20))
     yield "a crate of tests is drawn", Ledger(it.root).drawn_tests("seed") == ["rows"]
 
 

@@ -129,11 +129,19 @@ def rounds_of(edits):
     return [[own[k] for own in by_function.values() if k < len(own)] for k in range(most)]
 
 
+def link(file, to):
+    """Gives a file another name, or copies it to another disk."""
+    try:
+        os.link(file, to)
+    except OSError:
+        shutil.copy2(file, to)
+
+
 def copied(kept, room):
     """A copy of what earlier checks proved, for one more check: by links, since a check replaces such a file and changes none."""
     over = os.path.join(tempfile.mkdtemp(dir=room), "kept")
     if kept:
-        rt.linked(kept, over)
+        shutil.copytree(kept, over, copy_function=link)
     else:
         os.mkdir(over)
     return over
