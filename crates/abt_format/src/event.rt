@@ -48,19 +48,20 @@ pub enum Verb {
 fn verb_of(word: &str) -> Option<Verb>
     ensures { result ≡ verb_of word.now }
 {
+    // The words that come most often are looked at first.
     match word {
-        "start" => Some(Verb::Start),
-        "ask" => Some(Verb::Ask),
-        "again" => Some(Verb::Again),
-        "crash" => Some(Verb::Crash),
-        "emit" => Some(Verb::Emit),
-        "arrive" => Some(Verb::Arrive),
         "request" => Some(Verb::Request),
-        "turn" => Some(Verb::Turn),
         "yes" => Some(Verb::Yes),
-        "no" => Some(Verb::No),
+        "arrive" => Some(Verb::Arrive),
+        "emit" => Some(Verb::Emit),
+        "turn" => Some(Verb::Turn),
         "told-yes" => Some(Verb::ToldYes),
+        "ask" => Some(Verb::Ask),
         "told-no" => Some(Verb::ToldNo),
+        "no" => Some(Verb::No),
+        "again" => Some(Verb::Again),
+        "start" => Some(Verb::Start),
+        "crash" => Some(Verb::Crash),
         "capacity" => Some(Verb::Capacity),
         _ => None,
     }

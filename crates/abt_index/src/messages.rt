@@ -71,11 +71,23 @@ impl Messages {
         ensures looks { looks.new ≤ looks.old + 1 }
         ensures counted { looks.new ≡ min (looks.old + 1) u64.MAX }
     {
-        match self.entries.entry(looks.counting(seq)) {
-            Ok(entry) => {
-                let message = entry.or_insert(Message::blank());
+        let key = looks.counting(seq);
+        // Most often it is the number that came last.
+        let last = self.entries.len().saturating_sub(1);
+        if let Some((number, message)) = self.entries.get_index(last) {
+            if *number == key {
                 let mark = message.mark;
-                message.note(fact);
+                if let Some(newest) = self.entries.get_index_mut(last) {
+                    newest.note(fact);
+                    return mark;
+                }
+            }
+        }
+        match self.entries.entry(key) {
+            Ok(entry) => {
+                let known = entry.or_insert(Message::blank());
+                let mark = known.mark;
+                known.note(fact);
                 mark
             }
             Err(_) => unreachable!(),

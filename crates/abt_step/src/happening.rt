@@ -34,7 +34,10 @@ pub(crate) fn happen_in_words(
     let _ = Onward::Pass;
     let outcome = work.step(event)?;
     push_outcome_line(text, number, &outcome)?;
-    push_shown_lines(alloc, work, form, text)
+    if form.state || form.possible {
+        return push_shown_lines(alloc, work, form, text);
+    }
+    Ok(())
 }
 
 // The same with its answer as an object.

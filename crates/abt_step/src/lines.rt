@@ -29,9 +29,9 @@ pub(crate) fn push_outcome_line(
         (string_bytes text.new ≡ string_bytes text.old ⋅ outcome_line number outcome.now) }
 {
     push_number(text, number)?;
-    text.push_str(" ")?;
+    text.push(' ')?;
     push_outcome(text, outcome)?;
-    text.push_str("\n")
+    text.push('\n')
 }
 
 // Adds the lines that a form shows behind an answer.

@@ -17,11 +17,11 @@ impl HexCode {
     pub fn push_to(self, text: &mut String) -> Result<(), AllocError>
         ensures { OnOk result (string_bytes text.new ≡ string_bytes text.old ++ code_text self.0) }
     {
-        let [first, second, third, fourth] = self.digits();
-        text.push(char::from(first))?;
-        text.push(char::from(second))?;
-        text.push(char::from(third))?;
-        text.push(char::from(fourth))
+        let digits = self.digits();
+        match std::str::from_utf8(&digits) {
+            Ok(digits) => text.push_str(digits),
+            Err(_) => unreachable!(),
+        }
     }
 
     // The four digits as octets, the most significant first.
