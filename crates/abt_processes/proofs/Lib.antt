@@ -1,0 +1,15 @@
+pub mod Members
+pub mod Lasting
+pub mod Lines
+pub mod Quiet
+pub mod Invariant
+pub mod Ports
+pub mod Visits
+pub mod Coming
+pub mod Own
+pub mod Telling
+pub mod Leaving
+pub mod Doing
+pub mod Dying
+pub mod Beginning
+pub mod Running

@@ -1,0 +1,10 @@
+pub mod Lists
+pub mod Processes
+pub mod Journals
+pub mod Actors
+pub mod Ports
+pub mod Sources
+pub mod Moves
+pub mod Runs
+pub mod Events
+pub mod Safe
