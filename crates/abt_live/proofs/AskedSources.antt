@@ -17,6 +17,7 @@ use Rattle.abt_facts.specs.declared.fact.Fact.{Fact}
 use Rattle.abt_facts.specs.declared.fact.Fact.TheVariants.{Asked as FactAsked, Stored}
 use Rattle.abt_facts.specs.Source.{SourceState, Down, Idle, Asking, state_of, last_of, clock_of, stored_of, writes, written_for}
 use Rattle.abt_facts.specs.Cells.{emitted_of}
+use Rattle.abt_model.specs.declared.command.SourceCommand.{SourceCommand}
 use Rattle.abt_model.specs.declared.command.SourceCommand.TheVariants.{Ask}
 use Rattle.abt_model.specs.declared.outcome.Outcome.{Outcome}
 use Rattle.abt_model.specs.declared.outcome.Outcome.TheVariants.{Asked, AskRefused}
@@ -25,7 +26,11 @@ use Rattle.abt_model.specs.Outcomes.{write_adds}
 use Rattle.abt_actor.specs.Commands.{command_answer}
 use Rattle.abt_actor.specs.Actor.{ActorView, actor_of}
 use Rattle.abt_live.specs.Asking.{Goes, Stays}
-use Rattle.abt_live.specs.Source.{AsksBy}
+use Rattle.abt_live.specs.Source.{AsksBy, GoesOn}
+
+-- a source that is up isn't down
+never_down : (actor : ActorView) (command : SourceCommand) (outcome : Outcome) (after : ActorView) → actor.state ≢ Down → GoesOn actor command outcome after
+never_down actor command outcome after up = record { answer = λ down. absurd (up down); becomes = λ down. absurd (up down) }
 
 -- a source that is up answers
 up_answers : (state : SourceState) (outcome : Outcome) → state ≢ Down → if_up state outcome ≡ outcome
@@ -131,6 +136,7 @@ pub asks_out :
 asks_out actor s held rate source request new up has holds goes stands = record {
   plan = Works;
   works = λ _. refl;
+  down = never_down actor _ _ _ up;
   carries = λ vc facts is. (
     request_answered vc facts actor s held rate source request new is up has goes,
     request_after vc facts actor s held rate source request new is has holds goes (stands vc facts is),
@@ -161,6 +167,7 @@ pub asks_in_vain :
 asks_in_vain actor s rate new SeqExhausted up has (none, same) = record {
   plan = Works;
   works = λ _. refl;
+  down = never_down actor _ _ _ up;
   carries = λ vc facts is. (
     let view : s ≡ view_of vc facts = has ∙ ap (λ a. a.source) is in
         let last : last_of facts ≡ number_max = subst (λ (v : SourceView). v.last ≡ number_max) view none in
@@ -171,6 +178,7 @@ asks_in_vain actor s rate new SeqExhausted up has (none, same) = record {
 asks_in_vain actor s rate new Keep up has (some, does, inl same) = record {
   plan = FailsBefore;
   works = λ no. absurd (no refl);
+  down = never_down actor _ _ _ up;
   carries = λ vc facts is. (
     let view : s ≡ view_of vc facts = has ∙ ap (λ a. a.source) is in
         let left : last_of facts ≢ number_max = subst (λ (v : SourceView). v.last ≢ number_max) view some in
@@ -182,6 +190,7 @@ asks_in_vain actor s rate new Keep up has (some, does, inl same) = record {
 asks_in_vain actor s rate new Keep up has (some, does, inr written) = record {
   plan = FailsAfter;
   works = λ no. absurd (no refl);
+  down = never_down actor _ _ _ up;
   carries = λ vc facts is. (
     let view : s ≡ view_of vc facts = has ∙ ap (λ a. a.source) is in
         let left : last_of facts ≢ number_max = subst (λ (v : SourceView). v.last ≢ number_max) view some in

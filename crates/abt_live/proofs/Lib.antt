@@ -6,4 +6,5 @@ pub mod Fronts
 pub mod SwitchSteps
 pub mod SourceDeeds
 pub mod ServedWithin
+pub mod RecordsWithin
 pub mod NotedLines

@@ -5,6 +5,8 @@ pub mod Said
 pub mod SwitchAsked
 pub mod Journal
 pub mod Switch
+pub mod Marks
+pub mod SwitchRecords
 pub mod Running
 pub mod Asking
 pub mod Source
@@ -14,3 +16,4 @@ pub mod Past
 pub mod History
 pub mod SourceSaid
 pub mod SourceSteps
+pub mod SourceRecords

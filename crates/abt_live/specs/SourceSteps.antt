@@ -3,6 +3,7 @@ use Rattle.std.specs.Prelude.{◌≡◌, ◌≢◌, ◌⊎◌, ℕ, [], Option}
 use Rattle.std.specs.Io.KnownBytes.{Appends}
 use Rattle.abt_text.specs.Text.{Text, ◌⋅◌}
 use Rattle.abt_cell.specs.Channel.{Channel}
+use Rattle.abt_model.specs.declared.command.SourceCommand.{SourceCommand}
 use Rattle.abt_model.specs.declared.command.SourceCommand.TheVariants as command
 use Rattle.abt_model.specs.declared.outcome.Outcome.{Outcome}
 use Rattle.abt_actor.specs.Actor.{ActorView, CarriesOut}
@@ -14,18 +15,22 @@ use Rattle.abt_live.specs.declared.source_asked.SourceAsked.{SourceAsked}
 use Rattle.abt_live.specs.declared.source_asked.SourceAsked.TheVariants.{Start, Ask, Again, Emit, Told, Wrong}
 use Rattle.abt_live.specs.declared.source_lines.SourceLines.{SourceLines}
 use Rattle.abt_live.specs.Faults.{fault_line}
-use Rattle.abt_live.specs.Source.{AsksBy}
+use Rattle.abt_live.specs.Source.{AsksBy, GoesOn}
 use Rattle.abt_live.specs.SourceAsked.{asked_on}
 use Rattle.abt_live.specs.SourceJournal.{before_line, done_line}
 use Rattle.abt_live.specs.SourceSaid.{outcome_said}
 
+-- A source carried a command out: by the facts of its connection, and if it is down by what outlives a process.
+abbrev pub CarriesOn : ActorView → SourceCommand → Outcome → ActorView → Type 0
+CarriesOn old command outcome new = CarriesOut old command outcome new × GoesOn old command outcome new
+
 -- What was asked for was carried out, as the event of that name is, with this outcome. An answer is to the source's own connection.
 abbrev pub Carries : Channel → SourceAsked → ActorView → Outcome → ActorView → Type 0
-Carries vc (Start now) old outcome new = CarriesOut old (command.Start now) outcome new
+Carries vc (Start now) old outcome new = CarriesOn old (command.Start now) outcome new
 Carries vc (Ask rate) old outcome new = AsksBy old rate outcome new
-Carries vc Again old outcome new = CarriesOut old command.Again outcome new
-Carries vc (Emit now) old outcome new = CarriesOut old (command.Emit now) outcome new
-Carries vc (Told answer) old outcome new = (answer.terms.vc ≡ vc) × CarriesOut old (command.Told answer) outcome new
+Carries vc Again old outcome new = CarriesOn old command.Again outcome new
+Carries vc (Emit now) old outcome new = CarriesOn old (command.Emit now) outcome new
+Carries vc (Told answer) old outcome new = (answer.terms.vc ≡ vc) × CarriesOn old (command.Told answer) outcome new
 Carries vc (Wrong fault) old outcome new = ⊥
 
 -- Why nothing was carried out: the line has a fault, the answer is another connection's, or the store gave no record at a start.

@@ -19,7 +19,9 @@ pub enum LiveFault {
     Words,
     /// The cell that the line spells is no request and no answer.
     Cell(Fault),
-    /// The switch has no port of this number.
+    /// The input ends within the cell.
+    Cut,
+    /// The switch has no port of this number, or the cell isn't for a source.
     Port,
     /// No connection of this channel goes through the port, or the source is that of another.
     UnknownVc,
@@ -39,6 +41,7 @@ impl LiveFault {
             LiveFault::NotUtf8 => text.push_str("fault NotUtf8\n"),
             LiveFault::Words => text.push_str("fault words\n"),
             LiveFault::Cell(fault) => write!(text, "fault {fault}\n"),
+            LiveFault::Cut => text.push_str("fault cut\n"),
             LiveFault::Port => text.push_str("fault port\n"),
             LiveFault::UnknownVc => text.push_str("fault UnknownVc\n"),
             LiveFault::Request => text.push_str("fault request\n"),

@@ -6,7 +6,7 @@ ghost use Rattle.abt_source.specs.Calls.{new_source};
 ghost use Rattle.abt_model.specs.declared.command.SourceCommand.{SourceCommand};
 ghost use Rattle.abt_model.specs.declared.outcome.Outcome.{Outcome};
 ghost use Rattle.abt_actor.specs.Actor.{ActorView, CarriesOut};
-ghost use Rattle.abt_live.specs.Source.{AsksBy, new_actor};
+ghost use Rattle.abt_live.specs.Source.{AsksBy, GoesOn, new_actor};
 ghost use Rattle.abt_live.specs.SourceJournal.{writes_in};
 
 use crate::running::Running;
@@ -76,6 +76,7 @@ impl<K: SeqStore> LiveSource<K> {
     pub fn start(&mut self, now: u64) -> Option<Outcome>
         ensures some { IfSome result
             (λ outcome. CarriesOut self.old (SourceCommand.Start now) outcome self.new) }
+        ensures down { IfSome result (λ outcome. GoesOn self.old (SourceCommand.Start now) outcome self.new) }
         ensures none { IfNone result (self.new ≡ self.old) }
     {
         if !self.running.is_down() {
@@ -127,7 +128,8 @@ impl<K: SeqStore> LiveSource<K> {
 
     /// Repeats its open request, as the event of that name does.
     pub fn again(&self) -> Outcome
-        ensures { CarriesOut self.now SourceCommand.Again result self.now }
+        ensures value { CarriesOut self.now SourceCommand.Again result self.now }
+        ensures down { GoesOn self.now SourceCommand.Again result self.now }
     {
         match &self.running {
             Running::Down(_) => Outcome::NotEnabled(Cause::Down),
@@ -138,7 +140,8 @@ impl<K: SeqStore> LiveSource<K> {
 
     /// Emits a cell, as the event of that name does.
     pub fn emit(&mut self, at: u64) -> Outcome
-        ensures { CarriesOut self.old (SourceCommand.Emit at) result self.new }
+        ensures value { CarriesOut self.old (SourceCommand.Emit at) result self.new }
+        ensures down { GoesOn self.old (SourceCommand.Emit at) result self.new }
     {
         if self.running.is_down() {
             return Outcome::NotEnabled(Cause::Down);
@@ -161,7 +164,8 @@ impl<K: SeqStore> LiveSource<K> {
 
     /// Takes an answer, as the event of that name does.
     pub fn told(&mut self, answer: &Answer) -> Outcome
-        ensures { CarriesOut self.old (SourceCommand.Told answer.now) result self.new }
+        ensures value { CarriesOut self.old (SourceCommand.Told answer.now) result self.new }
+        ensures down { GoesOn self.old (SourceCommand.Told answer.now) result self.new }
     {
         if !self.running.is_asking() {
             return Outcome::Told(Heard::Ignored);

@@ -3,7 +3,9 @@ ghost use Rattle.std.specs.Prelude.{◌≡◌, OnOk, codes, string_bytes};
 ghost use Rattle.abt_text.specs.Text.{Text, ◌⋅◌, decimal, newline};
 ghost use Rattle.abt_perform.specs.CellText.{message_hex};
 ghost use Rattle.abt_live.specs.Said.{IsNext, IsSaid, next_text, judged_text, capped_text};
+ghost use Rattle.abt_live.specs.SwitchRecords.{answer_text};
 
+use crate::switch_answer::SwitchAnswer;
 use abt_cell::Rm;
 use abt_gcra::Verdict;
 use abt_journal::{Next, PortInput, PortReply, follow};
@@ -12,46 +14,31 @@ use abt_perform::message_hex;
 use itoa::Buffer;
 use std::alloc::{AllocError, Global};
 
-// Adds what is said once a port replied to an input.
-pub(crate) fn push_said(
-    alloc: Global,
-    text: &mut String,
-    net: &Net,
-    port: u16,
-    input: &PortInput,
-    reply: &PortReply,
-) -> Result<(), AllocError>
-    ensures { OnOk result ((said : Text) × (string_bytes text.new ≡ string_bytes text.old ⋅ said)
-        × IsSaid net.now port input.now reply.now said) }
+// What is answered once a port replied to an input.
+pub(crate) fn answer_of(net: &Net, port: u16, input: &PortInput, reply: &PortReply) -> SwitchAnswer
+    ensures { IsSaid net.now port input.now reply.now (answer_text result) }
 {
     match input {
-        PortInput::Request(request) => {
-            push_next(alloc, text, net, port, &Rm::Request(*request), reply)
-        }
-        PortInput::Answer(answer) => push_next(alloc, text, net, port, &Rm::Answer(*answer), reply),
-        PortInput::Arrive { vc: _, at: _ } => text.push_str(judged_text(reply)),
-        PortInput::Capacity(_) => text.push_str(capped_text(reply)),
+        PortInput::Request(request) => next_of(net, port, &Rm::Request(*request), reply),
+        PortInput::Answer(answer) => next_of(net, port, &Rm::Answer(*answer), reply),
+        PortInput::Arrive { vc: _, at: _ } => judged(reply),
+        PortInput::Capacity(_) => capped(reply),
     }
 }
 
-// Adds what becomes of a message once a port replied to it.
-fn push_next(
-    alloc: Global,
-    text: &mut String,
-    net: &Net,
-    port: u16,
-    rm: &Rm,
-    reply: &PortReply,
-) -> Result<(), AllocError>
-    ensures { OnOk result ((said : Text) × (string_bytes text.new ≡ string_bytes text.old ⋅ said)
-        × IsNext net.now port rm.now reply.now said) }
+// What becomes of a message once a port replied to it.
+fn next_of(net: &Net, port: u16, rm: &Rm, reply: &PortReply) -> SwitchAnswer
+    ensures { IsNext net.now port rm.now reply.now (answer_text result) }
 {
-    let next = follow(net, port, rm, reply);
-    push_next_text(alloc, text, &next)
+    SwitchAnswer::Goes(follow(net, port, rm, reply))
 }
 
 // Adds where a message goes.
-fn push_next_text(alloc: Global, text: &mut String, next: &Next) -> Result<(), AllocError>
+pub(crate) fn push_next_text(
+    alloc: Global,
+    text: &mut String,
+    next: &Next,
+) -> Result<(), AllocError>
     ensures { OnOk result (string_bytes text.new ≡ string_bytes text.old ⋅ next_text next.now) }
 {
     match next {
@@ -84,21 +71,21 @@ fn push_message(
 }
 
 // The answer to a data cell.
-fn judged_text(reply: &PortReply) -> &'static str
-    ensures { result.now ≡ judged_text reply.now }
+fn judged(reply: &PortReply) -> SwitchAnswer
+    ensures { answer_text result ≡ judged_text reply.now }
 {
     match reply {
-        PortReply::Arrived(Ok(Verdict::Conforming)) => "conforming\n",
-        _ => "rejected\n",
+        PortReply::Arrived(Ok(Verdict::Conforming)) => SwitchAnswer::Conforming,
+        _ => SwitchAnswer::Rejected,
     }
 }
 
 // The answer to a new capacity.
-fn capped_text(reply: &PortReply) -> &'static str
-    ensures { result.now ≡ capped_text reply.now }
+fn capped(reply: &PortReply) -> SwitchAnswer
+    ensures { answer_text result ≡ capped_text reply.now }
 {
     match reply {
-        PortReply::Capped(Ok(())) => "nothing\n",
-        _ => "rejected\n",
+        PortReply::Capped(Ok(())) => SwitchAnswer::Goes(Next::Nothing),
+        _ => SwitchAnswer::Rejected,
     }
 }

@@ -108,7 +108,7 @@ fn answer_asked(alloc: Global, hex: &str) -> Result<SourceAsked, AllocError>
 }
 
 // A message, as it comes to a source.
-fn heard_in(rm: &Rm) -> SourceAsked
+pub(crate) fn heard_in(rm: &Rm) -> SourceAsked
     ensures { result ≡ heard_in rm.now }
 {
     match rm {

@@ -1,5 +1,5 @@
 //! A source, line by line.
-ghost use Rattle.std.specs.Prelude.{◌≡◌, ◌*◌, ◌≤◌, ◌⊎◌, [], IfSome, IfNone, OnOk, OnErr, string_bytes};
+ghost use Rattle.std.specs.Prelude.{◌≡◌, ◌*◌, ◌≤◌, ◌⊎◌, [], IfOk, IfSome, IfNone, OnOk, OnErr, string_bytes};
 ghost use Rattle.std.specs.Io.KnownBytes.{Appends};
 ghost use Rattle.std.specs.Option.{option_map};
 ghost use Rattle.abt_lines.specs.Served.{AppendsFront};
@@ -8,15 +8,16 @@ ghost use Rattle.abt_rate.specs.Limits.{spacing_min};
 ghost use Rattle.abt_live.specs.Source.{new_actor};
 ghost use Rattle.abt_live.specs.SourceAsked.{asked_on};
 ghost use Rattle.abt_live.specs.SourceJournal.{before_line, done_line, writes_in};
+ghost use Rattle.abt_live.specs.SourceRecords.{answer_text};
 ghost use Rattle.abt_live.specs.SourceSteps.{CanCarry, Carries, Does, IsSameBut, Refuses, StopsBefore, StopsBehind};
 ghost use Rattle.abt_live.specs.declared.fault.LiveFault.TheVariants.{Store};
 
 use crate::fault::{LiveFault, StopFault};
 use crate::live_source::LiveSource;
 use crate::serving::JournalServer;
+use crate::source_answer::SourceAnswer;
 use crate::source_asked::{SourceAsked, asked_on};
 use crate::source_journal::{about_line, done_line};
-use crate::source_said::push_outcome;
 use abt_cell::Vc;
 use abt_keep::SeqStore;
 use abt_model::Outcome;
@@ -71,31 +72,34 @@ impl<K: SeqStore, J: Write> SourceLines<K, J> {
             StopsBefore J.contents self.old asked self.new ⊎ StopsBehind J.contents self.old asked self.new) }
     {
         let asked = asked_on(alloc, line)?;
-        self.carry_out(alloc, &asked, text)
+        let answer = self.act(alloc, &asked)?;
+        Ok(answer.push_to(alloc, text)?)
     }
 
-    // Does what is asked for.
-    fn carry_out(
+    // Does what is asked for, and gives the answer.
+    pub(crate) fn act(
         &mut self,
         alloc: Global,
         asked: &SourceAsked,
-        text: &mut String,
-    ) -> Result<(), StopFault>
-        requires { string_bytes text.old ≡ [] }
-        ensures ok { OnOk result (Does J.contents self.old asked.now (string_bytes text.new) self.new) }
+    ) -> Result<SourceAnswer, StopFault>
+        ensures ok { IfOk result
+            (λ answer. Does J.contents self.old asked.now (answer_text answer) self.new) }
         ensures err { OnErr result
             (StopsBefore J.contents self.old asked.now self.new
             ⊎ StopsBehind J.contents self.old asked.now self.new) }
     {
         if let Some(fault) = self.refusal(asked) {
-            return Ok(fault.push_to(text)?);
+            return Ok(SourceAnswer::Faulty(fault));
         }
         self.announce(alloc, asked)?;
         let Some(outcome) = happen(&mut self.source, asked) else {
-            return Ok(LiveFault::Store.push_to(text)?);
+            return Ok(SourceAnswer::Faulty(LiveFault::Store));
         };
         log_done(alloc, &mut self.journal, self.conn, asked, &outcome)?;
-        Ok(push_outcome(alloc, text, self.source.clock(), &outcome)?)
+        Ok(SourceAnswer::Did {
+            clock: self.source.clock(),
+            outcome,
+        })
     }
 
     // Why what is asked for can't be done whatever the source is, if so.
@@ -131,6 +135,7 @@ impl<K: SeqStore, J: Write> SourceLines<K, J> {
 }
 
 impl<K: SeqStore, J: Write> JournalServer for SourceLines<K, J> {
+    ghost use Rattle.abt_live.specs.SourceRecords.{answer_text};
     ghost use Rattle.abt_live.specs.SourceSteps.{SourcesLine};
 
     ghost steps = { SourcesLine J.contents };

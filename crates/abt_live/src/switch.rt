@@ -7,12 +7,16 @@ ghost use Rattle.abt_live.specs.Journal.{JournalBegan};
 ghost use Rattle.abt_live.specs.Ports.{opening_of, switch_line};
 ghost use Rattle.abt_live.specs.Switch.{Does, place_of};
 ghost use Rattle.abt_live.specs.SwitchAsked.{asked_on};
+ghost use Rattle.abt_live.specs.SwitchRecords.{DoesRecord, answer_text, record_asked};
 
 use crate::fault::{LiveFault, StopFault};
 use crate::live_port::LivePort;
-use crate::said::push_said;
+use crate::record_serving::JournalRecords;
+use crate::said::answer_of;
 use crate::serving::JournalServer;
+use crate::switch_answer::SwitchAnswer;
 use crate::switch_asked::{SwitchAsked, asked_on};
+use crate::switch_records::record_asked;
 use crate::writing::switch_line;
 use abt_journal::{Entry, PortInput};
 use abt_net::Net;
@@ -51,11 +55,11 @@ impl<'net, J: Write + Drop> SwitchLines<'net, J> {
         })
     }
 
-    #[tactic(auto, using(crate::proofs::Fronts::silent))]
     /// Does what a line asks for, and puts the answer into an empty text. The journal has what happened before that.
     ///
     /// # Errors
     /// A switch that stopped by one is of no use any more: it may have done a step that nobody is told of.
+    #[tactic(auto, using(crate::proofs::Fronts::silent))]
     pub fn take(
         &mut self,
         alloc: Global,
@@ -69,9 +73,45 @@ impl<'net, J: Write + Drop> SwitchLines<'net, J> {
             (asked_on (option_map (λ line. line.now) line.entry))
             (J.contents self.old.journal) (J.contents self.new.journal)) }
     {
-        match asked_on(alloc, line)? {
-            SwitchAsked::Step { port, input, cell } => self.step(alloc, port, input, cell, text),
-            SwitchAsked::Wrong(fault) => Ok(fault.push_to(text)?),
+        let asked = asked_on(alloc, line)?;
+        let answer = self.act(alloc, &asked)?;
+        Ok(answer.push_to(alloc, text)?)
+    }
+
+    /// Does what a line or a cell asks for, as `take` does for a line, and puts the answer where no octets are, a message that is sent as a
+    /// cell (docs/LIVE.md, "Cells as octets").
+    ///
+    /// # Errors
+    /// As for `take`.
+    #[tactic(auto, using(crate::proofs::Fronts::silent))]
+    pub fn take_record(
+        &mut self,
+        alloc: Global,
+        seen: Option<&[u8]>,
+        said: &mut Vec<u8>,
+    ) -> Result<(), StopFault>
+        requires { said.old.items ≡ [] }
+        ensures ok { OnOk result (DoesRecord J.contents self.old
+            (record_asked (option_map (λ octets. octets.now) seen.entry)) said.new.items self.new) }
+        ensures err { OnErr result (JournalBegan self.old.ports.items
+            (record_asked (option_map (λ octets. octets.now) seen.entry))
+            (J.contents self.old.journal) (J.contents self.new.journal)) }
+    {
+        let asked = record_asked(alloc, seen)?;
+        let answer = self.act(alloc, &asked)?;
+        Ok(answer.add_to(alloc, said)?)
+    }
+
+    // Does what is asked for, and gives the answer.
+    fn act(&mut self, alloc: Global, asked: &SwitchAsked) -> Result<SwitchAnswer, StopFault>
+        ensures ok { IfOk result
+            (λ answer. Does J.contents self.old asked.now (answer_text answer) self.new) }
+        ensures err { OnErr result (JournalBegan self.old.ports.items asked.now
+            (J.contents self.old.journal) (J.contents self.new.journal)) }
+    {
+        match *asked {
+            SwitchAsked::Step { port, input, cell } => self.step(alloc, port, input, cell),
+            SwitchAsked::Wrong(fault) => Ok(SwitchAnswer::Faulty(fault)),
         }
     }
 
@@ -82,26 +122,24 @@ impl<'net, J: Write + Drop> SwitchLines<'net, J> {
         id: u16,
         input: PortInput,
         cell: Option<u64>,
-        text: &mut String,
-    ) -> Result<(), StopFault>
-        requires { string_bytes text.old ≡ [] }
-        ensures ok { OnOk result
-            (Does J.contents self.old (SwitchAsked.Step id input cell) (string_bytes text.new) self.new) }
+    ) -> Result<SwitchAnswer, StopFault>
+        ensures ok { IfOk result (λ answer. Does J.contents self.old (SwitchAsked.Step id input cell)
+            (answer_text answer) self.new) }
         ensures err { OnErr result (JournalBegan self.old.ports.items (SwitchAsked.Step id input cell)
             (J.contents self.old.journal) (J.contents self.new.journal)) }
     {
         let Some(place) = place_of(self.ports.as_slice(), id) else {
-            return Ok(LiveFault::Port.push_to(text)?);
+            return Ok(SwitchAnswer::Faulty(LiveFault::Port));
         };
         if !self.ports[place].knows(&input) {
-            return Ok(LiveFault::UnknownVc.push_to(text)?);
+            return Ok(SwitchAnswer::Faulty(LiveFault::UnknownVc));
         }
         // So many steps are never done.
         let Some(entry) = self.ports[place].step(input) else {
             return Err(StopFault::Memory);
         };
         log_step(alloc, &mut self.journal, id, &entry, cell)?;
-        Ok(push_said(alloc, text, self.net, id, &input, &entry.reply)?)
+        Ok(answer_of(self.net, id, &input, &entry.reply))
     }
 }
 
@@ -118,6 +156,21 @@ impl<'net, J: Write + Drop> JournalServer for SwitchLines<'net, J> {
         text: &mut String,
     ) -> Result<(), StopFault> {
         self.take(alloc, line, text)
+    }
+}
+
+impl<'net, J: Write + Drop> JournalRecords for SwitchLines<'net, J> {
+    ghost use Rattle.abt_live.specs.SwitchRecords.{SwitchesRecord};
+
+    ghost steps = { SwitchesRecord J.contents };
+
+    fn answer(
+        &mut self,
+        alloc: Global,
+        seen: Option<&[u8]>,
+        said: &mut Vec<u8>,
+    ) -> Result<(), StopFault> {
+        self.take_record(alloc, seen, said)
     }
 }
 

@@ -125,7 +125,7 @@ fn message_asked(alloc: Global, port: &str, hex: &str) -> Result<SwitchAsked, Al
 }
 
 // A message, as it comes to a port.
-fn input_of(rm: &Rm) -> PortInput
+pub(crate) fn input_of(rm: &Rm) -> PortInput
     ensures { result ≡ input_of rm.now }
 {
     match rm {

@@ -1,22 +1,27 @@
 -- What goes out when a switch or a source of a scenario's net answers lines (docs/LIVE.md).
-use Rattle.std.specs.Prelude.{◌≡◌, ◌<◌, ◌⊎◌, ℕ, List, [], All, Contains, map, length, Option, None, Some, Ok, IfSome, string_bytes}
+use Rattle.std.specs.Prelude.{◌≡◌, ◌<◌, ◌⊎◌, ℕ, Bool, true, false, List, [], ◌∷◌, All, Contains, map, length, Option, None, Some, Ok, IfSome, slice_get, string_bytes}
 use Rattle.std.specs.Io.KnownBytes.{Keeps}
 use Rattle.abt_text.specs.Text.{Text}
 use Rattle.abt_cell.specs.Channel.{Channel}
 use Rattle.abt_keep.specs.Record.{KeptRecord}
 use Rattle.abt_lines.specs.Served.{ServesAll, ServesPart}
 use Rattle.abt_net.specs.Topology.{Topology, channel_at}
+use Rattle.abt_net.specs.declared.conn.Conn.{Conn}
+use Rattle.abt_records.specs.Served.{ServesRecords, ServesSome}
 use Rattle.abt_scenario.specs.Engine.{Explains}
 use Rattle.abt_scenario.specs.Scenarios.{Reads}
 use Rattle.abt_scenario.specs.declared.scenario.Scenario as scenario_of
 use Rattle.abt_live.specs.declared.past.Past.{Past}
 use Rattle.abt_live.specs.declared.source_lines.SourceLines.{SourceLines}
+use Rattle.abt_live.specs.declared.source_records.SourceRecords.{SourceRecords}
 use Rattle.abt_live.specs.declared.switch.SwitchLines.{SwitchLines}
 use Rattle.abt_live.specs.Ports.{opening_of}
 use Rattle.abt_live.specs.Serving.{EndsSilent}
 use Rattle.abt_live.specs.Source.{new_actor}
+use Rattle.abt_live.specs.SourceRecords.{SourcesRecord}
 use Rattle.abt_live.specs.SourceSteps.{SourcesLine}
 use Rattle.abt_live.specs.Switch.{SwitchesLine}
+use Rattle.abt_live.specs.SwitchRecords.{SwitchesRecord}
 use Rattle.abt_live_files.specs.declared.fault.LiveStop.{LiveStop}
 use Rattle.abt_live_files.specs.declared.fault.LiveStop.TheVariants.{Scenario, Port, Connection, Store, Journal, Serving}
 use Rattle.abt_live_files.specs.declared.plan.SourcePlan.{SourcePlan}
@@ -36,20 +41,31 @@ pub record HasPorts (text : Option Text) (ids : List ℕ) (net : Topology) : Typ
   pub net_is : net ≡ scenario.net
   pub within : All (λ id. id < length net.capacities) ids
 
--- The answers of a switch with these ports of it to all that a reader had left went out, and nothing else.
-pub record IsSwitchServed {J : Type 0} (contents : J → Option Text) (text : Option Text) (ids : List ℕ) (left old new : Option Text) : Type 0 where
+-- the answers of a switch to all that a reader had left went out, and nothing else: over lines, or over lines and cells
+abbrev pub ServesSwitch : {J : Type 0} → (contents : J → Option Text) → (is_binary : Bool) → (first : SwitchLines J) → (left old new : Option Text) → Type 0
+ServesSwitch {J = J} contents false first left old new =
+    (last : SwitchLines J) × ServesAll (SwitchesLine contents) EndsSilent first last left old new
+ServesSwitch {J = J} contents true first left old new = (last : SwitchLines J) × ServesRecords (SwitchesRecord contents) first last left old new
+
+-- a beginning of them did
+abbrev pub BeginsSwitch : {J : Type 0} → (contents : J → Option Text) → (is_binary : Bool) → (first : SwitchLines J) → (left old new : Option Text) → Type 0
+BeginsSwitch contents false first left old new = ServesPart (SwitchesLine contents) EndsSilent first left old new
+BeginsSwitch contents true first left old new = ServesSome (SwitchesRecord contents) first left old new
+
+-- The answers of a switch with the ports of a plan to all that a reader had left went out, and nothing else.
+pub record IsSwitchServed {J : Type 0} (contents : J → Option Text) (text : Option Text) (plan : SwitchPlan) (left old new : Option Text) : Type 0 where
   pub net : Topology
-  pub has : HasPorts text ids net
+  pub has : HasPorts text plan.ports.items net
   pub first : SwitchLines J
-  pub opened : IsOpened net ids first
-  pub last : SwitchLines J
-  pub served : ServesAll (SwitchesLine contents) EndsSilent first last left old new
+  pub opened : IsOpened net plan.ports.items first
+  pub served : ServesSwitch contents plan.is_binary first left old new
 
 -- A beginning of them did, or none, since there was no memory for the ports.
-pub record IsSwitchCutOff {J : Type 0} (contents : J → Option Text) (text : Option Text) (ids : List ℕ) (left old new : Option Text) : Type 0 where
+pub record IsSwitchCutOff {J : Type 0} (contents : J → Option Text) (text : Option Text) (plan : SwitchPlan) (left old new : Option Text) : Type 0 where
   pub net : Topology
-  pub has : HasPorts text ids net
-  pub part : Keeps old new ⊎ ((first : SwitchLines J) × IsOpened net ids first × ServesPart (SwitchesLine contents) EndsSilent first left old new)
+  pub has : HasPorts text plan.ports.items net
+  pub part : Keeps old new
+      ⊎ ((first : SwitchLines J) × IsOpened net plan.ports.items first × BeginsSwitch contents plan.is_binary first left old new)
 
 -- A port is named that the net doesn't have.
 pub record LacksPort (text : Option Text) (ids : List ℕ) (id : ℕ) : Type 0 where
@@ -59,18 +75,18 @@ pub record LacksPort (text : Option Text) (ids : List ℕ) (id : ℕ) : Type 0 w
   pub lacks : id < length scenario.net.capacities → ⊥
 
 -- Why not all lines of a switch are answered, and what went out.
-abbrev pub StopsSwitch : {J : Type 0} → (contents : J → Option Text) → LiveStop → (text : Option Text) → (ids : List ℕ) → (left old new : Option Text) → Type 0
-StopsSwitch contents (Scenario fault) text ids left old new = IfSome text (Explains fault) × Keeps old new
-StopsSwitch contents (Port id) text ids left old new = LacksPort text ids id × Keeps old new
-StopsSwitch contents (Journal fault) text ids left old new = ((net : Topology) × HasPorts text ids net) × Keeps old new
-StopsSwitch contents (Serving fault) text ids left old new = IsSwitchCutOff contents text ids left old new
-StopsSwitch contents other text ids left old new = ⊥
+abbrev pub StopsSwitch : {J : Type 0} → (contents : J → Option Text) → LiveStop → (text : Option Text) → SwitchPlan → (left old new : Option Text) → Type 0
+StopsSwitch contents (Scenario fault) text plan left old new = IfSome text (Explains fault) × Keeps old new
+StopsSwitch contents (Port id) text plan left old new = LacksPort text plan.ports.items id × Keeps old new
+StopsSwitch contents (Journal fault) text plan left old new = ((net : Topology) × HasPorts text plan.ports.items net) × Keeps old new
+StopsSwitch contents (Serving fault) text plan left old new = IsSwitchCutOff contents text plan left old new
+StopsSwitch contents other text plan left old new = ⊥
 
 -- Not all lines of a switch are answered, for a reason that is told.
 pub record IsSwitchUnserved {J : Type 0} (contents : J → Option Text) (text : Option Text) (plan : SwitchPlan)
     (left old new errors_old errors_new : Option Text) : Type 0 where
   pub why : LiveStop
-  pub stops : StopsSwitch contents why text plan.ports.items left old new
+  pub stops : StopsSwitch contents why text plan left old new
   pub told : TellsEach (stop_pieces [] (string_bytes plan.journal) why) errors_old errors_new
 
 -- The net of the scenario that was read has this connection.
@@ -89,6 +105,30 @@ pub record IsBegun {K J : Type 0} (content : K → KeptRecord) (contents : J →
   pub store : K
   pub source_is : first.source ≡ new_actor vc (content store) past.cells past.clock
 
+-- the port that the requests of a connection go to first
+abbrev pub first_of : (path : List ℕ) → ℕ
+first_of [] = 0
+first_of (port ∷ more) = port
+
+abbrev pub first_hop : Option Conn → ℕ
+first_hop None = 0
+first_hop (Some conn) = first_of conn.path
+
+-- the answers of a source to all that a reader had left went out, and nothing else: over lines, or over lines and cells
+abbrev pub ServesSource : {K J : Type 0} → (contents : J → Option Text) → (is_binary : Bool) → (first : SourceLines K J) → (first_port : ℕ)
+    → (left old new : Option Text) → Type 0
+ServesSource {K = K} {J = J} contents false first first_port left old new =
+    (last : SourceLines K J) × ServesAll (SourcesLine contents) EndsSilent first last left old new
+ServesSource {K = K} {J = J} contents true first first_port left old new =
+    (last : SourceRecords K J) × ServesRecords (SourcesRecord contents) (record { lines = first; first_port = first_port }) last left old new
+
+-- a beginning of them did
+abbrev pub BeginsSource : {K J : Type 0} → (contents : J → Option Text) → (is_binary : Bool) → (first : SourceLines K J) → (first_port : ℕ)
+    → (left old new : Option Text) → Type 0
+BeginsSource contents false first first_port left old new = ServesPart (SourcesLine contents) EndsSilent first left old new
+BeginsSource contents true first first_port left old new =
+    ServesSome (SourcesRecord contents) (record { lines = first; first_port = first_port }) left old new
+
 -- The answers of such a source to all that a reader had left went out, and nothing else.
 pub record IsSourceServed {K J : Type 0} (content : K → KeptRecord) (contents : J → Option Text) (text : Option Text) (plan : SourcePlan)
     (left old new : Option Text) : Type 0 where
@@ -96,8 +136,7 @@ pub record IsSourceServed {K J : Type 0} (content : K → KeptRecord) (contents 
   pub has : HasConnection text plan.conn vc
   pub first : SourceLines K J
   pub begun : IsBegun content contents plan vc first
-  pub last : SourceLines K J
-  pub served : ServesAll (SourcesLine contents) EndsSilent first last left old new
+  pub served : ServesSource contents plan.is_binary first (first_hop (slice_get has.scenario.net.conns plan.conn)) left old new
 
 -- A beginning of them did.
 pub record IsSourceCutOff {K J : Type 0} (content : K → KeptRecord) (contents : J → Option Text) (text : Option Text) (plan : SourcePlan)
@@ -106,7 +145,7 @@ pub record IsSourceCutOff {K J : Type 0} (content : K → KeptRecord) (contents 
   pub has : HasConnection text plan.conn vc
   pub first : SourceLines K J
   pub begun : IsBegun content contents plan vc first
-  pub part : ServesPart (SourcesLine contents) EndsSilent first left old new
+  pub part : BeginsSource contents plan.is_binary first (first_hop (slice_get has.scenario.net.conns plan.conn)) left old new
 
 -- The net doesn't have the connection that is named.
 pub record LacksConnection (text : Option Text) (conn : ℕ) : Type 0 where

@@ -1,6 +1,7 @@
 //! A switch and a source as the program runs them: over the files of their journals, and of the source's store.
 #![tactic(auto)]
 
+mod answering;
 mod fault;
 mod journal_fault;
 mod opening;

@@ -9,6 +9,8 @@ pub struct SwitchPlan {
     pub ports: Vec<u16>,
     /// The file of its journal.
     pub journal: String,
+    /// Whether messages come and go as cells, and not as lines (docs/LIVE.md, "Cells as octets").
+    pub is_binary: bool,
 }
 
 /// The source of a connection of the net of a scenario.
@@ -24,4 +26,6 @@ pub struct SourcePlan {
     pub journal: String,
     /// Whether it is new: its store and its journal are made. Else they are there.
     pub is_new: bool,
+    /// Whether messages come and go as cells, and not as lines (docs/LIVE.md, "Cells as octets").
+    pub is_binary: bool,
 }

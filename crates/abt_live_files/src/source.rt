@@ -1,16 +1,17 @@
 //! The source of a connection of a net, over its store and its journal.
-ghost use Rattle.std.specs.Prelude.{◌≡◌, ◌⊎◌, IfErr, OnOk};
+ghost use Rattle.std.specs.Prelude.{◌≡◌, ◌⊎◌, IfErr, OnOk, slice_get};
 ghost use Rattle.std.specs.Io.KnownBytes.{IsAtEnd, Keeps};
 ghost use Rattle.abt_net.specs.Topology.{channel_at};
-ghost use Rattle.abt_live_files.specs.Served.{IsSourceServed, IsSourceUnserved, StopsSource};
+ghost use Rattle.abt_live_files.specs.Served.{IsSourceServed, IsSourceUnserved, StopsSource, first_hop};
 
+use crate::answering::serve_source;
 use crate::fault::LiveStop;
 use crate::opening::{Begun, open_source};
 use crate::plan::SourcePlan;
 use crate::stores::Stores;
 use crate::telling::tell_stop;
 use abt_cell::Vc;
-use abt_live::{SourceLines, serve_journal};
+use abt_live::SourceLines;
 use abt_net::Net;
 use abt_scenario::read_from;
 use std::alloc::AllocGlobal;
@@ -80,7 +81,15 @@ fn source<T: Files + AllocGlobal + Stores, N: Read, R: Read, W: Write>(
         Err(stop) => return Err(stop),
     };
     let lines = SourceLines::new(conn, vc, past.cells, past.clock, store, journal);
-    match serve_journal(rt.alloc(), lines, reader, writer) {
+    let first_port = first_port_of(&scenario.net, conn);
+    match serve_source(
+        rt.alloc(),
+        lines,
+        first_port,
+        plan.is_binary,
+        reader,
+        writer,
+    ) {
         Ok(()) => Ok(()),
         Err(fault) => Err(LiveStop::Serving(fault)),
     }
@@ -92,4 +101,17 @@ fn channel_of(net: &Net, conn: u16) -> Option<Vc>
 {
     let conn = net.conns().get(usize::from(conn))?;
     Some(conn.vc)
+}
+
+// The port that the requests of a connection go to first. A path has a port.
+fn first_port_of(net: &Net, conn: u16) -> u16
+    ensures { result ≡ first_hop (slice_get net.now.conns conn) }
+{
+    let Some(conn) = net.conns().get(usize::from(conn)) else {
+        return 0;
+    };
+    match conn.path.as_slice() {
+        [first, ..] => *first,
+        [] => 0,
+    }
 }

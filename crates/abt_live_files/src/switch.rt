@@ -3,12 +3,13 @@ ghost use Rattle.std.specs.Prelude.{◌≡◌, ◌<◌, ◌⊎◌, All, Contains
 ghost use Rattle.std.specs.Io.KnownBytes.{IsAtEnd, Keeps};
 ghost use Rattle.abt_live_files.specs.Served.{IsSwitchServed, IsSwitchUnserved, StopsSwitch};
 
+use crate::answering::serve_switch;
 use crate::fault::LiveStop;
 use crate::opening::new_journal;
 use crate::plan::SwitchPlan;
 use crate::telling::tell_stop;
 use abt_lines::LinesFault;
-use abt_live::{ServeFault, SwitchLines, serve_journal};
+use abt_live::{ServeFault, SwitchLines};
 use abt_net::Net;
 use abt_scenario::read_from;
 use std::alloc::AllocGlobal;
@@ -30,7 +31,7 @@ pub fn perform_switch<T: Files + AllocGlobal, N: Read, R: Read, W: Write, E: Wri
 ) -> u8
     ensures status { (result ≡ 0) ⊎ (result ≡ 1) }
     ensures end { result ≡ 0 → IsAtEnd (R.remaining reader.new) }
-    ensures ok { result ≡ 0 → IsSwitchServed T.File.contents (N.remaining net.old) plan.now.ports.items
+    ensures ok { result ≡ 0 → IsSwitchServed T.File.contents (N.remaining net.old) plan.now
         (R.remaining reader.old) (W.contents writer.old) (W.contents writer.new) }
     ensures quiet { result ≡ 0 → Keeps (E.contents errors.old) (E.contents errors.new) }
     ensures err { result ≡ 1 → IsSwitchUnserved T.File.contents (N.remaining net.old) plan.now
@@ -55,10 +56,10 @@ fn switch<T: Files + AllocGlobal, N: Read, R: Read, W: Write>(
     writer: &mut W,
 ) -> Result<(), LiveStop>
     ensures end { OnOk result (IsAtEnd (R.remaining reader.new)) }
-    ensures ok { OnOk result (IsSwitchServed T.File.contents (N.remaining net.old) plan.now.ports.items
+    ensures ok { OnOk result (IsSwitchServed T.File.contents (N.remaining net.old) plan.now
         (R.remaining reader.old) (W.contents writer.old) (W.contents writer.new)) }
     ensures err { IfErr result (λ stop. StopsSwitch T.File.contents stop (N.remaining net.old)
-        plan.now.ports.items (R.remaining reader.old) (W.contents writer.old) (W.contents writer.new)) }
+        plan.now (R.remaining reader.old) (W.contents writer.old) (W.contents writer.new)) }
 {
     let scenario = match read_from(rt.alloc(), net) {
         Ok(scenario) => scenario,
@@ -75,7 +76,7 @@ fn switch<T: Files + AllocGlobal, N: Read, R: Read, W: Write>(
     let Ok(lines) = SwitchLines::open(rt.alloc(), &scenario.net, ports, journal) else {
         return Err(LiveStop::Serving(ServeFault::Lines(LinesFault::Memory)));
     };
-    match serve_journal(rt.alloc(), lines, reader, writer) {
+    match serve_switch(rt.alloc(), lines, plan.is_binary, reader, writer) {
         Ok(()) => Ok(()),
         Err(fault) => Err(LiveStop::Serving(fault)),
     }

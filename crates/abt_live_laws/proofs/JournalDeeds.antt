@@ -1,11 +1,11 @@
 -- What the journal of a source says of it, over any lines.
-use Rattle.std.proofs.Common.{◌≡◌, ◌⊎◌, inl, inr, ℕ, ◌+◌, List, [], ◌∷◌, ◌++◌, refl, sym, ap, subst}
+use Rattle.std.proofs.Common.{inl, inr, ℕ, ◌+◌, List, [], ◌∷◌, ◌++◌, refl, sym, ap, subst}
 use Rattle.std.specs.Prelude.{Option}
 use Rattle.std.proofs.KnownBytes.{Appends-nil, Appends-trans}
 use Rattle.std.specs.Io.KnownBytes.{Appends}
 use Rattle.abt_live.specs.declared.source_lines.SourceLines.{SourceLines}
 use Rattle.abt_live.specs.SourceAsked.{asked_on}
-use Rattle.abt_live_laws.specs.Deeds.{AreDeeds, Deed, JournalsAreDeeds, deeds_text}
+use Rattle.abt_live_laws.specs.Deeds.{AreDeeds, JournalsAreDeeds, deeds_text}
 
 pub journals_are_deeds : {J : Type 0} (K : Type 0) (contents : J → Option (List ℕ)) → JournalsAreDeeds K contents
 journals_are_deeds {J = J} K contents old new number [] said (none, same) = (

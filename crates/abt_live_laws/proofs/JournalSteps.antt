@@ -1,6 +1,6 @@
 -- What the journal of a switch says of its ports, over any lines.
 use Rattle.std.proofs.Common.{◌≡◌, ◌≢◌, ◌∙◌, ◌⊎◌, inl, inr, ℕ, ◌+◌, ◌<◌, List, [], ◌∷◌, ◌++◌, refl, sym, ap, subst, length, length-set}
-use Rattle.std.specs.Prelude.{◌==◌, if◌then◌else◌, Option, Some, slice_get, slice_set}
+use Rattle.std.specs.Prelude.{Option, Some, slice_get, slice_set}
 use Rattle.std.proofs.KnownBytes.{Appends-nil, Appends-trans}
 use Rattle.std.proofs.lemmas.Bool.{cases_eq, cond-true, cond-false, eq-eqb, ne_eqb}
 use Rattle.std.proofs.lemmas.List.{get_or-set_same, get_or-set_other}
@@ -9,24 +9,23 @@ use Rattle.std.specs.Io.KnownBytes.{Appends}
 use Rattle.abt_net.specs.Topology.{Topology}
 use Rattle.abt_journal.specs.declared.entry.Entry.{Entry}
 use Rattle.abt_journal.specs.declared.input.PortInput.{PortInput}
-use Rattle.abt_lines.specs.Runs.{Runs}
 use Rattle.abt_live.specs.declared.live_port.LivePort.{LivePort}
 use Rattle.abt_live.specs.declared.switch.SwitchLines.{SwitchLines}
 use Rattle.abt_live.specs.declared.switch_asked.SwitchAsked.{SwitchAsked}
 use Rattle.abt_live.specs.declared.switch_asked.SwitchAsked.TheVariants.{Step, Wrong}
 use Rattle.abt_live_laws.specs.Journals.{AreSteps, DoneStep, JournalsAreSteps, entries_at, lines_text}
 use Rattle.abt_live.specs.Ports.{entry_at, past_step, switch_line}
-use Rattle.abt_live.specs.Switch.{IsDone, SwitchesLine}
+use Rattle.abt_live.specs.Switch.{IsDone}
 use Rattle.abt_live.specs.SwitchAsked.{asked_on}
 use Rattle.abt_live.proofs.SwitchSteps.{same_port}
 
-set_same : (ports : List LivePort) (place : ℕ) (old new : LivePort) → slice_get ports place ≡ Some old → slice_get (slice_set ports place new) place ≡ Some new
+pub set_same : (ports : List LivePort) (place : ℕ) (old new : LivePort) → slice_get ports place ≡ Some old → slice_get (slice_set ports place new) place ≡ Some new
 set_same ports place old new is =
     let low : place < length ports = slice_get_within ports place old is in
     let low' : place < length (slice_set ports place new) = subst (λ n. place < n) (sym (length-set ports place new)) low in
     slice_get-get_or (slice_set ports place new) place new low' ∙ ap Some (get_or-set_same ports place new new low)
 
-set_other : (ports : List LivePort) (place other : ℕ) (new live : LivePort) → other ≢ place → slice_get ports other ≡ Some live
+pub set_other : (ports : List LivePort) (place other : ℕ) (new live : LivePort) → other ≢ place → slice_get ports other ≡ Some live
     → slice_get (slice_set ports place new) other ≡ Some live
 set_other ports place other new live ne is =
     let low : other < length ports = slice_get_within ports other live is in

@@ -1,2 +1,5 @@
 pub mod JournalSteps
 pub mod JournalDeeds
+pub mod SourceMoves
+pub mod PortMoves
+pub mod ToldPasts

@@ -1,2 +1,5 @@
 pub mod Journals
 pub mod Deeds
+pub mod Machine
+pub mod Ports
+pub mod Pasts

@@ -1,6 +1,9 @@
 //! What journals say over any lines.
 ghost use Rattle.abt_live_laws.specs.Deeds.{JournalsAreDeeds};
 ghost use Rattle.abt_live_laws.specs.Journals.{JournalsAreSteps};
+ghost use Rattle.abt_live_laws.specs.Machine.{SourcesMove};
+ghost use Rattle.abt_live_laws.specs.Pasts.{BeginsSo, PastsAreTold};
+ghost use Rattle.abt_live_laws.specs.Ports.{SwitchesServe};
 
 use abt_keep::SeqStore;
 use std::io::Write;
@@ -15,4 +18,24 @@ pub fn journals_are_steps<J: Write>()
 /// the outcome that the event of its name has there.
 pub fn journals_are_deeds<K: SeqStore, J: Write>()
     ensures { JournalsAreDeeds K J.contents }
+{}
+
+/// What a source does with a line, if it is one of live processes and what is handed in was sent, is a move of theirs by which it goes on, or
+/// nothing. Its journal gets just the lines of that (docs/LIVE.md, "The law").
+pub fn source_steps_are_moves<K: SeqStore, J: Write>()
+    ensures { SourcesMove K J.contents }
+{}
+
+/// What a switch does with a line that brings something to one of its ports is what a move of live processes has that port do, with what
+/// follows along the path sent and said, or nothing. Its journal gets just the line of the step (docs/LIVE.md, "The law").
+pub fn switch_steps_are_moves<J: Write>()
+    ensures { SwitchesServe J.contents }
+{}
+
+/// A source that has read all lines of its journal, and none that can't come there, goes on behind what they tell: so many cells, the
+/// greatest moment of a start or an emission, whether it was up, and the ask that was about to write. So it begins as the machine of live
+/// processes has it, and writes just the lines of what became of the process before.
+pub fn pasts_are_told()
+    ensures told { PastsAreTold }
+    ensures begins { BeginsSo }
 {}

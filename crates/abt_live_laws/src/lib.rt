@@ -3,4 +3,7 @@
 
 mod law;
 
-pub use law::{journals_are_deeds, journals_are_steps};
+pub use law::{
+    journals_are_deeds, journals_are_steps, pasts_are_told, source_steps_are_moves,
+    switch_steps_are_moves,
+};

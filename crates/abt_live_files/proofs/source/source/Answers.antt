@@ -2,6 +2,7 @@
 use Rattle.std.proofs.Common.{◌∙◌, sym, subst}
 use Rattle.std.proofs.KnownBytes.{Keeps-refl}
 use Rattle.abt_live_files.specs.Opened.{BeginsBy}
+use Rattle.abt_live_files.specs.Served.{BeginsSource, ServesSource}
 use Rattle.abt_live_files.proofs.Stops.{file_stops}
 use Rattle.abt_live_files.proofs.source.source.Goals as goal
 
@@ -12,8 +13,8 @@ returns-in-Err-open_source-clause-err g c =
       Keeps-refl _,
     )
 
-pub returns-in-Ok-serve_journal-clause-ok : goal.returns-in-Ok-serve_journal-clause-ok
-returns-in-Ok-serve_journal-clause-ok g c = record {
+pub returns-in-Ok-serve_source-clause-ok : goal.returns-in-Ok-serve_source-clause-ok
+returns-in-Ok-serve_source-clause-ok g c = record {
   vc = c.in-Some.vc;
   has = record { scenario = c.in-Ok.scenario; read = c.in-Ok.ensures.ok; channel = sym c.channel_of.ensures ∙ c.in-Some.is };
   first = c.new-lines.result;
@@ -26,8 +27,8 @@ returns-in-Ok-serve_journal-clause-ok g c = record {
     store = c.in-Ok-open_source.begun.store;
     source_is = c.new-lines.ensures.source;
   };
-  last = c.in-Ok-serve_journal.ensures.ok.0;
-  served = c.in-Ok-serve_journal.ensures.ok.1;
+  served = subst (λ p. ServesSource g.T.File.Write.contents c.args.plan.now.is_binary c.new-lines.result p
+      (g.R.Read.remaining c.args.reader.now) (g.W.Write.contents c.args.writer.now) (g.W.Write.contents c.serve_source.new.writer)) c.first_port_of-first_port.ensures c.in-Ok-serve_source.ensures.ok;
 }
 
 pub returns-clause-err : goal.returns-clause-err
@@ -44,5 +45,6 @@ returns-clause-err g c = record {
     store = c.in-Ok-open_source.begun.store;
     source_is = c.new-lines.ensures.source;
   };
-  part = c.in-Err-serve_journal.ensures.err;
+  part = subst (λ p. BeginsSource g.T.File.Write.contents c.args.plan.now.is_binary c.new-lines.result p
+      (g.R.Read.remaining c.args.reader.now) (g.W.Write.contents c.args.writer.now) (g.W.Write.contents c.serve_source.new.writer)) c.first_port_of-first_port.ensures c.in-Err-serve_source.ensures.err;
 }

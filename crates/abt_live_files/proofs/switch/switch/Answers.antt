@@ -30,8 +30,8 @@ returns-in_default-open-clause-err g c = record {
   part = inl (Keeps-refl _);
 }
 
-pub returns-in-Ok-serve_journal-clause-ok : goal.returns-in-Ok-serve_journal-clause-ok
-returns-in-Ok-serve_journal-clause-ok g c = record {
+pub returns-in-Ok-serve_switch-clause-ok : goal.returns-in-Ok-serve_switch-clause-ok
+returns-in-Ok-serve_switch-clause-ok g c = record {
   net = c.in-Ok.scenario.net;
   has = record {
     scenario = c.in-Ok.scenario;
@@ -44,8 +44,7 @@ returns-in-Ok-serve_journal-clause-ok g c = record {
     ports = c.in-Ok-open.ensures.ports ∙ ap (map (opening_of c.in-Ok.scenario.net)) c.as_slice-ports.ensures.value;
     net_is = c.in-Ok-open.ensures.net;
   };
-  last = c.in-Ok-serve_journal.ensures.ok.0;
-  served = c.in-Ok-serve_journal.ensures.ok.1;
+  served = c.in-Ok-serve_switch.ensures.ok;
 }
 
 pub returns-clause-err : goal.returns-clause-err
@@ -63,6 +62,6 @@ returns-clause-err g c = record {
       ports = c.in-Ok-open.ensures.ports ∙ ap (map (opening_of c.in-Ok.scenario.net)) c.as_slice-ports.ensures.value;
       net_is = c.in-Ok-open.ensures.net;
     },
-    c.in-Err-serve_journal.ensures.err,
+    c.in-Err-serve_switch.ensures.err,
   );
 }
