@@ -21,7 +21,7 @@ use Rattle.abt_audit.specs.Audits.{AreRead, IsUnreadAmong, IsWholeRun, IsToldAs,
 use Rattle.abt_audit.specs.Names.{note_lines}
 use Rattle.abt_audit.specs.Parts.{IsSizedRun, run_journals}
 use Rattle.abt_audit.specs.Performing.{IsStuckRun, IsNoRun, EndsBy, IsShownAs, IsShownWhole, run_in, shown_text}
-use Rattle.abt_audit.specs.Why.{IsFaultText}
+use Rattle.abt_audit.specs.FaultTexts.{IsFaultText}
 use Rattle.abt_audit.specs.Settling.{IsSettledRun}
 use Rattle.abt_audit.proofs.SettledRuns.{as_many}
 use Rattle.abt_audit.specs.declared.auditing.AuditedRun.{AuditedRun}

@@ -14,3 +14,7 @@ pub mod SourcesContradicted
 pub mod Texts
 pub mod Tried
 pub mod Whys
+pub mod Numbered
+pub mod Stood
+pub mod Stopped
+pub mod WaitingLines

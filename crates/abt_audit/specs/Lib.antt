@@ -1,5 +1,6 @@
 pub mod Settling
 pub mod Ways
+pub mod Deciding
 pub mod Audits
 pub mod Names
 pub mod Stuck
@@ -11,3 +12,7 @@ pub mod Why
 pub mod OneLog
 pub mod OneLogShown
 pub mod Obeyed
+pub mod Missing
+pub mod Standing
+pub mod Waits
+pub mod FaultTexts

@@ -15,10 +15,10 @@ use Rattle.abt_weave.specs.declared.actor.Actor.TheVariants.{Source, Port}
 use Rattle.abt_weave.specs.declared.fault.WeaveFault.{WeaveFault}
 use Rattle.abt_weave.specs.declared.fault.WeaveFault.TheVariants.{Mismatch}
 use Rattle.abt_audit.specs.Audits.{IsReadAs}
+use Rattle.abt_audit.specs.FaultTexts.{IsMismatchText}
 use Rattle.abt_audit.specs.Names.{note_lines}
 use Rattle.abt_audit.specs.OneLog.{IsJudgedRun, IsLogVerdict, entries_judged}
 use Rattle.abt_audit.specs.Performing.{EndsReading, TellsFault}
-use Rattle.abt_audit.specs.Why.{IsFaultText}
 use Rattle.abt_audit.specs.declared.fault.AuditFault.{AuditFault}
 use Rattle.abt_audit.specs.declared.fault.AuditFault.TheVariants as fault
 use Rattle.abt_audit.specs.declared.one_log.LogVerdict.TheVariants.{Absent, Obeys, Differs}
@@ -48,7 +48,7 @@ pub record IsObeyed (told : Told) (actor : Actor) (shown : Text) : Type 0 where
 -- The fault of an actor's entry of a place in a run: the line of that entry, what the protocol answers there, and why; or want of memory.
 abbrev pub IsMismatchAt : List (String Global) → Actor → (place : ℕ) → Run → AuditFault → Type 0
 IsMismatchAt names actor place told (fault.Stuck why lines run) =
-    (run ≡ told) × (why ≡ Mismatch actor place) × (text : Text) × IsFaultText names run why text × (lines.items ≡ text ⋅ note_lines run.cuts.items)
+    (run ≡ told) × (why ≡ Mismatch actor place) × (text : Text) × IsMismatchText names run actor place text × (lines.items ≡ text ⋅ note_lines run.cuts.items)
 IsMismatchAt names actor place told other = other ≡ fault.Memory
 
 -- What was told has a log of this actor, and its entry of a place is the first that differs. These are the line of that entry, what the
@@ -60,7 +60,7 @@ pub record IsDiffering (names : List (String Global)) (told : Told) (actor : Act
   pub differs : IsLogVerdict run actor (Differs place)
   pub names_it : why ≡ Mismatch actor place
   pub text : Text
-  pub is_text : IsFaultText names run why text
+  pub is_text : IsMismatchText names run actor place text
   pub are : lines ≡ text ⋅ note_lines told.cuts
 
 -- What was told has no log of this actor, as the net has none such.

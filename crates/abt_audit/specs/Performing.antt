@@ -19,7 +19,7 @@ use Rattle.abt_perform.specs.declared.fault.Fault as program
 use Rattle.abt_perform.specs.declared.fault.Fault.TheVariants as program_fault
 use Rattle.abt_audit.specs.Audits.{IsReadAs, IsToldAs, IsUnreadAmong, IsSafelyTold, IsShown, IsWholeRun}
 use Rattle.abt_audit.specs.Names.{note_lines, text_fault_line}
-use Rattle.abt_audit.specs.Why.{IsFaultText}
+use Rattle.abt_audit.specs.FaultTexts.{IsFaultText}
 use Rattle.abt_audit.specs.Parts.{run_journals}
 use Rattle.abt_audit.specs.declared.auditing.AuditedRun.{AuditedRun}
 use Rattle.abt_audit.specs.declared.fault.AuditFault.{AuditFault}

@@ -1,7 +1,6 @@
 -- The protocol's answer for an entry (docs/JOURNALS.md, "Audits"): the reply of a port, or the outcome of a source,
 -- in the state that the entries before it leave. Facts are those of one connection, the newest first.
-use Rattle.std.specs.Prelude.{ℕ, ◌++◌, List, [], take, fold, Option, Some, None, option_map, option_and_then, slice_get, codes, String}
-use Rattle.std.specs.declared.alloc.Global.{Global}
+use Rattle.std.specs.Prelude.{ℕ, ◌++◌, List, [], take, fold, Option, Some, None, option_map, option_and_then, slice_get, codes}
 use Rattle.json.specs.Json.{Json}
 use Rattle.json.specs.Print.{print}
 use Rattle.json.specs.Tree.{json_tokens}
@@ -30,10 +29,7 @@ use Rattle.abt_model.specs.declared.journal.SourceJournal.{SourceJournal}
 use Rattle.abt_entry.specs.EntryWritten.{reply_json, outcome_json}
 use Rattle.abt_weave.specs.declared.actor.Actor.{Actor}
 use Rattle.abt_weave.specs.declared.actor.Actor.TheVariants.{Source, Port}
-use Rattle.abt_weave.specs.declared.fault.WeaveFault.{WeaveFault}
-use Rattle.abt_weave.specs.declared.fault.WeaveFault.TheVariants.{Mismatch, NoOrder, Memory}
 use Rattle.abt_journal_text.specs.declared.run.Run.{Run}
-use Rattle.abt_audit.specs.Stuck.{line_at, stuck_lines}
 
 -- the reply of a port to the input of the entry of a place, after the inputs of the entries before
 abbrev pub port_answer : Topology → (p : ℕ) → List Entry → (place : ℕ) → Option PortReply
@@ -95,9 +91,3 @@ source_told place conn journal = []
 abbrev pub protocol_at : Run → Actor → (place : ℕ) → Text
 protocol_at run (Port p) place = port_told run.net p place (slice_get run.journals p)
 protocol_at run (Source c) place = source_told place (conn_at run.net c) (slice_get run.sources.items c)
-
--- the lines of a fault: those of the entries that it names, and behind that of one that mismatches what the protocol answers there
-abbrev pub fault_lines : List (String Global) → Run → WeaveFault → Text
-fault_lines names run (Mismatch actor place) = line_at names run actor place ⋅ protocol_at run actor place
-fault_lines names run (NoOrder stuck) = stuck_lines names run stuck
-fault_lines names run Memory = []

@@ -1,5 +1,5 @@
 -- The lines of entries at which journals are stuck.
-use Rattle.std.specs.Prelude.{ℕ, List, [], ◌∷◌, Option, Some, None, option_map, option_and_then, slice_get, String}
+use Rattle.std.specs.Prelude.{ℕ, List, [], Option, Some, None, option_map, option_and_then, slice_get, String}
 use Rattle.std.specs.declared.alloc.Global.{Global}
 use Rattle.json.specs.Print.{print}
 use Rattle.json.specs.Tree.{json_tokens}
@@ -9,7 +9,6 @@ use Rattle.abt_model.specs.declared.journal.SourceJournal.{SourceJournal}
 use Rattle.abt_entry.specs.EntryWritten.{step_json, entry_json}
 use Rattle.abt_weave.specs.declared.actor.Actor.{Actor}
 use Rattle.abt_weave.specs.declared.actor.Actor.TheVariants.{Source, Port}
-use Rattle.abt_weave.specs.declared.actor.Stuck.{Stuck}
 use Rattle.abt_journal_text.specs.Books.{lists_of}
 use Rattle.abt_journal_text.specs.declared.run.Run.{Run}
 use Rattle.abt_journal_text.specs.declared.spot.Spot.{Spot}
@@ -34,7 +33,3 @@ line_at names run (Port p) place =
 line_at names run (Source c) place =
     spotted names (item_at (lists_of run.source_spots) c place)
     (option_map (λ entry. print (json_tokens (entry_json c entry))) (entry_at run.sources.items c place))
-
-abbrev pub stuck_lines : List (String Global) → Run → List Stuck → Text
-stuck_lines names run [] = []
-stuck_lines names run (stuck ∷ more) = line_at names run stuck.actor stuck.place ⋅ stuck_lines names run more

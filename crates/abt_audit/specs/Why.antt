@@ -24,10 +24,8 @@ use Rattle.abt_reason.specs.declared.grounds.Numbers.{Numbers}
 use Rattle.abt_reason.specs.declared.grounds.Numbers.TheVariants.{Nothing, AtHop, Newest, Reserved}
 use Rattle.abt_weave.specs.declared.actor.Actor.{Actor}
 use Rattle.abt_weave.specs.declared.actor.Actor.TheVariants.{Source, Port}
-use Rattle.abt_weave.specs.declared.fault.WeaveFault.{WeaveFault}
-use Rattle.abt_weave.specs.declared.fault.WeaveFault.TheVariants.{Mismatch, NoOrder, Memory}
 use Rattle.abt_audit.specs.Names.{name_in}
-use Rattle.abt_audit.specs.Protocol.{fault_lines, port_answer, source_answer}
+use Rattle.abt_audit.specs.Protocol.{port_answer, source_answer}
 use Rattle.abt_audit.specs.Stuck.{item_at}
 
 -- the newest number that a port decided for a channel, and the rate that it holds for it; 0 if it doesn't know the channel
@@ -106,15 +104,3 @@ source_why place conn journal = []
 abbrev pub IsWhy : List (String Global) → Run → Actor → (place : ℕ) → Text → Type 0
 IsWhy names run (Port p) place line = IsWhyAt names run p place (slice_get run.journals p) line
 IsWhy names run (Source c) place line = line ≡ source_why place (conn_at run.net c) (slice_get run.sources.items c)
-
--- Of a mismatch it is told why; of entries in no order nothing.
-abbrev pub Explains : List (String Global) → Run → WeaveFault → Text → Type 0
-Explains names run (Mismatch actor place) line = IsWhy names run actor place line
-Explains names run (NoOrder stuck) line = line ≡ []
-Explains names run Memory line = line ≡ []
-
--- The lines of the entries that a fault names, the protocol's answer, and why it is that.
-pub record IsFaultText (names : List (String Global)) (run : Run) (why : WeaveFault) (text : Text) : Type 0 where
-  pub line : Text
-  pub explains : Explains names run why line
-  pub are : text ≡ fault_lines names run why ⋅ line

@@ -2,10 +2,15 @@
 #![tactic(auto)]
 
 mod auditing;
+mod coming;
+mod deciding;
 mod fault;
+mod fault_text;
+mod finding;
 mod gathering;
 mod laws;
 mod marks;
+mod missing;
 mod naming;
 mod obeying;
 mod one_log;
@@ -16,8 +21,12 @@ mod performing;
 mod performing_one;
 mod protocol;
 mod settling;
+mod standing;
 mod stuck;
+mod unordered;
+mod waiting;
 mod why;
+mod wording;
 
 pub use auditing::{Audited, AuditedRun, audit};
 pub use fault::AuditFault;

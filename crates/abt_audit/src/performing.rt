@@ -14,11 +14,11 @@ ghost use Rattle.abt_audit.specs.Performing as spec;
 
 use crate::auditing::{AuditedRun, audit};
 use crate::fault::AuditFault;
+use crate::fault_text::lines_of_fault;
 use crate::gathering::read_all;
 use crate::naming::{cause_text, with_notes};
 use crate::settling::settled_run;
 use crate::stuck::head_of;
-use crate::why::fault_text;
 use abt_derive::{derive, restart};
 use abt_journal_text::{Book, Cause, Run, TextFault};
 use abt_perform::{Fault, MEMORY_LINE, WRITE_LINE, tell_text};
@@ -155,7 +155,7 @@ fn judge_book(
         }
         Err(WeaveFault::Memory) => Err(AuditFault::Memory),
         Err(fault) => {
-            let Ok(lines) = fault_text(alloc, names, &run, &fault) else {
+            let Ok(lines) = lines_of_fault(alloc, names, &run, &fault) else {
                 return Err(AuditFault::Memory);
             };
             let Ok(lines) = with_notes(alloc, lines.as_slice(), run.cuts.as_slice()) else {

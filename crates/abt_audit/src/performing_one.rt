@@ -5,17 +5,17 @@ ghost use Rattle.abt_audit.specs.OneLogShown.{EndsLogBy, IsLogNotShown, IsLogSho
 ghost use Rattle.abt_audit.specs.OneLogShown as spec;
 
 use crate::fault::AuditFault;
+use crate::fault_text::mismatch_text;
 use crate::gathering::read_all;
 use crate::naming::with_notes;
 use crate::one_log::{LogVerdict, entries_judged, judge_log};
 use crate::one_log_fault::LogFault;
 use crate::performing::{fault_of_text, octets_of, tell, tell_made};
 use crate::settling::settled_run;
-use crate::why::fault_text;
 use abt_derive::restart;
 use abt_journal_text::{Book, Run};
 use abt_text::put;
-use abt_weave::{Actor, WeaveFault};
+use abt_weave::{Actor, Stuck, WeaveFault};
 use std::alloc::{AllocError, Global};
 use std::io::{Read, Write};
 
@@ -122,7 +122,7 @@ fn differing(alloc: Global, names: &[String], run: Run, actor: Actor, place: u64
     ensures { IsMismatchAt names.now actor place run result }
 {
     let fault = WeaveFault::Mismatch { actor, place };
-    let Ok(lines) = fault_text(alloc, names, &run, &fault) else {
+    let Ok(lines) = mismatch_text(alloc, names, &run, Stuck { actor, place }) else {
         return AuditFault::Memory;
     };
     let Ok(lines) = with_notes(alloc, lines.as_slice(), run.cuts.as_slice()) else {

@@ -3,6 +3,7 @@ ghost use Rattle.std.specs.Prelude.{◌≡◌, ◌↔◌, ◌<◌, length, take,
 ghost use Rattle.abt_audit.specs.Settling as spec;
 ghost use Rattle.abt_audit.specs.Settling.{AreSettled, IsFarthest, IsReach, IsSettledRun, Prefers, SettlesAt, SettlesSource, places_on, planned, with_plan};
 
+use crate::deciding::plan_shown;
 use crate::obeying::go_on;
 use abt_actor::SourceActor;
 use abt_cell::Vc;
@@ -46,7 +47,7 @@ pub(crate) fn reach(vc: Vc, entries: &[SourceEntry]) -> usize
 }
 
 // The plan of an ask; for any other entry it doesn't matter.
-fn plan_of(entry: &SourceEntry) -> StorePlan
+pub(crate) fn plan_of(entry: &SourceEntry) -> StorePlan
     ensures { result ≡ spec.plan_of entry.now }
 {
     match entry {
@@ -65,14 +66,14 @@ fn put_under(entry: &mut SourceEntry, plan: StorePlan)
 }
 
 // Puts the entry of a place under a plan.
-fn plan_at(entries: &mut [SourceEntry], place: usize, plan: StorePlan)
+pub(crate) fn plan_at(entries: &mut [SourceEntry], place: usize, plan: StorePlan)
     requires { place < length entries.old }
     ensures { entries.new ≡ planned plan place entries.old }
 {
     put_under(&mut entries[place], plan);
 }
 
-// How many entries fit at most, however the writes of these places are settled.
+// How many entries fit at most, however the writes of these places are settled. Behind an entry that doesn't fit none is tried otherwise.
 fn farthest(vc: Vc, entries: &mut [SourceEntry], places: &[u64]) -> usize
     ensures same { entries.new ≡ entries.old }
     ensures value { IsFarthest vc places.now entries.old result }
@@ -89,6 +90,9 @@ fn farthest(vc: Vc, entries: &mut [SourceEntry], places: &[u64]) -> usize
     let before = farthest(vc, entries, rest);
     plan_at(entries, place, kept);
     if before == entries.len() {
+        return before;
+    }
+    if before < place {
         return before;
     }
     plan_at(entries, place, StorePlan::FailsAfter);
@@ -114,6 +118,9 @@ fn plan_for(vc: Vc, entries: &mut [SourceEntry], place: usize, next: &[u64]) -> 
     if before == entries.len() {
         return StorePlan::FailsBefore;
     }
+    if before < place {
+        return StorePlan::FailsBefore;
+    }
     plan_at(entries, place, StorePlan::FailsAfter);
     let after = farthest(vc, entries, next);
     plan_at(entries, place, kept);
@@ -121,6 +128,18 @@ fn plan_for(vc: Vc, entries: &mut [SourceEntry], place: usize, next: &[u64]) -> 
         return StorePlan::FailsAfter;
     }
     StorePlan::FailsBefore
+}
+
+// The same, where it is looked first whether entries show it at once.
+fn plan_of_write(vc: Vc, entries: &mut [SourceEntry], place: usize, next: &[u64]) -> StorePlan
+    requires { place < length entries.old }
+    ensures same { entries.new ≡ entries.old }
+    ensures value { Prefers vc place next.now entries.old result }
+{
+    if let Some(plan) = plan_shown(vc, entries, place, next) {
+        return plan;
+    }
+    plan_for(vc, entries, place, next)
 }
 
 // The first of the next ones.
@@ -138,7 +157,7 @@ fn settle(vc: Vc, entries: &mut [SourceEntry], places: &[u64])
     while let Some((first, rest)) = left.split_first() {
         let place = *first as usize;
         if place < entries.len() {
-            let plan = plan_for(vc, entries, place, ahead(rest));
+            let plan = plan_of_write(vc, entries, place, ahead(rest));
             plan_at(entries, place, plan);
         }
         left = rest;

@@ -1,17 +1,16 @@
 //! The lines of entries at which journals are stuck.
-ghost use Rattle.std.specs.Prelude.{◌≡◌, ◌-◌, map, option_map, slice_get, length, IfOk, OnOk, string_bytes, Vec};
+ghost use Rattle.std.specs.Prelude.{◌≡◌, ◌-◌, map, option_map, slice_get, IfOk, OnOk, string_bytes, Vec};
 ghost use Rattle.std.specs.declared.alloc.Global.{Global as GlobalSpec};
 ghost use Rattle.abt_text.specs.Text.{◌⋅◌, newline};
+ghost use Rattle.abt_journal_text.specs.Books.{lists_of};
 ghost use Rattle.abt_weave.specs.declared.actor.Actor.TheVariants.{Port, Source};
 ghost use Rattle.abt_audit.specs.Names.{name_in, spot_head};
-ghost use Rattle.abt_audit.specs.Protocol.{fault_lines};
-ghost use Rattle.abt_audit.specs.Stuck.{item_at, entry_at, line_at, stuck_lines};
+ghost use Rattle.abt_audit.specs.Stuck.{item_at, entry_at, line_at};
 
-use crate::protocol::add_protocol;
 use abt_entry::{entry_line, step_line};
 use abt_journal_text::{Run, Spot};
 use abt_model::{SourceEntry, SourceJournal};
-use abt_weave::{Actor, Stuck, WeaveFault};
+use abt_weave::{Actor, Stuck};
 use std::alloc::{AllocError, Global};
 
 #[tactic(auto, using(crate::proofs::Lists::got_map))]
@@ -28,7 +27,7 @@ pub(crate) fn item_at<T>(lists: &[Vec<T>], number: u16, place: u64) -> Option<&T
 }
 
 // The entry of a place in the journal of a source.
-fn entry_at(sources: &[SourceJournal], number: u16, place: u64) -> Option<&SourceEntry>
+pub(crate) fn entry_at(sources: &[SourceJournal], number: u16, place: u64) -> Option<&SourceEntry>
     ensures { option_map (λ entry. entry.now) result ≡ entry_at sources.now number place }
 {
     match sources.get(usize::from(number)) {
@@ -131,43 +130,9 @@ pub(crate) fn add_stuck(
     }
 }
 
-fn lines_of(
-    alloc: Global,
-    names: &[String],
-    run: &Run,
-    all: &[Stuck],
-) -> Result<Vec<u8>, AllocError>
-    ensures { IfOk result (λ text. text.items ≡ stuck_lines names.now run.now all.now) }
+// Where the entry of a place stands in the journal of a port.
+pub(crate) fn spot_of(run: &Run, port: u16, place: u64) -> Option<Spot>
+    ensures { result ≡ item_at (lists_of run.now.port_spots) port place }
 {
-    let mut text = Vec::new(alloc);
-    for stuck in all {
-        add_stuck(alloc, &mut text, names, run, *stuck)?;
-    }
-    Ok(text)
-}
-
-// The lines of the entries that a fault names, and the protocol's answer if one mismatches.
-pub(crate) fn stuck_text(
-    alloc: Global,
-    names: &[String],
-    run: &Run,
-    fault: &WeaveFault,
-) -> Result<Vec<u8>, AllocError>
-    requires { length run.now.journals ≡ length run.now.net.capacities }
-    ensures { IfOk result (λ text. text.items ≡ fault_lines names.now run.now fault.now) }
-{
-    match fault {
-        WeaveFault::Mismatch { actor, place } => {
-            let stuck = Stuck {
-                actor: *actor,
-                place: *place,
-            };
-            let mut text = Vec::new(alloc);
-            add_stuck(alloc, &mut text, names, run, stuck)?;
-            add_protocol(alloc, &mut text, run, *actor, *place)?;
-            Ok(text)
-        }
-        WeaveFault::NoOrder(all) => lines_of(alloc, names, run, all.as_slice()),
-        WeaveFault::Memory => Ok(Vec::new(alloc)),
-    }
+    item_at(run.port_spots.as_slice(), port, place).copied()
 }

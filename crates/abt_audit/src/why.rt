@@ -7,19 +7,19 @@ ghost use Rattle.abt_journal_text.specs.Books.{lists_of};
 ghost use Rattle.abt_model.specs.PortTable.{port_table};
 ghost use Rattle.abt_text.specs.Text.{◌⋅◌};
 ghost use Rattle.abt_audit.specs.Why as spec;
-ghost use Rattle.abt_audit.specs.Why.{Explains, IsFaultText, IsLastChange, IsWhy, IsWhyAt};
+ghost use Rattle.abt_audit.specs.Why.{IsLastChange, IsWhy, IsWhyAt};
 ghost use Rattle.abt_audit.specs.Stuck.{item_at};
 
 use crate::obeying::source_answer;
 use crate::protocol::{port_answer, serve};
-use crate::stuck::{item_at, name_of, stuck_text};
+use crate::stuck::{name_of, spot_of};
 use abt_journal::{Entry, PortInput, PortReply};
 use abt_journal_text::{Run, Spot};
 use abt_model::Outcome;
 use abt_net::Net;
 use abt_node::Port;
 use abt_reason::{Grounds, Numbers, push_reason};
-use abt_weave::{Actor, WeaveFault};
+use abt_weave::{Actor, Stuck};
 use abt_world::opening_port;
 use std::alloc::{AllocError, Global};
 
@@ -161,16 +161,15 @@ fn since_text(alloc: Global, names: &[String], spot: Option<Spot>) -> Result<Str
 }
 
 // Where the entry of a place stands in the journal of a port, if there is a place.
-fn spot_of(run: &Run, port: u16, place: Option<u64>) -> Option<Spot>
+fn spot_if(run: &Run, port: u16, place: Option<u64>) -> Option<Spot>
     ensures { result ≡ option_and_then (item_at (lists_of run.now.port_spots) port) place }
 {
-    let place = place?;
-    item_at(run.port_spots.as_slice(), port, place).copied()
+    spot_of(run, port, place?)
 }
 
 #[tactic(auto, using(crate::proofs::Whys::why_of_some))]
 // The line of a reason; none if there is no reason.
-fn why_line(alloc: Global, reason: &str, since: &str) -> Result<Vec<u8>, AllocError>
+pub(crate) fn why_line(alloc: Global, reason: &str, since: &str) -> Result<Vec<u8>, AllocError>
     ensures { IfOk result (λ line. line.items ≡ spec.why_line reason.now since.now) }
 {
     let mut line = Vec::new(alloc);
@@ -203,7 +202,7 @@ fn entry_why(
     let (numbers, last) = numbers_after(alloc, &run.net, port, earlier, &entry.input)?;
     let reply = port_answer(alloc, &run.net, port, entries, place)?;
     let reason = port_reason(alloc, numbers, reply)?;
-    let since = since_text(alloc, names, spot_of(run, port, last))?;
+    let since = since_text(alloc, names, spot_if(run, port, last))?;
     why_line(alloc, reason.as_str(), since.as_str())
 }
 
@@ -238,40 +237,18 @@ fn source_why(alloc: Global, run: &Run, source: u16, place: u64) -> Result<Vec<u
     why_line(alloc, reason.as_str(), "")
 }
 
-fn why_of(
+// Why the protocol answers as it does at the entry of an actor.
+pub(crate) fn why_of(
     alloc: Global,
     names: &[String],
     run: &Run,
-    fault: &WeaveFault,
+    stuck: Stuck,
 ) -> Result<Vec<u8>, AllocError>
     requires { length run.now.journals ≡ length run.now.net.capacities }
-    ensures { IfOk result (λ line. Explains names.now run.now fault.now line.items) }
+    ensures { IfOk result (λ line. IsWhy names.now run.now stuck.actor stuck.place line.items) }
 {
-    match fault {
-        WeaveFault::Mismatch {
-            actor: Actor::Port(port),
-            place,
-        } => port_why(alloc, names, run, *port, *place),
-        WeaveFault::Mismatch {
-            actor: Actor::Source(source),
-            place,
-        } => source_why(alloc, run, *source, *place),
-        WeaveFault::NoOrder(_) | WeaveFault::Memory => Ok(Vec::new(alloc)),
+    match stuck.actor {
+        Actor::Port(port) => port_why(alloc, names, run, port, stuck.place),
+        Actor::Source(source) => source_why(alloc, run, source, stuck.place),
     }
-}
-
-// The lines of the entries that a fault names, the protocol's answer, and why it is that.
-pub(crate) fn fault_text(
-    alloc: Global,
-    names: &[String],
-    run: &Run,
-    fault: &WeaveFault,
-) -> Result<Vec<u8>, AllocError>
-    requires { length run.now.journals ≡ length run.now.net.capacities }
-    ensures { IfOk result (λ text. IsFaultText names.now run.now fault.now text.items) }
-{
-    let mut text = stuck_text(alloc, names, run, fault)?;
-    let why = why_of(alloc, names, run, fault)?;
-    text.extend_from_slice(why.as_slice())?;
-    Ok(text)
 }

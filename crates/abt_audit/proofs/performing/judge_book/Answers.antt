@@ -3,13 +3,20 @@ use Rattle.std.proofs.Common.{◌∙◌, List, ap, refl, codes}
 use Rattle.abt_text.specs.Text.{Text, ◌⋅◌, newline}
 use Rattle.abt_journal_text.specs.declared.spot.Spot.{Spot}
 use Rattle.abt_audit.specs.Names.{note_lines}
-use Rattle.abt_audit.proofs.Judged.{whole, sources_stay, shown_so, stuck_so}
+use Rattle.abt_audit.proofs.Judged.{whole, sized, sources_stay, shown_so, stuck_so}
 use Rattle.abt_audit.proofs.performing.judge_book.Goals as goal
 
 pub audit-requires-clause-sources : goal.audit-requires-clause-sources
 audit-requires-clause-sources c =
     let told = rw c.in-Some.is at c.in_ok-told.ensures in
     sources_stay c.args.book c.in_ok-run.run'
+    (whole c.args.book c.in-Some.told c.in_ok-restarted.restarted c.in_ok-settled.settled c.in_ok-run.run' told c.in_ok-restarted.ensures
+    c.in_ok-settled.ensures c.in_ok-run.ensures)
+
+pub lines_of_fault-requires : goal.lines_of_fault-requires
+lines_of_fault-requires c =
+    let told = rw c.in-Some.is at c.in_ok-told.ensures in
+    sized c.args.book c.in_ok-run.run'
     (whole c.args.book c.in-Some.told c.in_ok-restarted.restarted c.in_ok-settled.settled c.in_ok-run.run' told c.in_ok-restarted.ensures
     c.in_ok-settled.ensures c.in_ok-run.ensures)
 
@@ -31,12 +38,12 @@ returns-in-Ok-with_notes c =
     let told = rw c.in-Some.is at c.in_ok-told.ensures in
     let w = whole c.args.book c.in-Some.told c.in_ok-restarted.restarted c.in_ok-settled.settled run told c.in_ok-restarted.ensures
     c.in_ok-settled.ensures c.in_ok-run.ensures in
-    let text = c.in-Ok-fault_text.lines.items in
+    let text = c.in-Ok-lines_of_fault.lines.items in
     let is =
     c.in-Ok-with_notes.ensures ∙ ap (λ (front : Text). front ⋅ note_lines c.as_slice-in-Err-2.result.now) c.as_slice-in-Err.ensures.value
     ∙ ap (λ (cuts : List Spot). text ⋅ note_lines cuts) c.as_slice-in-Err-2.ensures.value in
     record {
       ok = tt;
       err = stuck_so names c.args.book run why text c.in-Ok-with_notes.lines.items w c.in-Err.ensures.err c.in-Err.ensures.none
-          c.in-Ok-fault_text.ensures is;
+          c.in-Ok-lines_of_fault.ensures is;
     }

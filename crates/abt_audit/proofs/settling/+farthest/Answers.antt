@@ -4,6 +4,7 @@ use Rattle.abt_keep.specs.declared.plan.StorePlan.TheVariants.{FailsBefore, Fail
 use Rattle.abt_model.specs.declared.entry.SourceEntry.{SourceEntry}
 use Rattle.abt_audit.specs.Settling.{planned, IsFarthest}
 use Rattle.abt_audit.proofs.Settled.{farthest_none, farthest_past, farthest_whole, farthest_before, farthest_after, no_places, put_back}
+use Rattle.abt_audit.proofs.Stopped.{farthest_early}
 use Rattle.abt_audit.proofs.settling.+farthest.Goals as goal
 
 pub returns-in_default-clause-value : goal.returns-in_default-clause-value
@@ -43,6 +44,26 @@ returns-then-before-entries-clause-value n c =
     let all : c.farthest-before.result ≡ length entries = c.if-before-entries.true ∙ ap (λ (es : List SourceEntry). length es) back in
     subst (λ (ps : List ℕ). IsFarthest c.args.vc ps entries c.farthest-before.result) (sym list)
     (farthest_whole c.args.vc place rest entries c.farthest-before.result all before)
+
+pub returns-then-before-place-clause-same : goal.returns-then-before-place-clause-same
+returns-then-before-place-clause-same n c =
+    let place = c.in-Some.first.now in
+    let low : place < length c.args.entries.now = omega (arith, c.if-place-entries.false) in
+    let entries = c.args.entries.now in
+    let one = c.index-entries-place.result in
+    let back = put_back place entries one c.plan_of-kept.result FailsBefore c.plan_at.new.entries c.farthest-before.new.entries c.plan_at-2.new.entries low
+    c.plan_of-kept.ensures c.plan_at.ensures c.farthest-before.ensures.same c.plan_at-2.ensures in
+    back
+
+pub returns-then-before-place-clause-value : goal.returns-then-before-place-clause-value
+returns-then-before-place-clause-value n c =
+    let place = c.in-Some.first.now in
+    let rest = c.in-Some.rest.now in
+    let list : c.args.places.now ≡ place ∷ rest = c.in-Some.ensures.cases.0 in
+    let entries = c.args.entries.now in
+    let before = subst (λ (es : List SourceEntry). IsFarthest c.args.vc rest es c.farthest-before.result) c.plan_at.ensures c.farthest-before.ensures.value in
+    subst (λ (ps : List ℕ). IsFarthest c.args.vc ps entries c.farthest-before.result) (sym list)
+    (farthest_early c.args.vc place rest entries c.farthest-before.result (omega (arith, c.if-before-place.true)) before)
 
 pub returns-then-after-before-clause-same : goal.returns-then-after-before-clause-same
 returns-then-after-before-clause-same n c =

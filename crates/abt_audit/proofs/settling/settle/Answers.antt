@@ -9,11 +9,11 @@ loop-first-preserved-then-place-entries c =
     let place = c.in-Some.first.now in
     let rest = c.in-Some.rest.now in
     let now = c.loop-first.entries in
-    let plan = c.plan_for-plan.result in
+    let plan = c.plan_of_write-plan.result in
     let list : c.loop-first.left.now ≡ place ∷ rest = c.in-Some.ensures.cases.0 in
     let so = subst (λ (ps : List ℕ). IsUnderWay c.args.vc c.args.places.now c.args.entries.now ps now) list c.loop-first.invariant in
-    let best = subst (λ (ps : List ℕ). Prefers c.args.vc place ps now plan) c.ahead.ensures c.plan_for-plan.ensures.value in
-    subst (IsUnderWay c.args.vc c.args.places.now c.args.entries.now rest) (sym (c.plan_at.ensures ∙ ap (planned plan place) c.plan_for-plan.ensures.same))
+    let best = subst (λ (ps : List ℕ). Prefers c.args.vc place ps now plan) c.ahead.ensures c.plan_of_write-plan.ensures.value in
+    subst (IsUnderWay c.args.vc c.args.places.now c.args.entries.now rest) (sym (c.plan_at.ensures ∙ ap (planned plan place) c.plan_of_write-plan.ensures.same))
     (under_way_more c.args.vc c.args.places.now c.args.entries.now place rest now plan best so)
 
 pub loop-first-preserved : goal.loop-first-preserved

@@ -18,5 +18,5 @@ returns c =
     c.as_str.result.now c.as_str-2.result.now line.items
     (slice_get_read entries (length entries) c.args.place c.in-Some.entry.now refl there.3.0 there.1) refl c.in_ok-numbers.ensures.numbers c.in_ok-numbers.ensures.last c.in_ok-reply.ensures
     (c.as_str.ensures.value ∙ c.in_ok-reason.ensures)
-    (c.as_str-2.ensures.value ∙ c.in_ok-since.ensures ∙ ap (since_text names) c.spot_of.ensures) is)
+    (c.as_str-2.ensures.value ∙ c.in_ok-since.ensures ∙ ap (since_text names) c.spot_if.ensures) is)
     c.why_line.ensures
