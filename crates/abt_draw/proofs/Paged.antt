@@ -1,5 +1,6 @@
 -- Pictures within their files.
 use Rattle.std.proofs.Common.{◌≡◌, ◌≤◌, ◌∙◌, ap, sym, ◌++◌, [], append_assoc, codes}
+use Rattle.std.specs.Prelude.{Result, Ok, Err, IfOk}
 use Rattle.abt_text.specs.Text.{Text, ◌⋅◌}
 use Rattle.abt_chart.specs.declared.chart.Chart.{Chart}
 use Rattle.abt_draw.specs.Bands.{HasBands}
@@ -7,12 +8,13 @@ use Rattle.abt_draw.specs.Columns.{columns_of}
 use Rattle.abt_draw.specs.Elements.{document_text}
 use Rattle.abt_draw.specs.Escapes.{escaped}
 use Rattle.abt_draw.specs.Legend.{HasLegend}
+use Rattle.abt_draw.specs.Levels.{AreRows}
 use Rattle.abt_draw.specs.Lifelines.{HasLifelines}
-use Rattle.abt_draw.specs.Pictures.{IsSvg, IsPage, IsFile, IsSheetFile}
+use Rattle.abt_draw.specs.Pictures.{IsSvg, IsPage, IsFile, IsSheetFile, events_in}
 use Rattle.abt_draw.specs.Rows.{HasRows}
 use Rattle.abt_draw.specs.Stuck.{HasStuckRows}
 use Rattle.abt_draw.specs.Within.{Holds, Grows}
-use Rattle.abt_draw.specs.declared.place.Rows.{Rows}
+use Rattle.abt_draw.specs.declared.place.Span.{Span}
 use Rattle.abt_draw.specs.declared.plan.PicturePlan.{PicturePlan}
 use Rattle.abt_draw.specs.declared.point.Size.{Size}
 use Rattle.abt_draw.specs.declared.scene.Scene.{Scene}
@@ -61,11 +63,22 @@ page_made sheet words svg shown old new shown_is is_svg picture below grows = re
 }
 
 -- the file of a sheet of these things
-pub sheet_file : (plan : PicturePlan) (scene : Scene) (chart : Chart) (rows : Rows) (words text : Text) (sheet : Sheet) → IsFile plan.page sheet words text
-    → sheet.net.now ≡ scene.net.now → sheet.chart.now ≡ chart → sheet.columns.now ≡ columns_of scene.net.now plan.only.items → sheet.rows ≡ rows
-    → sheet.stuck.now ≡ scene.stuck.now → 460 ≤ sheet.step → IsSheetFile plan scene chart rows words text
-sheet_file plan scene chart rows words text sheet file net chart_is columns rows_are stuck apart = record {
+pub sheet_file : (plan : PicturePlan) (scene : Scene) (chart : Chart) (span : Span) (words text : Text) (sheet : Sheet) → IsFile plan.page sheet words text
+    → sheet.net.now ≡ scene.net.now → sheet.chart.now ≡ chart → sheet.columns.now ≡ columns_of scene.net.now plan.only.items → sheet.only.now ≡ plan.only.items
+    → AreRows plan.only.items scene.net.now sheet.columns.now span.first (events_in span scene.events.now) sheet.rows
+    → sheet.stuck.now ≡ scene.stuck.now → 460 ≤ sheet.step → IsSheetFile plan scene chart span words text
+sheet_file plan scene chart span words text sheet file net chart_is columns only rows stuck apart = record {
   sheet = sheet;
-  is_sheet = record { of_net = net; of_chart = chart_is; columns = columns; of_rows = rows_are; of_stuck = stuck; apart = apart };
+  is_sheet = record { of_net = net; of_chart = chart_is; columns = columns; of_only = only; of_rows = rows; of_stuck = stuck; apart = apart };
   file = file;
 }
+
+-- so of a file that may be made
+pub sheet_files : {T E : Type 0} (plan : PicturePlan) (scene : Scene) (chart : Chart) (span : Span) (words : Text) (bytes : T → Text) (r : Result T E)
+    (sheet : Sheet) → IfOk r (λ text. IsFile plan.page sheet words (bytes text))
+    → sheet.net.now ≡ scene.net.now → sheet.chart.now ≡ chart → sheet.columns.now ≡ columns_of scene.net.now plan.only.items → sheet.only.now ≡ plan.only.items
+    → AreRows plan.only.items scene.net.now sheet.columns.now span.first (events_in span scene.events.now) sheet.rows
+    → sheet.stuck.now ≡ scene.stuck.now → 460 ≤ sheet.step → IfOk r (λ text. IsSheetFile plan scene chart span words (bytes text))
+sheet_files plan scene chart span words bytes (Ok text) sheet file net chart_is columns only rows stuck apart =
+    sheet_file plan scene chart span words (bytes text) sheet file net chart_is columns only rows stuck apart
+sheet_files plan scene chart span words bytes (Err fault) sheet file net chart_is columns only rows stuck apart = tt

@@ -55,7 +55,7 @@ row_still sheet event told crossing line old new grows row =
 
 pub rows_still : (sheet : Sheet) (explanation old new : List ℕ) → Grows old new → HasRows sheet explanation old → HasRows sheet explanation new
 rows_still sheet explanation old new grows rows = record {
-  each = λ k told crossing is_told is_crossing. row_still sheet _ told crossing _ old new grows (rows.each k told crossing is_told is_crossing);
+  each = λ k told crossing is_told is_crossing kept. row_still sheet _ told crossing _ old new grows (rows.each k told crossing is_told is_crossing kept);
 }
 
 pub lifeline_still : (sheet : Sheet) (column : ℕ) (who : Actor) (old new : List ℕ) → Grows old new

@@ -8,7 +8,7 @@ use Rattle.abt_scenario.specs.declared.engine.EngineFault.TheVariants.{Memory}
 use Rattle.abt_draw.specs.Columns.{columns_of}
 use Rattle.abt_draw.specs.declared.fault.DrawFault.{DrawFault}
 use Rattle.abt_draw.specs.declared.fault.DrawFault.TheVariants.{Engine, Only, Range, Events, Numbers, Columns}
-use Rattle.abt_draw.specs.declared.place.Rows.{Rows}
+use Rattle.abt_draw.specs.declared.place.Span.{Span}
 use Rattle.abt_draw.specs.declared.plan.PicturePlan.{PicturePlan}
 
 -- the first event that is shown, counted from 1, and the last one
@@ -79,18 +79,18 @@ pub record IsPlaced (plan : PicturePlan) (net : Topology) (events : ℕ) : Type 
   pub named : IsNamed plan net events
   pub numbers : numbers_shown plan net events ≤ numbers_max
 
--- The rows are those of the events that are named.
-pub record AreRows (plan : PicturePlan) (net : Topology) (events : ℕ) (rows : Rows) : Type 0 where
+-- The span is that of the events that are named.
+pub record IsSpan (plan : PicturePlan) (net : Topology) (events : ℕ) (span : Span) : Type 0 where
   pub placed : IsPlaced plan net events
-  pub first : rows.first + 1 ≡ first_of plan
-  pub last : rows.first + rows.count ≡ last_of plan events
+  pub first : span.first + 1 ≡ first_of plan
+  pub last : span.first + span.count ≡ last_of plan events
 
 -- There is room for the columns too.
 pub record IsDrawn (plan : PicturePlan) (net : Topology) (events : List Event) : Type 0 where
   pub placed : IsPlaced plan net (length events)
   pub columns : columns_shown plan net ≤ 1024
 
--- why so many events have no rows: what is named comes first, and then the room for the bands
+-- why so many events aren't drawn: what is named comes first, and then the room for the bands
 abbrev pub IsUnplaced : PicturePlan → Topology → (events : ℕ) → DrawFault → Type 0
 IsUnplaced plan net events (Only conn) = IsUnknown plan.only.items (length net.conns) conn
 IsUnplaced plan net events (Range count) = AreKnown plan.only.items (length net.conns) × IsUndrawnRange plan events (Range count)

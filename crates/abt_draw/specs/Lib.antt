@@ -6,6 +6,7 @@ pub mod Elements
 pub mod Within
 pub mod Lines
 pub mod Marks
+pub mod Levels
 pub mod Legend
 pub mod Rows
 pub mod Lifelines

@@ -8,15 +8,16 @@ use Rattle.abt_model.specs.declared.event.Event.{Event}
 use Rattle.abt_reason.specs.Explanation.{IsExplanation}
 use Rattle.abt_draw.specs.Bands.{HasBands}
 use Rattle.abt_draw.specs.Columns.{columns_of}
-use Rattle.abt_draw.specs.Drawn.{AreRows, IsDrawn}
+use Rattle.abt_draw.specs.Drawn.{IsDrawn, IsSpan}
 use Rattle.abt_draw.specs.Elements.{document_text}
 use Rattle.abt_draw.specs.Escapes.{escaped}
 use Rattle.abt_draw.specs.Legend.{HasLegend}
+use Rattle.abt_draw.specs.Levels.{AreRows}
 use Rattle.abt_draw.specs.Lifelines.{HasLifelines}
 use Rattle.abt_draw.specs.Rows.{HasRows}
 use Rattle.abt_draw.specs.Stuck.{HasStuckRows}
 use Rattle.abt_draw.specs.Within.{Holds}
-use Rattle.abt_draw.specs.declared.place.Rows.{Rows}
+use Rattle.abt_draw.specs.declared.place.Span.{Span}
 use Rattle.abt_draw.specs.declared.plan.PicturePlan.{PicturePlan}
 use Rattle.abt_draw.specs.declared.point.Size.{Size}
 use Rattle.abt_draw.specs.declared.scene.Scene.{Scene}
@@ -60,32 +61,37 @@ abbrev pub IsFile : (page : Bool) → Sheet → (words text : Text) → Type 0
 IsFile true sheet words text = IsPage sheet words text
 IsFile false sheet words text = IsSvg sheet words text
 
--- The sheet is of this chart and these rows, and everybody along a path that is shown has a column; the columns stand apart.
-pub record IsSheet (plan : PicturePlan) (scene : Scene) (chart : Chart) (rows : Rows) (sheet : Sheet) : Type 0 where
+-- the events of a span
+abbrev pub events_in : Span → List Event → List Event
+events_in span events = take span.count (drop span.first events)
+
+-- The sheet is of this chart and has the rows of these events, and everybody along a path that is shown has a column; the columns stand apart.
+pub record IsSheet (plan : PicturePlan) (scene : Scene) (chart : Chart) (span : Span) (sheet : Sheet) : Type 0 where
   pub of_net : sheet.net.now ≡ scene.net.now
   pub of_chart : sheet.chart.now ≡ chart
   pub columns : sheet.columns.now ≡ columns_of scene.net.now plan.only.items
-  pub of_rows : sheet.rows ≡ rows
+  pub of_only : sheet.only.now ≡ plan.only.items
+  pub of_rows : AreRows plan.only.items scene.net.now sheet.columns.now span.first (events_in span scene.events.now) sheet.rows
   pub of_stuck : sheet.stuck.now ≡ scene.stuck.now
   pub apart : 460 ≤ sheet.step
 
-pub record IsSheetFile (plan : PicturePlan) (scene : Scene) (chart : Chart) (rows : Rows) (words text : Text) : Type 0 where
+pub record IsSheetFile (plan : PicturePlan) (scene : Scene) (chart : Chart) (span : Span) (words text : Text) : Type 0 where
   pub sheet : Sheet
-  pub is_sheet : IsSheet plan scene chart rows sheet
+  pub is_sheet : IsSheet plan scene chart span sheet
   pub file : IsFile plan.page sheet words text
 
--- The chart is that of the events that have rows, of a run with others before and behind them.
-abbrev pub IsChartOf : Topology → List Event → Rows → Chart → Type 0
-IsChartOf net events rows chart =
-    IsChart net (take rows.first events) (take rows.count (drop rows.first events)) (drop rows.count (drop rows.first events)) chart
+-- The chart is that of the events that are shown, of a run with others before and behind them.
+abbrev pub IsChartOf : Topology → List Event → Span → Chart → Type 0
+IsChartOf net events span chart =
+    IsChart net (take span.first events) (events_in span events) (drop span.count (drop span.first events)) chart
 
 -- What a plan asks for is drawn, and the text is the picture of it.
 pub record IsPicture (plan : PicturePlan) (scene : Scene) (text : Text) : Type 0 where
   pub drawn : IsDrawn plan scene.net.now scene.events.now
-  pub rows : Rows
-  pub are_rows : AreRows plan scene.net.now (length scene.events.now) rows
+  pub span : Span
+  pub is_span : IsSpan plan scene.net.now (length scene.events.now) span
   pub chart : Chart
-  pub is_chart : IsChartOf scene.net.now scene.events.now rows chart
+  pub is_chart : IsChartOf scene.net.now scene.events.now span chart
   pub words : Text
   pub in_words : IsInWords scene words
-  pub file : IsSheetFile plan scene chart rows words text
+  pub file : IsSheetFile plan scene chart span words text

@@ -1,5 +1,5 @@
 -- Where things stand in a picture: who has which column, and how far down an event is.
-use Rattle.std.specs.Prelude.{◌≡◌, ◌≢◌, ℕ, zero, suc, ◌+◌, ◌-◌, ◌*◌, ◌<◌, nat_lt, min, if◌then◌else◌, List, length, Option, None, Some, option_map, option_and_then, slice_get}
+use Rattle.std.specs.Prelude.{◌≡◌, ◌≢◌, ℕ, zero, suc, ◌+◌, ◌-◌, ◌*◌, ◌<◌, nat_lt, if◌then◌else◌, List, length, Option, None, Some, option_map, option_and_then, slice_get, unwrap_or}
 use Rattle.abt_net.specs.declared.conn.Conn.{Conn}
 use Rattle.abt_net.specs.Topology.{Topology, conn_at}
 use Rattle.abt_chart.specs.declared.message.Stop.{Stop}
@@ -28,9 +28,9 @@ pub record IsColumn (columns : List Actor) (who : Actor) (column : ℕ) : Type 0
 pub record HasNoColumn (columns : List Actor) (who : Actor) : Type 0 where
   pub none : (k : ℕ) → k < length columns → slice_get columns k ≢ Some who
 
--- how far down an event is: 0 before the first row, and then from 1 for the first row to one more than there are rows behind the last
+-- how far down an event is: 0 before the first that is shown, then from 1 for the first row to one more than there are rows behind the last
 abbrev pub level_of : Rows → (event : ℕ) → ℕ
-level_of rows event = if nat_lt event rows.first then 0 else min (event - rows.first + 1) (rows.count + 1)
+level_of rows event = if nat_lt event rows.first then 0 else unwrap_or (slice_get rows.levels.now (event - rows.first)) (rows.count + 1)
 
 -- in tenths of a unit: the middle of a column, and that of a row
 abbrev pub x_of : (left step column : ℕ) → ℕ

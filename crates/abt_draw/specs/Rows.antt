@@ -1,6 +1,6 @@
 -- The rows of a picture (docs/PICTURES.md, "Drawing"): each event that is shown has one, with all that it brings and
 -- sends, and its outcome.
-use Rattle.std.specs.Prelude.{◌≡◌, ◌⊎◌, ℕ, ◌+◌, ◌-◌, ◌/◌, ◌<◌, ◌||◌, nat_lt, false, if◌then◌else◌, [], Option, None, Some, IfSome, codes, slice_get}
+use Rattle.std.specs.Prelude.{◌≡◌, ◌⊎◌, ℕ, ◌+◌, ◌-◌, ◌/◌, ◌<◌, ◌||◌, nat_lt, false, IsTrue, if◌then◌else◌, [], Option, None, Some, IfSome, codes, slice_get}
 use Rattle.abt_text.specs.Text.{Text, ◌⋅◌, decimal}
 use Rattle.abt_chart.specs.declared.arrow.Arrival.{Arrival}
 use Rattle.abt_chart.specs.declared.arrow.Departure.{Departure}
@@ -9,6 +9,7 @@ use Rattle.abt_chart.specs.declared.message.Kind.{Kind}
 use Rattle.abt_chart.specs.declared.message.Kind.TheVariants.{Request, Yes, No}
 use Rattle.abt_chart.specs.declared.told.Told.{Told}
 use Rattle.abt_draw.specs.Elements.{line_text, group_text}
+use Rattle.abt_draw.specs.Levels.{has_row}
 use Rattle.abt_draw.specs.Lines.{line_at}
 use Rattle.abt_draw.specs.Marks.{mark_of, actor_of, shape_text}
 use Rattle.abt_draw.specs.Placed.{Stands, IsAbsent, IsArrow, IsLost, IsUnseen}
@@ -102,8 +103,8 @@ pub record HasRow (sheet : Sheet) (event : ℕ) (told : Told) (crossing : Crossi
   pub group : Holds text (group_text class (codes "e" ⋅ decimal (event + 1)) line content)
   pub drawn : DrawsEvent sheet event told crossing content
 
--- Each event that is shown has its row.
+-- Each event that is shown has its row, unless it is on a lifeline that isn't.
 pub record HasRows (sheet : Sheet) (explanation text : Text) : Type 0 where
   pub each : (k : ℕ) (told : Told) (crossing : Crossing) → slice_get sheet.chart.now.told (sheet.rows.first + k) ≡ Some told
-      → slice_get sheet.chart.now.crossings k ≡ Some crossing
+      → slice_get sheet.chart.now.crossings k ≡ Some crossing → IsTrue (has_row sheet.only.now sheet.net.now sheet.columns.now told.event)
       → HasRow sheet (sheet.rows.first + k) told crossing (line_at explanation (sheet.rows.first + k)) text

@@ -49,7 +49,7 @@ pub struct Lost {
 pub fn arrow_of(
     net: &Net,
     columns: &[Actor],
-    rows: &Rows,
+    rows: &Rows<'_>,
     event: usize,
     arrival: &Arrival,
 ) -> Option<Arrow>
@@ -80,7 +80,7 @@ pub fn arrow_of(
 pub fn lost_of(
     net: &Net,
     columns: &[Actor],
-    rows: &Rows,
+    rows: &Rows<'_>,
     event: usize,
     departure: &Departure,
 ) -> Option<Lost>
@@ -116,7 +116,7 @@ pub(crate) fn standing(columns: &[Actor], who: Option<Actor>) -> Option<u32>
 }
 
 // The level of the event that sent a message: above the first row, if it isn't known.
-fn level_from(rows: &Rows, sent: Option<usize>) -> u32
+fn level_from(rows: &Rows<'_>, sent: Option<usize>) -> u32
     requires { rows.now.count < u32.MAX }
     ensures { result ≡ spec.level_from rows.now sent }
 {

@@ -39,7 +39,7 @@ pub(crate) fn edge_of(sheet: &Sheet<'_>, frame: usize) -> u64 {
         .width()
         .saturating_sub(AXIS_LEFT)
         .saturating_sub(AXIS_RIGHT);
-    let frames = u64::from(sheet.rows.count).saturating_add(1);
+    let frames = (sheet.rows.levels.len() as u64).saturating_add(1);
     AXIS_LEFT.saturating_add(width.saturating_mul(frame as u64) / frames)
 }
 
@@ -86,7 +86,7 @@ fn push_scale(sheet: &Sheet<'_>, out: &mut String, band: Band) -> Result<(), All
     push_label(alloc, out, "scale", Point { x, y }, "0")?;
     let from = Point { x: AXIS_LEFT, y };
     let to = Point {
-        x: edge_of(sheet, (sheet.rows.count as usize).saturating_add(1)),
+        x: edge_of(sheet, sheet.rows.levels.len().saturating_add(1)),
         y,
     };
     push_line(alloc, out, "ground", from, to)

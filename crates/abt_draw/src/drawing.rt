@@ -2,18 +2,21 @@
 ghost use Rattle.std.specs.Prelude.{◌≡◌, ◌↔◌, ◌++◌, ◌+◌, ◌<◌, ◌≤◌, length, string_bytes, IfOk, IfErr, IfSome, IfNone, OnOk, IsErrOf};
 ghost use Rattle.abt_text.specs.Streams.{ConsumesAtMost, text_max};
 ghost use Rattle.abt_draw.specs.Columns.{columns_of as columns_shown};
-ghost use Rattle.abt_draw.specs.Drawn.{AreRows, IsUndrawn, IsUnplaced, IsUndrawnRange, IsShownRange, IsFoundFirst, AreKnown, IsUnknown};
+ghost use Rattle.abt_draw.specs.Drawn.{IsSpan, IsUndrawn, IsUnplaced, IsUndrawnRange, IsShownRange, IsFoundFirst, AreKnown, IsUnknown};
 ghost use Rattle.abt_draw.specs.Drawn as drawn;
 ghost use Rattle.abt_draw.specs.Drawings.{IsDrawing, IsNoDrawing};
-ghost use Rattle.abt_draw.specs.Pictures.{IsPicture, IsSheetFile, IsInWords, stuck_lines};
+ghost use Rattle.abt_draw.specs.Levels.{AreRows};
+ghost use Rattle.abt_draw.specs.Pictures.{IsPicture, IsSheetFile, IsInWords, events_in, stuck_lines};
 ghost use Rattle.abt_draw.specs.declared.fault.DrawFault.{DrawFault as FaultSpec};
 
 use crate::fault::DrawFault;
+use crate::level::levels_of;
 use crate::page::file_of;
 use crate::plan::PicturePlan;
 use crate::sheet::{Sheet, left_most, left_of, step_of};
-use crate::{Rows, Scene, StuckMark, columns_of};
+use crate::{Actor, Rows, Scene, Span, StuckMark, columns_of};
 use abt_chart::{Chart, chart_of};
+use abt_model::Event;
 use abt_net::Net;
 use abt_places::read_placed;
 use abt_reason::explanation_of;
@@ -62,13 +65,13 @@ pub fn picture_of(alloc: Global, plan: &PicturePlan, scene: &Scene<'_>) -> Resul
     ensures faults { (fault : FaultSpec) → IsFoundFirst fault →
         IsErrOf result fault ↔ IsUndrawn plan.now scene.now.net.now scene.now.events.now fault }
 {
-    let rows = rows_of(plan, scene.net, scene.events.len())?;
-    drawn_in(alloc, plan, scene, rows)
+    let span = span_of(plan, scene.net, scene.events.len())?;
+    drawn_in(alloc, plan, scene, span)
 }
 
-// The rows that a plan asks for, of so many events over a net, if there is room for their bands.
-fn rows_of(plan: &PicturePlan, net: &Net, events: usize) -> Result<Rows, DrawFault>
-    ensures ok { IfOk result (AreRows plan.now net.now events) }
+// The span that a plan asks for, of so many events over a net, if there is room for its bands.
+fn span_of(plan: &PicturePlan, net: &Net, events: usize) -> Result<Span, DrawFault>
+    ensures ok { IfOk result (IsSpan plan.now net.now events) }
     ensures err { IfErr result (IsUnplaced plan.now net.now events) }
 {
     if let Some(conn) = unknown_in(plan.only.as_slice(), net.conns().len()) {
@@ -78,28 +81,28 @@ fn rows_of(plan: &PicturePlan, net: &Net, events: usize) -> Result<Rows, DrawFau
     if numbers_of(net, last - first) > NUMBERS_MAX {
         return Err(DrawFault::Numbers);
     }
-    Ok(Rows {
+    Ok(Span {
         first,
         count: (last - first) as u32,
     })
 }
 
-// The text of the picture that has these rows.
+// The text of the picture of a span of the events.
 fn drawn_in(
     alloc: Global,
     plan: &PicturePlan,
     scene: &Scene<'_>,
-    rows: Rows,
+    span: Span,
 ) -> Result<String, DrawFault>
-    requires { AreRows plan.now scene.now.net.now (length scene.now.events.now) rows }
+    requires { IsSpan plan.now scene.now.net.now (length scene.now.events.now) span }
     ensures ok { IfOk result (λ text. IsPicture plan.now scene.now (string_bytes text)) }
     ensures err { IfErr result (IsUndrawn plan.now scene.now.net.now scene.now.events.now) }
 {
-    let (before, rest) = scene.events.split_at(rows.first);
-    let (shown, after) = rest.split_at(rows.count as usize);
+    let (before, rest) = scene.events.split_at(span.first);
+    let (shown, after) = rest.split_at(span.count as usize);
     let chart = chart_of(alloc, scene.net, before, shown, after)?;
     let words = words_of(alloc, scene)?;
-    match text_of(alloc, plan, scene, &chart, rows, words.as_str())? {
+    match text_of(alloc, plan, scene, &chart, span, shown, words.as_str())? {
         Some(text) => Ok(text),
         None => Err(DrawFault::Columns),
     }
@@ -139,29 +142,61 @@ fn unknown_in(only: &[u16], conns: usize) -> Option<u16>
     None
 }
 
-// The text of a picture of these rows; None if there are too many columns.
+// The text of a picture of a span of the events, which are these; None if there are too many columns.
 fn text_of(
     alloc: Global,
     plan: &PicturePlan,
     scene: &Scene<'_>,
     chart: &Chart,
-    rows: Rows,
+    span: Span,
+    shown: &[Event],
     explanation: &str,
 ) -> Result<Option<String>, AllocError>
-    requires { rows.count ≤ 2000 }
+    requires few { length shown.now ≤ 2000 }
+    requires shown { shown.now ≡ events_in span scene.now.events.now }
     ensures some { IfOk result (λ found. IfSome found
-        (λ text. IsSheetFile plan.now scene.now chart.now rows explanation.now (string_bytes text))) }
+        (λ text. IsSheetFile plan.now scene.now chart.now span explanation.now (string_bytes text))) }
     ensures few { IfOk result (λ found. IfSome found
         (λ _. length (columns_shown scene.now.net.now plan.now.only.items) ≤ 1024)) }
     ensures none { IfOk result (λ found. IfNone found
         (1024 < length (columns_shown scene.now.net.now plan.now.only.items))) }
 {
-    let Some(columns) = columns_of(alloc, scene.net, plan.only.as_slice())? else {
+    let only = plan.only.as_slice();
+    let Some(columns) = columns_of(alloc, scene.net, only)? else {
         return Ok(None);
     };
+    let columns = columns.as_slice();
+    let (levels, count) = levels_of(alloc, only, scene.net, columns, shown)?;
+    let rows = Rows {
+        first: span.first,
+        count,
+        levels: levels.as_slice(),
+    };
+    let text = sheet_text(alloc, plan, scene, chart, columns, rows, span, explanation)?;
+    Ok(Some(text))
+}
+
+// The text of a picture of a span of the events, whose columns and rows these are.
+fn sheet_text<'a>(
+    alloc: Global,
+    plan: &'a PicturePlan,
+    scene: &'a Scene<'a>,
+    chart: &'a Chart,
+    columns: &'a [Actor],
+    rows: Rows<'a>,
+    span: Span,
+    explanation: &str,
+) -> Result<String, AllocError>
+    requires few { (length columns.now ≤ 1024) × (rows.count ≤ 2000) }
+    requires columns { columns.now ≡ columns_shown scene.now.net.now plan.now.only.items }
+    requires rows { AreRows plan.now.only.items scene.now.net.now columns.now span.first
+        (events_in span scene.now.events.now) rows }
+    ensures { IfOk result
+        (λ text. IsSheetFile plan.now scene.now chart.now span explanation.now (string_bytes text)) }
+{
     let step = step_of(columns.len());
     let left = if scene.stuck.is_empty() {
-        left_of(alloc, chart, rows, step, explanation)?
+        left_of(alloc, chart, span, step, explanation)?
     } else {
         left_most(step)
     };
@@ -169,13 +204,14 @@ fn text_of(
         alloc,
         net: scene.net,
         chart,
-        columns: columns.as_slice(),
+        columns,
         rows,
+        only: plan.only.as_slice(),
         stuck: scene.stuck,
         left,
         step,
     };
-    Ok(Some(file_of(&sheet, plan.page, explanation)?))
+    file_of(&sheet, plan.page, explanation)
 }
 
 // The first event that is shown, counted from 0, and the one behind the last.

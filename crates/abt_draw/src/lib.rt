@@ -10,6 +10,7 @@ mod element;
 mod escape;
 mod fault;
 mod legend;
+mod level;
 mod lifeline;
 mod mark;
 mod page;
@@ -37,7 +38,7 @@ pub use element::{
 };
 pub use escape::escaped;
 pub use fault::{DrawFault, tell_draw_fault};
-pub use place::{Rows, level_of, x_of, y_of};
+pub use place::{Rows, Span, level_of, x_of, y_of};
 pub use plan::PicturePlan;
 pub use point::{Point, Size, Tenths};
 pub use scene::{Scene, StuckMark};

@@ -9,7 +9,7 @@ use crate::picture::{axis_of, push_picture};
 use crate::script::{KEYS, PAGE, script};
 use crate::sheet::Sheet;
 use crate::style::{definitions, shapes};
-use crate::{Picture, Point, Size, escaped, push_document, push_line};
+use crate::{Picture, Point, Rows, Size, escaped, push_document, push_line};
 use std::alloc::{AllocError, Global};
 
 /// The text of a picture: a page, or an SVG text. The explanation is that of the whole run.
@@ -81,7 +81,7 @@ fn title_of(sheet: &Sheet<'_>) -> Result<String, AllocError> {
         return format!(in alloc; "A run without events{behind}");
     }
     let first = (sheet.rows.first as u64).saturating_add(1);
-    let last = (sheet.rows.first as u64).saturating_add(u64::from(sheet.rows.count));
+    let last = (sheet.rows.first as u64).saturating_add(sheet.rows.levels.len() as u64);
     format!(in alloc; "Events {first} to {last} of a run of {events}{behind}")
 }
 
@@ -94,15 +94,16 @@ fn html_of(sheet: &Sheet<'_>, explanation: &str) -> Result<String, AllocError>
     let title = escaped(alloc, title.as_str())?;
     let picture = svg_of(sheet, explanation)?;
     let mut out = String::new(alloc);
-    push_steps(&mut out, title.as_str(), sheet.rows.count)?;
+    push_steps(&mut out, title.as_str(), &sheet.rows)?;
     push_both(alloc, &mut out, picture.as_str(), explanation)?;
     let script = script();
     write!(out, "<script>{script}</script>\n</body>\n</html>\n")?;
     Ok(out)
 }
 
-// What stands above the picture: the title, already escaped, and what steps through so many events.
-fn push_steps(out: &mut String, title: &str, count: u32) -> Result<(), AllocError> {
+// What stands above the picture: the title, already escaped, and what steps through the rows.
+fn push_steps(out: &mut String, title: &str, rows: &Rows<'_>) -> Result<(), AllocError> {
+    let (count, first, shown) = (rows.count, rows.first, rows.levels.len());
     out.push_str(HEAD)?;
     write!(
         out,
@@ -111,7 +112,7 @@ fn push_steps(out: &mut String, title: &str, count: u32) -> Result<(), AllocErro
     out.push_str(KEYS)?;
     write!(
         out,
-        "<div class='steps'>\n<button id='back'>Back</button>\n<input id='slider' type='range' min='1' max='{count}' value='1' aria-label='Event'>\n"
+        "<div class='steps'>\n<button id='back'>Back</button>\n<input id='slider' type='range' min='1' max='{count}' value='1' data-before='{first}' data-shown='{shown}' aria-label='Event'>\n"
     )?;
     out.push_str(
         "<button id='on'>On</button>\n<output id='now' aria-live='polite'></output>\n</div>\n",

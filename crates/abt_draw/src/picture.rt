@@ -1,8 +1,9 @@
 //! Whole pictures.
-ghost use Rattle.std.specs.Prelude.{◌≡◌, ◌+◌, ◌<◌, ℕ, Some, OnOk, slice_get, string_bytes};
+ghost use Rattle.std.specs.Prelude.{◌≡◌, ◌+◌, ◌<◌, ℕ, IsTrue, Some, OnOk, slice_get, string_bytes};
 ghost use Rattle.abt_chart.specs.declared.crossings.Crossing.{Crossing};
 ghost use Rattle.abt_draw.specs.Bands.{HasBands, HasPortBand, HasPortBands, HasSourceBand, HasSourceBands};
 ghost use Rattle.abt_draw.specs.Legend.{HasLegend};
+ghost use Rattle.abt_draw.specs.Levels as levels;
 ghost use Rattle.abt_draw.specs.Lifelines.{HasLifelines};
 ghost use Rattle.abt_draw.specs.Rows.{HasRow, HasRows};
 ghost use Rattle.abt_draw.specs.Stuck.{HasStuckRows};
@@ -11,6 +12,7 @@ ghost use Rattle.abt_draw.specs.declared.actor.Actor.TheVariants.{Port, Source};
 
 use crate::band::{BAND_STEP, Band, edge_of, push_ground};
 use crate::legend::push_legend;
+use crate::level::has_row;
 use crate::lifeline::push_lifelines;
 use crate::rates::{most_of, push_rates};
 use crate::row::push_row;
@@ -56,7 +58,7 @@ fn push_rows(sheet: &Sheet<'_>, out: &mut String, explanation: &str) -> Result<(
     out.push_str(notes.as_str())
 }
 
-// The row of an event, if it is shown.
+// The row of an event, if it is shown and has one.
 #[tactic(auto, using(crate::proofs::Within::growing))]
 fn push_shown(
     sheet: &Sheet<'_>,
@@ -70,9 +72,10 @@ fn push_shown(
     ensures grows { OnOk result (Grows (string_bytes out.old) (string_bytes out.new)) }
     ensures row { (k : ℕ) (crossing : Crossing) → sheet.now.rows.first + k ≡ event →
         slice_get sheet.now.chart.now.crossings k ≡ Some crossing →
+        IsTrue (levels.has_row sheet.now.only.now sheet.now.net.now sheet.now.columns.now told.now.event) →
         OnOk result (HasRow sheet.now event told.now crossing line.now (string_bytes out.new)) }
 {
-    if event < sheet.rows.first {
+    if event < sheet.rows.first || !has_row(sheet.only, sheet.net, sheet.columns, &told.event) {
         return Ok(());
     }
     let crossings = sheet.chart.crossings.as_slice();
@@ -185,13 +188,13 @@ fn push_axis(sheet: &Sheet<'_>, out: &mut String, lower: u64) -> Result<(), Allo
     let alloc = sheet.alloc;
     let upper = sheet.bottom().saturating_add(BAND_STEP - BAND_HEIGHT);
     let mut free = 0;
-    for row in 0..sheet.rows.count {
-        let x = edge_of(sheet, (row as usize).saturating_add(1));
+    for place in 0..sheet.rows.levels.len() {
+        let x = edge_of(sheet, place.saturating_add(1));
         if x < free {
             continue;
         }
         let number = (sheet.rows.first as u64)
-            .saturating_add(u64::from(row))
+            .saturating_add(place as u64)
             .saturating_add(1);
         let words = format!(in alloc; "{number}")?;
         let from = Point { x, y: upper };

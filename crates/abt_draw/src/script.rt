@@ -46,7 +46,10 @@ const SCRIPT: &str = "
   var at = -1;
   function textOf(group) { return group.querySelector('title').textContent; }
   function number(one, name) { return Number(one.getAttribute(name)); }
-  function edge(frame) { return 100 + (width - 120) * frame / (events.length + 1); }
+  var before = Number(slider.dataset.before);
+  var shown = Number(slider.dataset.shown);
+  function edge(frame) { return 100 + (width - 120) * frame / (shown + 1); }
+  function frameOf(group) { return Number(group.id.slice(1)) - before; }
 
   // The bands by their names, each with the parts that are told in it.
   var parts = all('rect.hold, line.capacity, line.rate, line.least').filter(function (one) { return one.querySelector('title'); });
@@ -73,7 +76,7 @@ const SCRIPT: &str = "
       });
     });
     var title = document.createElement('h2');
-    title.textContent = frame === 0 ? 'Held before the first event' : 'Held after event ' + events[frame - 1].id.slice(1);
+    title.textContent = frame === 0 ? 'Held before the first event' : 'Held after event ' + (before + frame);
     held.replaceChildren(title, table);
   }
 
@@ -103,10 +106,10 @@ const SCRIPT: &str = "
     slider.value = at + 1;
     slider.setAttribute('aria-valuetext', textOf(events[at]));
     told.textContent = textOf(events[at]);
-    cursor.setAttribute('x1', edge(at + 1));
-    cursor.setAttribute('x2', edge(at + 1));
+    cursor.setAttribute('x1', edge(frameOf(events[at])));
+    cursor.setAttribute('x2', edge(frameOf(events[at])));
     cursor.style.visibility = 'visible';
-    tell(at + 1);
+    tell(frameOf(events[at]));
     if (moves) { events[at].scrollIntoView({ block: 'nearest' }); }
   }
   slider.addEventListener('input', function () { show(slider.value - 1, true); });

@@ -3,7 +3,7 @@ ghost use Rattle.std.specs.Prelude.{◌≡◌, ◌≤◌, length};
 ghost use Rattle.abt_draw.specs.Lines.{first_line, behind_line};
 
 use crate::words::answer_in;
-use crate::{Actor, Point, Rows, Spot, StuckMark, x_of, y_of};
+use crate::{Actor, Point, Rows, Span, Spot, StuckMark, x_of, y_of};
 use abt_chart::Chart;
 use abt_format::push_event;
 use abt_net::Net;
@@ -34,7 +34,9 @@ pub(crate) struct Sheet<'a> {
     pub(crate) net: &'a Net,
     pub(crate) chart: &'a Chart,
     pub(crate) columns: &'a [Actor],
-    pub(crate) rows: Rows,
+    pub(crate) rows: Rows<'a>,
+    /// The connections that are shown; all, if none is named.
+    pub(crate) only: &'a [u16],
     /// The entries at which journals are stuck, each with a row below those of the events.
     pub(crate) stuck: &'a [StuckMark<'a>],
     /// The middle of the first column.
@@ -126,13 +128,13 @@ impl Sheet<'_> {
 pub(crate) fn left_of(
     alloc: Global,
     chart: &Chart,
-    rows: Rows,
+    span: Span,
     step: u32,
     explanation: &str,
 ) -> Result<u32, AllocError> {
     let mut signs: usize = 16;
     for (event, told) in chart.told.as_slice().iter().enumerate() {
-        if event < rows.first || event - rows.first >= rows.count as usize {
+        if event < span.first || event - span.first >= span.count as usize {
             continue;
         }
         let mut words = String::new(alloc);
@@ -143,7 +145,7 @@ pub(crate) fn left_of(
     for event in 0..chart.told.len() {
         let (line, behind) = line_of(rest);
         rest = behind;
-        if event >= rows.first && event - rows.first < rows.count as usize {
+        if event >= span.first && event - span.first < span.count as usize {
             signs = signs.max(answer_in(line).len());
         }
     }

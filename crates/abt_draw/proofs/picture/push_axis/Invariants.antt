@@ -3,5 +3,5 @@ use Rattle.std.proofs.Common.{string_bytes}
 use Rattle.abt_draw.specs.Within.{Grows}
 use Rattle.abt_draw.proofs.picture.push_axis.Given as goal
 
-abbrev pub invariant-loop-row : goal.invariant-loop-row
-invariant-loop-row l = Grows (string_bytes l.initial.out) (string_bytes l.out)
+abbrev pub invariant-loop-place : goal.invariant-loop-place
+invariant-loop-place l = Grows (string_bytes l.initial.out) (string_bytes l.out)

@@ -1,9 +1,10 @@
 -- An event more, and its line.
-use Rattle.std.proofs.Common.{◌≡◌, ◌∙◌, ◌⊎◌, inl, inr, ◌+◌, ◌<◌, ℕ, List, ap, sym, add-one, arith, rules, length, get_or, string_bytes}
-use Rattle.std.specs.Prelude.{Some, slice_get}
+use Rattle.std.proofs.Common.{◌≡◌, ◌∙◌, ◌⊎◌, inl, inr, ◌+◌, ◌<◌, ℕ, List, ap, sym, subst, add-one, arith, rules, length, get_or, string_bytes}
+use Rattle.std.specs.Prelude.{IsTrue, Some, slice_get}
 use Rattle.std.proofs.lemmas.Option.{get_or_from_slice_get, slice_get_within}
 use Rattle.abt_chart.specs.declared.crossings.Crossing.{Crossing}
 use Rattle.abt_chart.specs.declared.told.Told.{Told}
+use Rattle.abt_draw.specs.Levels.{has_row}
 use Rattle.abt_draw.specs.Lines.{line_at, first_line, behind_line, behind_lines}
 use Rattle.abt_draw.specs.Rows.{HasRow}
 use Rattle.abt_draw.specs.declared.sheet.Sheet.{Sheet}
@@ -39,22 +40,23 @@ loop-event-preserved c =
       search rules,
       c.line_of.ensures.behind ∙ ap behind_line all.1 ∙ behind_more text event,
       grows_on _ _ _ all.2 grows,
-      λ k told crossing low is_told is_crossing. elim (before_or_last (sheet.rows.first + k) event low) [
-        | inl before ↦ row_still sheet (sheet.rows.first + k) told crossing _ _ _ grows (all.3 k told crossing before is_told is_crossing)
-        | inr last ↦ row_last sheet event (sheet.rows.first + k) told c.index-events-event.result crossing (line_at text (sheet.rows.first + k)) c.line_of.result.0.now
-            (string_bytes c.push_shown.new.out) last
-            (told_at c.as_slice-events.result.now sheet.chart.now.told event (sheet.rows.first + k) told c.index-events-event.result c.as_slice-events.ensures last
-            c.index-events-event.is is_told)
-            (line ∙ ap (line_at text) (sym last)) (c.in_ok-push_shown.ensures.row k crossing last is_crossing)
+      λ k told crossing low is_told is_crossing kept. elim (before_or_last (sheet.rows.first + k) event low) [
+        | inl before ↦ row_still sheet (sheet.rows.first + k) told crossing _ _ _ grows (all.3 k told crossing before is_told is_crossing kept)
+        | inr last ↦ (
+            let its : c.index-events-event.result ≡ told = told_at c.as_slice-events.result.now sheet.chart.now.told event (sheet.rows.first + k) told
+            c.index-events-event.result c.as_slice-events.ensures last c.index-events-event.is is_told in
+            let here = subst (λ (one : Told). IsTrue (has_row sheet.only.now sheet.net.now sheet.columns.now one.event)) (sym its) kept in
+            row_last sheet event (sheet.rows.first + k) told c.index-events-event.result crossing (line_at text (sheet.rows.first + k)) c.line_of.result.0.now
+            (string_bytes c.push_shown.new.out) last its (line ∙ ap (line_at text) (sym last)) (c.in_ok-push_shown.ensures.row k crossing last is_crossing here))
       ],
     )
 
 pub returns-clause-rows : goal.returns-clause-rows
 returns-clause-rows c = on_ok_weaker c.push_str.result
     (λ more. rows_still c.args.sheet.now c.args.explanation.now _ _ more (record {
-      each = λ k told crossing is_told is_crossing.
+      each = λ k told crossing is_told is_crossing kept.
           let low = slice_get_within c.args.sheet.now.chart.now.told (c.args.sheet.now.rows.first + k) told is_told in
-          c.loop-event.invariant.3 k told crossing (omega (arith, low, c.loop-event-test.false, ap length c.as_slice-events.ensures)) is_told is_crossing;
+          c.loop-event.invariant.3 k told crossing (omega (arith, low, c.loop-event-test.false, ap length c.as_slice-events.ensures)) is_told is_crossing kept;
     }))
     (grows_pushed c.push_str.result _ _ _ c.push_str.ensures.bytes)
 
