@@ -1,3 +1,4 @@
 mod Places
 mod Quotients
+mod Scales
 mod ReadBack

@@ -107,7 +107,7 @@ exactly quantity rate below is whole =
     (below.holds.0, ap (λ x. x * quantity.under) (sym is) ∙ mul_comm (quantity.over / quantity.under) quantity.under ∙ times)
 
 -- just a quantity is the rate below it, if any
-same_rate : (quantity : Quantity) (rate units : ℕ) → 0 < quantity.under → IsBelow quantity rate → IsExactly quantity units → units ≡ rate
+pub same_rate : (quantity : Quantity) (rate units : ℕ) → 0 < quantity.under → IsBelow quantity rate → IsExactly quantity units → units ≡ rate
 same_rate quantity rate units positive below is =
     let times = is.1 in
     let at_most = below.greatest units (is.0, omega (arith, times)) in

@@ -1,4 +1,5 @@
 pub mod Quantity
+pub mod Durations
 pub mod Nearest
 pub mod CodeText
 pub mod CodeObjects

@@ -1,10 +1,11 @@
 -- The rates that codes say, nearest to a quantity.
-use Rattle.std.specs.Prelude.{◌≡◌, ℕ, ◌*◌, ◌<◌, ◌≤◌, ◌↔◌, Option, IsNone, IfSome, IsSomeAnd, MatchOption}
+use Rattle.std.specs.Prelude.{◌≡◌, ℕ, ◌*◌, ◌<◌, ◌≤◌, ◌↔◌, true, IsTrue, Option, IsNone, IfSome, IsSomeAnd, MatchOption}
 use Rattle.abt_rate.specs.Extremes.{IsGreatest, IsLeast}
 use Rattle.abt_rate.specs.Rate.{IsRate, greatest_units}
 use Rattle.abt_format.specs.Values.{rate_of}
 use Rattle.abt_text.specs.Text.{Text}
 use Rattle.abt_codes.specs.Quantity.{quantity_in}
+use Rattle.abt_codes.specs.declared.nearest.SaidRate.{SaidRate}
 use Rattle.abt_codes.specs.declared.quantity.Quantity.{Quantity}
 
 -- A number of units is at most, or at least, the quantity.
@@ -27,6 +28,16 @@ pub record IsAbove (quantity : Quantity) (found : Option ℕ) : Type 0 where
 abbrev pub IsExactly : Quantity → ℕ → Type 0
 IsExactly quantity units = IsRate units × (units * quantity.under ≡ quantity.over)
 
--- The rate that a word says: that of a code, or just that of a rate in words.
-abbrev pub IsSaid : Text → ℕ → Type 0
-IsSaid word units = MatchOption (rate_of word) (IsSomeAnd (quantity_in word) (λ quantity. IsExactly quantity units)) (λ rate. rate ≡ units)
+-- the rate of a code
+pub record IsCodes (units : ℕ) (said : SaidRate) : Type 0 where
+  pub rate : said.rate ≡ units
+  pub exact : said.is_exact ≡ true
+
+-- the greatest rate that isn't above a quantity, and whether it is just that
+pub record IsNearest (quantity : Quantity) (said : SaidRate) : Type 0 where
+  pub below : IsBelow quantity said.rate
+  pub exact : IsTrue said.is_exact ↔ IsExactly quantity said.rate
+
+-- The rate that a word says: that of a code, or else the greatest of a code that isn't above a rate in words.
+abbrev pub IsSaid : Text → SaidRate → Type 0
+IsSaid word said = MatchOption (rate_of word) (IsSomeAnd (quantity_in word) (λ quantity. IsNearest quantity said)) (λ units. IsCodes units said)

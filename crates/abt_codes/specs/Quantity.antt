@@ -1,5 +1,5 @@
 -- Rates in words: so many cells, or bits, per second, as a decimal fraction (docs/FORMATS.md, "Rates in words").
-use Rattle.std.specs.Prelude.{ℕ, ◌+◌, ◌*◌, ◌^◌, ◌==◌, nat_le, if◌then◌else◌, List, [], ◌∷◌, length, take, drop, Option, Some, None, codes}
+use Rattle.std.specs.Prelude.{ℕ, ◌+◌, ◌-◌, ◌*◌, ◌/◌, ◌^◌, ◌==◌, nat_le, if◌then◌else◌, List, [], ◌∷◌, length, take, drop, Option, Some, None, codes}
 use Rattle.std.specs.Char.{is_ascii_digit}
 use Rattle.std.specs.List.{prefix_len}
 use Rattle.std.specs.Str.{bytes_eq}
@@ -8,7 +8,7 @@ use Rattle.abt_text.specs.Text.{Text}
 use Rattle.abt_text.specs.Words.{number_of}
 use Rattle.abt_codes.specs.declared.quantity.Quantity.{Quantity}
 use Rattle.abt_codes.specs.declared.quantity.RateUnit.{RateUnit}
-use Rattle.abt_codes.specs.declared.quantity.RateUnit.TheVariants.{Cells, Bits, Kilobits, Megabits}
+use Rattle.abt_codes.specs.declared.quantity.RateUnit.TheVariants.{Cells, Bits, Kilobits, Megabits, Gigabits}
 
 -- how many decimal places a rate has at most
 abbrev pub places_max : ℕ
@@ -24,14 +24,17 @@ unit_of word =
     else if bytes_eq word (codes "bps") then Some Bits
     else if bytes_eq word (codes "kbps") then Some Kilobits
     else if bytes_eq word (codes "Mbps") then Some Megabits
+    else if bytes_eq word (codes "Gbps") then Some Gigabits
     else None
 
--- The number with its last digits behind the point, so many of a unit, in units of 1/512 cell per second.
+-- The number with its last digits behind the point, so many of a unit, in units of 1/512 cell per second; of 10^9 bits the last digits are
+-- whole bits.
 abbrev pub quantity_of : (number places : ℕ) → RateUnit → Quantity
 quantity_of number places Cells = record { over = number * 512; under = 10 ^ places }
 quantity_of number places Bits = record { over = number * 512; under = 10 ^ places * cell_bits }
 quantity_of number places Kilobits = record { over = number * 10 ^ 3 * 512; under = 10 ^ places * cell_bits }
 quantity_of number places Megabits = record { over = number * 10 ^ 6 * 512; under = 10 ^ places * cell_bits }
+quantity_of number places Gigabits = record { over = number * 10 ^ (places_max - places) * 512; under = cell_bits }
 
 -- the digits that a text begins with, and what stands behind them
 abbrev pub digits_of : Text → Text
@@ -73,3 +76,9 @@ abbrev pub quantity_in : Text → Option Quantity
 quantity_in text = do
   whole ← number_of (digits_of text)
   with_rest whole (behind_digits text) (behind_point (behind_digits text))
+
+-- the whole units of 1/512 cell per second in the rate that a text says
+abbrev pub units_in : Text → Option ℕ
+units_in text = do
+  quantity ← quantity_in text
+  Some (quantity.over / quantity.under)

@@ -1,6 +1,7 @@
 //! Rates in words, the codes nearest to them, cells in words, and what is printed of these.
 #![tactic(auto)]
 
+mod duration;
 mod fault;
 mod message;
 mod nearest;
@@ -11,12 +12,13 @@ mod quantity;
 mod text;
 mod written;
 
+pub use duration::picoseconds_in;
 pub use fault::CodesFault;
 pub use message::{Kind, MessageWords, rm_in};
-pub use nearest::{above, below, exactly, rate_said};
+pub use nearest::{SaidRate, above, below, exactly, rate_said};
 pub use objects::{code_objects, written_object};
 pub use performing::perform_codes;
 pub use plan::CodesPlan;
-pub use quantity::{Quantity, RateUnit, quantity_in};
+pub use quantity::{Quantity, RateUnit, quantity_in, units_in};
 pub use text::code_text;
 pub use written::{write_text, written_is_read};

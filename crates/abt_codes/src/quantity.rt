@@ -1,10 +1,10 @@
 //! Rates in words.
-ghost use Rattle.std.specs.Prelude.{◌≡◌, ◌<◌, ◌≤◌, ◌^◌, take, drop, IfSome};
+ghost use Rattle.std.specs.Prelude.{◌≡◌, ◌<◌, ◌≤◌, ◌*◌, ◌^◌, take, drop, IfSome};
 ghost use Rattle.std.specs.Option.{option_map};
 ghost use Rattle.std.specs.List.{prefix_len};
 ghost use Rattle.std.specs.Char.{is_ascii_digit};
 ghost use Rattle.std.specs.Str.{IsCharBoundary};
-ghost use Rattle.abt_codes.specs.Quantity.{behind_digits, behind_point, digits_of, places_max, quantity_in, quantity_of, unit_of, with_fraction, with_places, with_rest, with_unit};
+ghost use Rattle.abt_codes.specs.Quantity.{behind_digits, behind_point, digits_of, places_max, quantity_in, quantity_of, unit_of, units_in, with_fraction, with_places, with_rest, with_unit};
 
 use abt_text::u64_of;
 
@@ -34,10 +34,12 @@ pub enum RateUnit {
     Kilobits,
     /// 1,000,000 such bits.
     Megabits,
+    /// 1,000,000,000 such bits.
+    Gigabits,
 }
 
-/// The rate that a text says, such as `500cps` or `1.3Mbps`: 1 to 19 digits, maybe a point and 1 to 9 digits, and `cps`, `bps`, `kbps` or
-/// `Mbps` (docs/FORMATS.md, "Rates in words"). It is exact.
+/// The rate that a text says, such as `500cps` or `1.3Mbps`: 1 to 19 digits, maybe a point and 1 to 9 digits, and `cps`, `bps`, `kbps`,
+/// `Mbps` or `Gbps` (docs/FORMATS.md, "Rates in words"). It is exact.
 pub fn quantity_in(text: &str) -> Option<Quantity>
     ensures value { result ≡ quantity_in text.now }
     ensures divides { IfSome result (λ quantity. 0 < quantity.under) }
@@ -47,8 +49,16 @@ pub fn quantity_in(text: &str) -> Option<Quantity>
     with_rest(whole, rest, behind_point(rest))
 }
 
-// The digits that a text begins with, and what stands behind them.
-fn cut(text: &str) -> (&str, &str)
+/// The whole units of 1/512 cell/s in the rate that a text says.
+pub fn units_in(text: &str) -> Option<u128>
+    ensures { result ≡ units_in text.now }
+{
+    let quantity = quantity_in(text)?;
+    Some(quantity.over / quantity.under)
+}
+
+/// The digits that a text begins with, and what stands behind them.
+pub(crate) fn cut(text: &str) -> (&str, &str)
     ensures digits { result.0.now ≡ digits_of text.now }
     ensures rest { result.1.now ≡ behind_digits text.now }
 {
@@ -97,6 +107,7 @@ fn with_fraction(whole: u64, text: &str) -> Option<Quantity>
     with_places(whole, fraction, digits.len(), rest)
 }
 
+#[tactic(auto, using(crate::proofs::Scales::has_room))]
 fn with_places(whole: u64, fraction: u64, places: usize, word: &str) -> Option<Quantity>
     ensures value { result ≡ with_places whole fraction places word.now }
     ensures divides { IfSome result (λ quantity. 0 < quantity.under) }
@@ -109,7 +120,7 @@ fn with_places(whole: u64, fraction: u64, places: usize, word: &str) -> Option<Q
 }
 
 fn with_unit(number: u128, places: usize, word: &str) -> Option<Quantity>
-    requires number { number < 2 ^ 95 }
+    requires number { number < 2 ^ 65 * 10 ^ places }
     requires places { places ≤ places_max }
     ensures value { result ≡ with_unit number places word.now }
     ensures divides { IfSome result (λ quantity. 0 < quantity.under) }
@@ -126,13 +137,15 @@ fn unit_of(word: &str) -> Option<RateUnit>
         "bps" => Some(RateUnit::Bits),
         "kbps" => Some(RateUnit::Kilobits),
         "Mbps" => Some(RateUnit::Megabits),
+        "Gbps" => Some(RateUnit::Gigabits),
         _ => None,
     }
 }
 
 // A number with so many decimal places of a unit.
+#[tactic(auto, using(crate::proofs::Scales::in_whole, crate::proofs::Scales::at_most))]
 fn quantity_of(number: u128, places: usize, unit: RateUnit) -> Quantity
-    requires number { number < 2 ^ 95 }
+    requires number { number < 2 ^ 65 * 10 ^ places }
     requires places { places ≤ places_max }
     ensures value { result ≡ quantity_of number places unit }
     ensures divides { 0 < result.under }
@@ -154,6 +167,10 @@ fn quantity_of(number: u128, places: usize, unit: RateUnit) -> Quantity
         RateUnit::Megabits => Quantity {
             over: number * 1_000_000 * 512,
             under: tens * CELL_BITS,
+        },
+        RateUnit::Gigabits => Quantity {
+            over: number * ten_to(PLACES_MAX - places) * 512,
+            under: CELL_BITS,
         },
     }
 }
