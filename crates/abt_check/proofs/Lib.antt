@@ -1,1 +1,5 @@
+mod Differences
+mod FaultLines
+mod Readings
+mod Saying
 mod Unables

@@ -22,6 +22,11 @@ abbrev pub place_members : Text → Option ℕ → List Token
 place_members source None = []
 place_members source (Some at) = line_and_column (place_at at source)
 
+-- the name of the file, if there are several
+abbrev pub file_members : Option Text → List Token
+file_members None = []
+file_members (Some name) = text_member (codes "file") name
+
 -- the name of a fault
 abbrev pub named : Text → List Token
 named name = text_member (codes "fault") name
@@ -56,30 +61,35 @@ fault_members (scenario.ScriptText connection number) =
 fault_members (scenario.OperatorText number) = with_number (codes "OperatorText") (codes "operation") number
 fault_members scenario.Memory = named (codes "memory")
 
--- a fault: its place, its name with what it names, and what is wrong, in words
-abbrev pub fault_object : Text → Found → Text
-fault_object source found = object_line (text_member (codes "kind") (codes "fault") ++ place_members source found.at
-    ++ fault_members found.fault ++ text_member (codes "message") (string_bytes found.text))
+-- a fault: its file and place, its name with what it names, and what is wrong, in words
+abbrev pub fault_object : (file : Option Text) → (source : Text) → Found → Text
+fault_object file source found = object_line (text_member (codes "kind") (codes "fault") ++ file_members file
+    ++ place_members source found.at ++ fault_members found.fault ++ text_member (codes "message") (string_bytes found.text))
 
-abbrev pub fault_objects : Text → List Found → Text
-fault_objects source [] = []
-fault_objects source (found ∷ others) = fault_object source found ⋅ fault_objects source others
+abbrev pub fault_objects : (file : Option Text) → (source : Text) → List Found → Text
+fault_objects file source [] = []
+fault_objects file source (found ∷ others) = fault_object file source found ⋅ fault_objects file source others
 
--- a warning: its place, and what is doubtful, in words
-abbrev pub warning_object : Text → Warning → Text
-warning_object source warning = object_line (text_member (codes "kind") (codes "warning") ++ place_members source warning.at
-    ++ text_member (codes "message") (string_bytes warning.text))
+-- a warning: its file and place, and what is doubtful, in words
+abbrev pub warning_object : (file : Option Text) → (source : Text) → Warning → Text
+warning_object file source warning = object_line (text_member (codes "kind") (codes "warning") ++ file_members file
+    ++ place_members source warning.at ++ text_member (codes "message") (string_bytes warning.text))
 
-abbrev pub warning_objects : Text → List Warning → Text
-warning_objects source [] = []
-warning_objects source (warning ∷ others) = warning_object source warning ⋅ warning_objects source others
+abbrev pub warning_objects : (file : Option Text) → (source : Text) → List Warning → Text
+warning_objects file source [] = []
+warning_objects file source (warning ∷ others) = warning_object file source warning ⋅ warning_objects file source others
 
 -- the last object: how many there are of each
-abbrev pub counts_object : Checked → Text
-counts_object checked = object_line (number_member (codes "faults") (length checked.faults.items)
+abbrev pub counts_object : (file : Option Text) → Checked → Text
+counts_object file checked = object_line (file_members file ++ number_member (codes "faults") (length checked.faults.items)
     ++ number_member (codes "warnings") (length checked.warnings.items))
 
 -- the faults, the warnings, and how many there are
-abbrev pub check_objects : Text → Checked → Text
-check_objects source checked =
-    fault_objects source checked.faults.items ⋅ warning_objects source checked.warnings.items ⋅ counts_object checked
+abbrev pub check_objects : (file : Option Text) → (source : Text) → Checked → Text
+check_objects file source checked =
+    fault_objects file source checked.faults.items ⋅ warning_objects file source checked.warnings.items ⋅ counts_object file checked
+
+-- a file that isn't checked: its fault, and why
+abbrev pub unread_object : (file fault why : Text) → Text
+unread_object file fault why = object_line (text_member (codes "kind") (codes "fault") ++ text_member (codes "file") file
+    ++ named fault ++ text_member (codes "message") why)

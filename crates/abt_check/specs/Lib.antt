@@ -6,3 +6,8 @@ pub mod Unable
 pub mod Seen
 pub mod Performed
 pub mod CheckObjects
+pub mod Located
+pub mod Named
+pub mod OutcomeWords
+pub mod Expectations
+pub mod Tests

@@ -1,5 +1,5 @@
 -- What goes out when a scenario is checked.
-use Rattle.std.specs.Prelude.{◌≡◌, ◌⊎◌, Bool, true, false, List, [], ◌∷◌, Option, IfSome, string_bytes}
+use Rattle.std.specs.Prelude.{◌≡◌, ◌⊎◌, Bool, true, false, List, [], ◌∷◌, Option, None, IfSome, string_bytes}
 use Rattle.std.specs.Io.KnownBytes.{Appends, Keeps}
 use Rattle.abt_text.specs.Text.{Text}
 use Rattle.abt_text.specs.Streams.{AppendsPrefix}
@@ -28,7 +28,7 @@ pub record IsAnswerTo (source : Text) (answer : Answer) : Type 0 where
 
 -- a check in lines, or in objects
 abbrev pub said_of : (as_json : Bool) → Text → Checked → Text
-said_of true source checked = check_objects source checked
+said_of true source checked = check_objects None source checked
 said_of false source checked = check_text source checked
 
 -- The text tells a check of the source, with or without a fault.

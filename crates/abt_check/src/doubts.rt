@@ -1,4 +1,5 @@
 //! What is doubtful in a text: keys that nothing reads, and what runs otherwise than it looks.
+use crate::expectations::EXPECT;
 use crate::finding::{Findings, at_entry, at_item, entry_in};
 use crate::near::{meant, near, shown};
 use abt_model::Command;
@@ -6,7 +7,7 @@ use abt_places::Entry;
 use abt_scenario::Scenario;
 use std::alloc::AllocError;
 
-const DOCUMENT_KEYS: [&str; 4] = ["ports", "connection", "events", "operator"];
+const DOCUMENT_KEYS: [&str; 5] = ["ports", "connection", "events", "operator", EXPECT];
 
 const CONNECTION_KEYS: [&str; 6] = ["vpi", "vci", "path", "delay", "tau", "script"];
 

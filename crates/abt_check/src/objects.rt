@@ -1,5 +1,5 @@
 //! Checks, told as JSON: an object for each finding, on a line of its own.
-ghost use Rattle.std.specs.Prelude.{◌≡◌, ◌++◌, OnOk};
+ghost use Rattle.std.specs.Prelude.{◌≡◌, ◌++◌, OnOk, option_map};
 ghost use Rattle.abt_entry.specs.ObjectMembers.{Adds};
 ghost use Rattle.abt_check.specs.CheckObjects as spec;
 
@@ -11,30 +11,35 @@ use abt_scenario::ScenarioFault;
 use json::Writer;
 use std::alloc::{AllocError, Global};
 
-/// Adds the objects of a check of a text: its faults, its warnings, and how many there are (docs/FORMATS.md, "Checks").
+/// Adds the objects of a check of a text: its faults, its warnings, and how many there are (docs/FORMATS.md, "Checks"). If it is one of
+/// several files, each has the name of its file.
 pub(crate) fn push_objects(
     alloc: Global,
     text: &mut Vec<u8>,
+    file: Option<&str>,
     source: &str,
     checked: &Checked,
 ) -> Result<(), AllocError>
-    ensures { OnOk result (text.new.items ≡ text.old.items ++ spec.check_objects source.now checked.now) }
+    ensures { OnOk result (text.new.items ≡ text.old.items ++
+        spec.check_objects (option_map (λ name. name.now) file.entry) source.now checked.now) }
 {
-    push_faults(alloc, text, source, checked.faults.as_slice())?;
-    push_warnings(alloc, text, source, checked.warnings.as_slice())?;
-    push_counts(alloc, text, checked)
+    push_faults(alloc, text, file, source, checked.faults.as_slice())?;
+    push_warnings(alloc, text, file, source, checked.warnings.as_slice())?;
+    push_counts(alloc, text, file, checked)
 }
 
 fn push_faults(
     alloc: Global,
     text: &mut Vec<u8>,
+    file: Option<&str>,
     source: &str,
     faults: &[Found],
 ) -> Result<(), AllocError>
-    ensures { OnOk result (text.new.items ≡ text.old.items ++ spec.fault_objects source.now faults.now) }
+    ensures { OnOk result (text.new.items ≡ text.old.items ++
+        spec.fault_objects (option_map (λ name. name.now) file.entry) source.now faults.now) }
 {
     for found in faults {
-        push_fault(alloc, text, source, found)?;
+        push_fault(alloc, text, file, source, found)?;
     }
     Ok(())
 }
@@ -42,13 +47,16 @@ fn push_faults(
 fn push_fault(
     alloc: Global,
     text: &mut Vec<u8>,
+    file: Option<&str>,
     source: &str,
     found: &Found,
 ) -> Result<(), AllocError>
-    ensures { OnOk result (text.new.items ≡ text.old.items ++ spec.fault_object source.now found.now) }
+    ensures { OnOk result (text.new.items ≡ text.old.items ++
+        spec.fault_object (option_map (λ name. name.now) file.entry) source.now found.now) }
 {
     let mut object = begin(alloc, text)?;
     push_text(&mut object, "kind", "fault")?;
+    push_file(&mut object, file)?;
     push_place(&mut object, source, found.at)?;
     push_scenario_fault(&mut object, found.fault)?;
     push_text(&mut object, "message", found.text.as_str())?;
@@ -58,13 +66,15 @@ fn push_fault(
 fn push_warnings(
     alloc: Global,
     text: &mut Vec<u8>,
+    file: Option<&str>,
     source: &str,
     warnings: &[Warning],
 ) -> Result<(), AllocError>
-    ensures { OnOk result (text.new.items ≡ text.old.items ++ spec.warning_objects source.now warnings.now) }
+    ensures { OnOk result (text.new.items ≡ text.old.items ++
+        spec.warning_objects (option_map (λ name. name.now) file.entry) source.now warnings.now) }
 {
     for warning in warnings {
-        push_warning(alloc, text, source, warning)?;
+        push_warning(alloc, text, file, source, warning)?;
     }
     Ok(())
 }
@@ -72,25 +82,65 @@ fn push_warnings(
 fn push_warning(
     alloc: Global,
     text: &mut Vec<u8>,
+    file: Option<&str>,
     source: &str,
     warning: &Warning,
 ) -> Result<(), AllocError>
-    ensures { OnOk result (text.new.items ≡ text.old.items ++ spec.warning_object source.now warning.now) }
+    ensures { OnOk result (text.new.items ≡ text.old.items ++
+        spec.warning_object (option_map (λ name. name.now) file.entry) source.now warning.now) }
 {
     let mut object = begin(alloc, text)?;
     push_text(&mut object, "kind", "warning")?;
+    push_file(&mut object, file)?;
     push_place(&mut object, source, warning.at)?;
     push_text(&mut object, "message", warning.text.as_str())?;
     end(object, text)
 }
 
-fn push_counts(alloc: Global, text: &mut Vec<u8>, checked: &Checked) -> Result<(), AllocError>
-    ensures { OnOk result (text.new.items ≡ text.old.items ++ spec.counts_object checked.now) }
+fn push_counts(
+    alloc: Global,
+    text: &mut Vec<u8>,
+    file: Option<&str>,
+    checked: &Checked,
+) -> Result<(), AllocError>
+    ensures { OnOk result (text.new.items ≡ text.old.items ++
+        spec.counts_object (option_map (λ name. name.now) file.entry) checked.now) }
 {
     let mut object = begin(alloc, text)?;
+    push_file(&mut object, file)?;
     push_number(&mut object, "faults", checked.faults.len() as u64)?;
     push_number(&mut object, "warnings", checked.warnings.len() as u64)?;
     end(object, text)
+}
+
+/// Adds the object of a file that isn't checked: its fault, and why.
+pub(crate) fn push_unread(
+    alloc: Global,
+    text: &mut Vec<u8>,
+    file: &str,
+    fault: &str,
+    why: &str,
+) -> Result<(), AllocError>
+    ensures { OnOk result (text.new.items ≡ text.old.items ++
+        spec.unread_object file.now fault.now why.now) }
+{
+    let mut object = begin(alloc, text)?;
+    push_text(&mut object, "kind", "fault")?;
+    push_text(&mut object, "file", file)?;
+    push_name(&mut object, fault)?;
+    push_text(&mut object, "message", why)?;
+    end(object, text)
+}
+
+// Adds the name of the file, if there are several.
+fn push_file(object: &mut Writer, file: Option<&str>) -> Result<(), AllocError>
+    ensures { OnOk result (Adds (spec.file_members (option_map (λ name. name.now) file.entry))
+        object.old object.new) }
+{
+    match file {
+        Some(name) => push_text(object, "file", name),
+        None => Ok(()),
+    }
 }
 
 // Adds the place behind so many octets of a text, if they are known.

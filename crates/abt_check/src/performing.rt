@@ -88,7 +88,7 @@ fn objects_of(alloc: Global, source: &str) -> Result<Said, AllocError>
 {
     let checked = check(alloc, source)?;
     let mut octets = Vec::new(alloc);
-    push_objects(alloc, &mut octets, source, &checked)?;
+    push_objects(alloc, &mut octets, None, source, &checked)?;
     let is_faulty = has_some(checked.faults.as_slice());
     Ok(Said { octets, is_faulty })
 }

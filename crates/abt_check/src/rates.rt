@@ -16,28 +16,10 @@ pub(crate) fn code_meant(alloc: Global, word: &str) -> Result<String, AllocError
 }
 
 fn said_of(alloc: Global, word: &str) -> Result<Option<String>, AllocError> {
-    match rate_in_words(alloc, word)? {
+    match quantity_in(word) {
         Some(quantity) => Ok(Some(code_said(alloc, word, quantity)?)),
         None => Ok(None),
     }
-}
-
-// A rate in words, which may also count 1,000,000,000 bits.
-fn rate_in_words(alloc: Global, word: &str) -> Result<Option<Quantity>, AllocError> {
-    match word.strip_suffix("Gbps") {
-        Some(number) => {
-            let megabits = format!(in alloc; "{number}Mbps")?;
-            Ok(thousand_fold(quantity_in(megabits.as_str())))
-        }
-        None => Ok(quantity_in(word)),
-    }
-}
-
-// A thousand times a quantity, if that can be counted.
-fn thousand_fold(quantity: Option<Quantity>) -> Option<Quantity> {
-    let Quantity { over, under } = quantity?;
-    let over = over.checked_mul(1000)?;
-    Some(Quantity { over, under })
 }
 
 // Which code says a rate that is written so.

@@ -112,7 +112,11 @@ fn push_warning(
     write!(text, "{place}warning: {said}\n")
 }
 
-fn push_counts(alloc: Global, text: &mut String, checked: &Checked) -> Result<(), AllocError>
+pub(crate) fn push_counts(
+    alloc: Global,
+    text: &mut String,
+    checked: &Checked,
+) -> Result<(), AllocError>
     ensures { OnOk result (string_bytes text.new ≡ string_bytes text.old ++ counts_line checked.now) }
 {
     let faults = count_text(alloc, checked.faults.len())?;

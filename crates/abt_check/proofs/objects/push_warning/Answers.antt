@@ -5,4 +5,4 @@ pub returns : goal.returns
 returns c =
     rw (← c.as_str.ensures.value)
     (line_last c.end.result _ _ _ _ _ _ _ c.in_ok-object.ensures c.in_ok-push_text.ensures
-    (adds_both _ _ _ _ _ c.in_ok-push_place.ensures c.in_ok-push_text-2.ensures) c.end.ensures)
+    (adds_both _ _ _ _ _ (adds_both _ _ _ _ _ c.in_ok-push_file.ensures c.in_ok-push_place.ensures) c.in_ok-push_text-2.ensures) c.end.ensures)
