@@ -39,6 +39,9 @@ fn main(rt: HostRuntime) -> ExitCode {
     let mut out = Cleared::new(rt.stdout(), &progress);
     let mut told = Cleared::new(rt.stderr(), &progress);
     let hints = is_terminal;
+    if let Ok(Some(line)) = command.rounding(rt.alloc()) {
+        tell_text(&mut told, line.as_str());
+    }
     let status = carry_out_command(
         &rt, &progress, command, hints, &mut input, &mut out, &mut told,
     );

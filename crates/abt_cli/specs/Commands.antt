@@ -17,12 +17,13 @@ use Rattle.abt_play.specs.declared.plan.PlayPlan.{PlayPlan}
 use Rattle.abt_weave.specs.declared.actor.Actor as whose
 use Rattle.abt_weave.specs.declared.actor.Actor.TheVariants as actor
 use Rattle.abt_cli.specs.Pictures.{IsPictureIfNamed, IsPicturePlan}
-use Rattle.abt_cli.specs.Words.{text_in, word_in, words_in, flag_in, AreNumbers, IsUnset, IsFlag, IsCapacity, IsCount, IsTolerance, IsNumberIn}
+use Rattle.abt_cli.specs.Words.{text_in, word_in, words_in, file_in, files_in, flag_in, IsUnset, IsFlag, IsCapacity, IsCount, IsTolerance, IsNumberIn, NamePorts}
 use Rattle.abt_cli.specs.declared.command.Command.{Command}
 use Rattle.abt_cli.specs.declared.command.Command.TheVariants.{Rate, Cell, Port, Run, Threads, Explain, Check, Audit, AuditLog, Police, Shape, Step, Play, Code, Write, Draw, Switch, Source}
 use Rattle.abt_cli.specs.declared.command.ThreadsCommand.{ThreadsCommand}
 use Rattle.abt_cli.specs.declared.command.AuditCommand.{AuditCommand}
 use Rattle.abt_cli.specs.declared.command.LogCommand.{LogCommand}
+use Rattle.abt_cli.specs.declared.command.CheckCommand.{CheckCommand}
 use Rattle.abt_cli.specs.declared.command.DrawCommand.{DrawCommand}
 
 -- the file that is named, if one is
@@ -42,7 +43,7 @@ pub record AreCells (found : ArgMatches) (cells : Option (Vec (String Global) Gl
 
 -- Each part of a run in threads is what its word says.
 pub record IsThreads (found : ArgMatches) (command : ThreadsCommand) : Type 0 where
-  pub file : name_of command.file ≡ text_in found (codes "FILE")
+  pub file : name_of command.file ≡ file_in found
   pub workers : IsCount (word_in found (codes "workers")) command.workers
   pub json : IsFlag found (codes "json") command.json
   pub journals : name_of command.journals ≡ text_in found (codes "journals")
@@ -50,9 +51,16 @@ pub record IsThreads (found : ArgMatches) (command : ThreadsCommand) : Type 0 wh
   pub explain : IsFlag found (codes "explain") command.explain
   pub quiet : IsFlag found (codes "quiet") command.quiet
 
+-- Each part of a check is what its word says.
+pub record IsCheck (found : ArgMatches) (command : CheckCommand) : Type 0 where
+  pub files : map string_bytes command.files.items ≡ files_in found
+  pub json : IsFlag found (codes "json") command.json
+  pub located : IsFlag found (codes "located") command.located
+  pub expect : IsFlag found (codes "expect") command.expect
+
 -- Each part of an audit is what its word says.
 pub record IsAudit (found : ArgMatches) (command : AuditCommand) : Type 0 where
-  pub files : map string_bytes command.files.items ≡ words_in found (codes "FILES")
+  pub files : map string_bytes command.files.items ≡ files_in found
   pub events : name_of command.events ≡ text_in found (codes "events")
   pub picture : IsPictureIfNamed found command.picture
   pub quiet : IsFlag found (codes "quiet") command.quiet
@@ -72,7 +80,7 @@ IsLogActor found = IsActorIn (text_in found (codes "port")) (text_in found (code
 
 -- Each part of an audit of one log, but for whose it is, is what its word says.
 pub record IsLogAudit (found : ArgMatches) (command : LogCommand) : Type 0 where
-  pub files : map string_bytes command.files.items ≡ words_in found (codes "FILES")
+  pub files : map string_bytes command.files.items ≡ files_in found
   pub quiet : IsFlag found (codes "quiet") command.quiet
 
 -- The seed and the chances are those that the words name. Without a word nothing is lost or repeated, and any message may be the next.
@@ -84,7 +92,7 @@ pub record IsChancesOf (found : ArgMatches) (chances : Chances) : Type 0 where
 
 -- Each part of a play is what its word says.
 pub record IsPlay (found : ArgMatches) (plan : PlayPlan) : Type 0 where
-  pub file : name_of plan.file ≡ text_in found (codes "FILE")
+  pub file : name_of plan.file ≡ file_in found
   pub chances : IsChancesOf found plan.chances
   pub events : name_of plan.events ≡ text_in found (codes "events")
   pub picture : IsPictureIfNamed found plan.picture
@@ -112,7 +120,7 @@ IsCountIn (Some word) (Some workers) = IsCount word workers
 
 -- Each part of a picture of a run is what its word says.
 pub record IsDraw (found : ArgMatches) (command : DrawCommand) : Type 0 where
-  pub file : name_of command.file ≡ text_in found (codes "FILE")
+  pub file : name_of command.file ≡ file_in found
   pub workers : IsCountIn (text_in found (codes "workers")) command.workers
   pub events : name_of command.events ≡ text_in found (codes "events")
   pub picture : IsPicturePlan found (codes "output") command.picture
@@ -120,8 +128,9 @@ pub record IsDraw (found : ArgMatches) (command : DrawCommand) : Type 0 where
 -- Each part of a switch is what its word says.
 pub record IsSwitch (found : ArgMatches) (plan : SwitchPlan) : Type 0 where
   pub file : string_bytes plan.file ≡ word_in found (codes "NET")
-  pub ports : AreNumbers (words_in found (codes "port")) plan.ports.items
+  pub ports : NamePorts (words_in found (codes "port")) plan.ports.items
   pub journal : string_bytes plan.journal ≡ word_in found (codes "journal")
+  pub is_binary : IsFlag found (codes "binary") plan.is_binary
 
 -- Each part of a source is what its word says.
 pub record IsSource (found : ArgMatches) (plan : SourcePlan) : Type 0 where
@@ -130,6 +139,7 @@ pub record IsSource (found : ArgMatches) (plan : SourcePlan) : Type 0 where
   pub store : string_bytes plan.store ≡ word_in found (codes "store")
   pub journal : string_bytes plan.journal ≡ word_in found (codes "journal")
   pub is_new : IsFlag found (codes "new") plan.is_new
+  pub is_binary : IsFlag found (codes "binary") plan.is_binary
 
 -- The command is the one that is named, and each of its parts is what its word says.
 abbrev pub IsCommandOf : (name : Text) → ArgMatches → Command → Type 0
@@ -138,13 +148,12 @@ IsCommandOf name found (Rate code json) = (name ≡ codes "rate") × (string_byt
 IsCommandOf name found (Cell cell json) = (name ≡ codes "cell") × IsCell found cell × IsFlag found (codes "json") json
 IsCommandOf name found (Port capacity cells json) = (name ≡ codes "port") × IsCapacity (word_in found (codes "CAPACITY")) capacity ×
     AreCells found cells × IsFlag found (codes "json") json
-IsCommandOf name found (Run file json explain quiet) = (name ≡ codes "run") × (name_of file ≡ text_in found (codes "FILE")) ×
+IsCommandOf name found (Run file json explain quiet) = (name ≡ codes "run") × (name_of file ≡ file_in found) ×
     IsFlag found (codes "json") json × IsFlag found (codes "explain") explain × IsFlag found (codes "quiet") quiet
 IsCommandOf name found (Threads command) = (name ≡ codes "threads") × IsThreads found command
-IsCommandOf name found (Explain file json quiet) = (name ≡ codes "explain") × (name_of file ≡ text_in found (codes "FILE")) ×
+IsCommandOf name found (Explain file json quiet) = (name ≡ codes "explain") × (name_of file ≡ file_in found) ×
     IsFlag found (codes "json") json × IsFlag found (codes "quiet") quiet
-IsCommandOf name found (Check file json) = (name ≡ codes "check") × (name_of file ≡ text_in found (codes "FILE")) ×
-    IsFlag found (codes "json") json
+IsCommandOf name found (Check command) = (name ≡ codes "check") × IsCheck found command
 IsCommandOf name found (Audit command) = (name ≡ codes "audit") × IsAudit found command × IsLogActor found None
 IsCommandOf name found (AuditLog command) = (name ≡ codes "audit") × IsLogAudit found command × IsLogActor found (Some command.actor)
 IsCommandOf name found (Police tau rate json) = (name ≡ codes "police") × IsTolerance (word_in found (codes "tau")) tau ×

@@ -4,5 +4,6 @@ pub mod Lost
 pub mod Pictures
 pub mod Plans
 pub mod Refused
+pub mod Rounding
 pub mod Showing
 pub mod Words

@@ -1,6 +1,7 @@
 -- What the words say of a picture (docs/PICTURES.md, "Drawing").
-use Rattle.std.specs.Prelude.{◌≡◌, ◌≤◌, ℕ, ◌==◌, eqb, Bool, true, false, if◌then◌else◌, List, [], Option, None, Some, codes, string_bytes}
+use Rattle.std.specs.Prelude.{◌≡◌, ◌≤◌, ℕ, ◌==◌, ◌&&◌, eqb, Bool, true, false, if◌then◌else◌, List, [], Option, None, Some, codes, string_bytes}
 use Rattle.std.specs.List.{ends_with, slice_split}
+use Rattle.std.specs.Str.{bytes_eq}
 use Rattle.clap.specs.declared.parser.matches.ArgMatches.{ArgMatches}
 use Rattle.abt_text.specs.Text.{Text}
 use Rattle.abt_text.specs.Words.{number_of}
@@ -13,6 +14,10 @@ ends_in text ending = ends_with eqb text ending
 -- whether a file is for a page, by the end of its name; else it is for a picture, or for neither
 abbrev pub is_page : (file : Text) → Option Bool
 is_page file = if ends_in file (codes ".html") then Some true else if ends_in file (codes ".svg") then Some false else None
+
+-- the picture of `abt draw` may go to `-`, the standard output
+abbrev pub page_of : (name file : Text) → Option Bool
+page_of name file = if bytes_eq name (codes "output") && bytes_eq file (codes "-") then Some false else is_page file
 
 -- the parts of a list between its commas
 abbrev pub parts_of : Text → List Text
@@ -32,7 +37,7 @@ IsEventOf (Some word) (Some number) = (number_of word ≡ Some number) × (1 ≤
 -- What is to be shown, and in which file, is what the words say; the name of the file stands under a name of its own.
 pub record IsPicturePlan (found : ArgMatches) (name : Text) (plan : PicturePlan) : Type 0 where
   pub out : text_in found name ≡ Some (string_bytes plan.out)
-  pub page : is_page (string_bytes plan.out) ≡ Some plan.page
+  pub page : page_of name (string_bytes plan.out) ≡ Some plan.page
   pub only : AreNamed (text_in found (codes "only")) plan.only.items
   pub from : IsEventOf (text_in found (codes "from")) plan.from
   pub to : IsEventOf (text_in found (codes "to")) plan.to

@@ -5,6 +5,7 @@ use Rattle.abt_text.specs.Text.{Text}
 use Rattle.abt_text.specs.Words.{number_below}
 use Rattle.abt_codes.specs.Nearest.{IsSaid}
 use Rattle.abt_codes.specs.declared.message.Kind.{Kind}
+use Rattle.abt_codes.specs.declared.nearest.SaidRate.{SaidRate}
 use Rattle.abt_draw.specs.declared.plan.PicturePlan.{PicturePlan}
 use Rattle.abt_perform.specs.declared.plan.WordsFault.{WordsFault}
 use Rattle.abt_perform.specs.declared.plan.WordsFault.TheVariants.{Memory}
@@ -12,7 +13,7 @@ use Rattle.abt_play.specs.declared.chances.Chances.{Chances}
 use Rattle.abt_weave.specs.declared.actor.Actor.{Actor}
 use Rattle.abt_cli.specs.Commands.{kind_word, IsChancesOf, IsActorIn, IsCountIn}
 use Rattle.abt_cli.specs.Pictures.{IsPicturePlan}
-use Rattle.abt_cli.specs.Words.{text_in, word_in, words_in, AreNumbers, IsCapacity, IsCount, IsNumberIn, IsTolerance}
+use Rattle.abt_cli.specs.Words.{text_in, word_in, words_in, AreNumbers, IsCapacity, IsCount, IsNumberIn, IsTolerance, NameOneTwice}
 
 -- The word says no such number, rate or message.
 abbrev pub IsNoCapacity : (word : Text) → Type 0
@@ -25,7 +26,7 @@ abbrev pub IsNoTolerance : (word : Text) → Type 0
 IsNoTolerance word = (tau : ℕ) → IsTolerance word tau → ⊥
 
 abbrev pub IsNoRate : (word : Text) → Type 0
-IsNoRate word = (units : ℕ) → IsSaid word units → ⊥
+IsNoRate word = (said : SaidRate) → IsSaid word said → ⊥
 
 abbrev pub IsNoKind : (word : Text) → Type 0
 IsNoKind word = (kind : Kind) → kind_word kind ≢ word
@@ -54,7 +55,7 @@ IsNoActorIn port source = (actor : Option Actor) → IsActorIn port source actor
 abbrev pub HasNoLogActor : ArgMatches → Type 0
 HasNoLogActor found = IsNoActorIn (text_in found (codes "port")) (text_in found (codes "source"))
 
--- The words of this command say none.
+-- The words of this command say none, or name a port twice.
 abbrev pub SaysNone : (name : Text) → ArgMatches → Type 0
 SaysNone name found =
     ((name ≡ codes "port") × IsNoCapacity (word_in found (codes "CAPACITY"))) ⊎
@@ -70,6 +71,7 @@ SaysNone name found =
     ((name ≡ codes "draw") × IsNoCountIn (text_in found (codes "workers"))) ⊎
     ((name ≡ codes "draw") × HasNoPicture found (codes "output")) ⊎
     ((name ≡ codes "switch") × AreNoNumbers (words_in found (codes "port"))) ⊎
+    ((name ≡ codes "switch") × NameOneTwice (words_in found (codes "port"))) ⊎
     ((name ≡ codes "source") × (number_below (2 ^ 16) (word_in found (codes "CONNECTION")) ≡ None))
 
 -- The name is that of a command.
@@ -80,6 +82,6 @@ IsCommand name =
     (name ≡ codes "step") ⊎ (name ≡ codes "play") ⊎ (name ≡ codes "code") ⊎ (name ≡ codes "write") ⊎ (name ≡ codes "draw") ⊎
     (name ≡ codes "switch") ⊎ (name ≡ codes "source")
 
--- Words are refused for want of memory, or as they say none.
+-- Words are refused for want of memory, or as they say none, or a port twice.
 abbrev pub IsRefused : (name : Text) → ArgMatches → WordsFault → Type 0
 IsRefused name found fault = (fault ≡ Memory) ⊎ SaysNone name found

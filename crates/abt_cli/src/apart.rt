@@ -4,6 +4,7 @@ ghost use Rattle.abt_files.specs.Names.{AreNamesApart};
 ghost use Rattle.abt_cli.specs.Lost.{listed};
 
 use crate::command::{AuditCommand, Command};
+use crate::lost::PRINTED;
 use abt_draw::PicturePlan;
 use abt_files::are_apart;
 use std::alloc::{AllocError, AllocGlobal};
@@ -31,9 +32,12 @@ pub(crate) fn writes_apart<T: Files + AllocGlobal>(
             both_apart(rt, &used, drawn(&plan.picture), named(&plan.events))
         }
         Command::Draw(command) => {
-            let used = [source(&command.file)];
             let picture = command.picture.out.as_str();
-            both_apart(rt, &used, Some(picture), named(&command.events))
+            let events = named(&command.events);
+            if picture == PRINTED {
+                return both_apart(rt, &[source(&command.file), OUTPUT], None, events);
+            }
+            both_apart(rt, &[source(&command.file)], Some(picture), events)
         }
         Command::Switch(plan) => {
             let used = [plan.file.as_str(), INPUT, OUTPUT];

@@ -1,9 +1,8 @@
 //! The commands of the program, with what their words name.
-use abt_codes::MessageWords;
+use abt_codes::{MessageWords, SaidRate};
 use abt_draw::PicturePlan;
 use abt_live_files::{SourcePlan, SwitchPlan};
 use abt_play::PlayPlan;
-use abt_rate::Rate;
 use abt_step::AnswerForm;
 use abt_weave::Actor;
 
@@ -42,11 +41,8 @@ pub enum Command {
         json: bool,
         quiet: bool,
     },
-    /// Tell what is wrong or doubtful in a scenario.
-    Check {
-        file: Option<String>,
-        json: bool,
-    },
+    /// Tell what is wrong or doubtful in scenarios.
+    Check(CheckCommand),
     /// Say whether journals are those of one safe run.
     Audit(AuditCommand),
     /// Say whether the log of one port or one source obeys, judged alone.
@@ -54,12 +50,12 @@ pub enum Command {
     /// Judge the arrivals of cells, a line of the standard input each, by a tolerance in picoseconds and a rate.
     Police {
         tau: u64,
-        rate: Rate,
+        rate: SaidRate,
         json: bool,
     },
     /// Say when cells leave at a rate, a line of the standard input each.
     Shape {
-        rate: Rate,
+        rate: SaidRate,
         json: bool,
     },
     /// Let events happen to the net of a scenario's file, a line of the standard input each.
@@ -104,6 +100,19 @@ pub struct ThreadsCommand {
     pub explain: bool,
     /// Whether nothing is shown of how far it is.
     pub quiet: bool,
+}
+
+/// A check of scenarios.
+#[derive(Drop)]
+pub struct CheckCommand {
+    /// The files of the scenarios, in this order; the standard input, if there are none.
+    pub files: Vec<String>,
+    /// Whether it is told as JSON.
+    pub json: bool,
+    /// Whether each line names its file as editors read it, also if there is one file alone.
+    pub located: bool,
+    /// Whether it is tested that the events have the outcomes that the scenarios expect; then it is told as tests.
+    pub expect: bool,
 }
 
 /// An audit of journals.

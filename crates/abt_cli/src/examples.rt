@@ -62,7 +62,9 @@ pub(crate) const CHECK: &str = "Example:
   printf 'ports = [512000]\\nevents = [\"akk 0 5120\"]\\n' | abt check
   line 2, column 11: fault EventText 1: no event begins with `akk`; did you mean `ask`?
   faults: 1, warnings: 0
-The status is 0 if no fault is told, also if there are warnings, and else 1.";
+With several files, or with --located, each line begins as editors read it: a.toml:2:11: fault: EventText 1: ..
+With --expect it is told in TAP whether each file's events have the outcomes that its array expect has.
+The status is 0 if no fault is told, also if there are warnings, and else 1; with --expect, 0 if no test is not ok.";
 
 pub(crate) const AUDIT: &str = "Example:
   abt audit run.jsonl

@@ -133,7 +133,7 @@ pub(crate) fn draw_command<'a>(alloc: Global) -> Result<Command<'a>, AllocError>
     let out = written(
         alloc,
         OUTPUT,
-        "Write the picture to this file: a picture if it ends in .svg, a page if in .html",
+        "Write the picture to this file: a picture if it ends in .svg, a page if in .html; - is the standard output",
     );
     let draw = command(
         alloc,

@@ -11,7 +11,9 @@ use crate::names::{
     SEQ, STATE, VCI, VPI,
 };
 use crate::picture_words::{picture_if_named, picture_of};
-use crate::readers::{number_in, rate_in, tau_in, text_in, word_in, workers_in, wrong_words};
+use crate::readers::{
+    file_in, number_in, rate_in, tau_in, text_in, word_in, workers_in, wrong_words,
+};
 use abt_codes::{Kind, MessageWords};
 use abt_perform::WordsFault;
 use abt_play::{Chances, PlayPlan};
@@ -69,7 +71,7 @@ pub(crate) fn play_of(alloc: Global, found: &ArgMatches<'_>) -> Result<Command, 
     ensures err { IfErr result (IsRefused (codes "play") found.now) }
 {
     let chances = chances_of(alloc, found)?;
-    let file = text_in(alloc, found, FILE)?;
+    let file = file_in(alloc, found)?;
     let events = text_in(alloc, found, EVENTS)?;
     let picture = picture_if_named(alloc, found)?;
     Ok(Command::Play(PlayPlan {
@@ -146,7 +148,7 @@ pub(crate) fn draw_of(alloc: Global, found: &ArgMatches<'_>) -> Result<Command, 
 {
     let workers = workers_in(alloc, found)?;
     let picture = picture_of(alloc, found, OUTPUT)?;
-    let file = text_in(alloc, found, FILE)?;
+    let file = file_in(alloc, found)?;
     let events = text_in(alloc, found, EVENTS)?;
     Ok(Command::Draw(DrawCommand {
         file,

@@ -18,11 +18,12 @@ mod picture_words;
 mod plans;
 mod progress_shown;
 mod readers;
+mod rounding;
 mod scenario_words;
 mod telling;
 mod words;
 
-pub use command::{AuditCommand, Command, DrawCommand, LogCommand, ThreadsCommand};
+pub use command::{AuditCommand, CheckCommand, Command, DrawCommand, LogCommand, ThreadsCommand};
 pub use environment::given_command;
 pub use telling::answer_words;
 pub use words::{command_words, plan_words};

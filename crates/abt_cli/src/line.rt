@@ -6,8 +6,9 @@ use crate::hand_line::{
 };
 use crate::live_line::{source_command, switch_command};
 use crate::names::{
-    CODE, DRAW, EVENTS, EXPLAIN, JOURNALS, JSON, OF_SOURCE, PORT, capacity, cell, cells, explain,
-    journal_files, json, quiet, scenario, stdin, valued, with_drawn_part, word, workers, written,
+    CODE, DRAW, EVENTS, EXPLAIN, JOURNALS, JSON, LOCATED, OF_SOURCE, PORT, capacity, cell, cells,
+    expect, explain, journal_files, json, located, quiet, scenario, scenario_files, stdin, valued,
+    with_drawn_part, word, workers, written,
 };
 use clap::Command;
 use std::alloc::{AllocError, Global};
@@ -168,11 +169,13 @@ fn check_command<'a>(alloc: Global) -> Result<Command<'a>, AllocError> {
     command(
         alloc,
         "check",
-        "Tell what is wrong or doubtful in a scenario, with its line and column",
+        "Tell what is wrong or doubtful in scenarios, with line and column",
         examples::CHECK,
     )
-    .arg(scenario(alloc))?
-    .arg(json(alloc))
+    .arg(scenario_files(alloc))?
+    .arg(json(alloc))?
+    .arg(located(alloc))?
+    .arg(expect(alloc).conflicts_with(JSON)?.conflicts_with(LOCATED)?)
 }
 
 fn audit_command<'a>(alloc: Global) -> Result<Command<'a>, AllocError> {

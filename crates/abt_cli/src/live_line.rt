@@ -1,7 +1,7 @@
 //! The command line of a switch and a source as processes.
 use crate::examples;
 use crate::line::command;
-use crate::names::{CONNECTION, journal, net, new, ports, store, word};
+use crate::names::{CONNECTION, binary, journal, net, new, ports, store, word};
 use clap::Command;
 use std::alloc::{AllocError, Global};
 
@@ -17,7 +17,8 @@ pub(crate) fn switch_command<'a>(alloc: Global) -> Result<Command<'a>, AllocErro
     .arg(journal(
         alloc,
         "The journal, a file that must not be there: a switch that ended lost its reservations",
-    ))
+    ))?
+    .arg(binary(alloc))
 }
 
 pub(crate) fn source_command<'a>(alloc: Global) -> Result<Command<'a>, AllocError> {
@@ -39,5 +40,6 @@ pub(crate) fn source_command<'a>(alloc: Global) -> Result<Command<'a>, AllocErro
             alloc,
             "The journal: read first, and written behind its last line",
         ))?
-        .arg(new(alloc))
+        .arg(new(alloc))?
+        .arg(binary(alloc))
 }

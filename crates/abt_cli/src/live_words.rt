@@ -1,14 +1,14 @@
 //! The words of a switch and a source as processes.
-ghost use Rattle.std.specs.Prelude.{◌≡◌, ◌⊎◌, ◌^◌, Some, None, IfErr, IfOk, codes};
+ghost use Rattle.std.specs.Prelude.{◌≡◌, ◌⊎◌, ◌^◌, ◌↔◌, Some, None, IfErr, IfOk, IsTrue, codes};
 ghost use Rattle.abt_perform.specs.declared.plan.WordsFault.TheVariants.{Memory};
 ghost use Rattle.abt_text.specs.Words.{number_below};
 ghost use Rattle.abt_cli.specs.Commands.{IsAllowed, IsCommandOf};
 ghost use Rattle.abt_cli.specs.Refused.{AreNoNumbers, IsRefused};
-ghost use Rattle.abt_cli.specs.Words.{AreNumbers, word_in, words_in};
+ghost use Rattle.abt_cli.specs.Words.{NameOneTwice, NamePorts, StandsTwice, word_in, words_in};
 
 use crate::command::Command;
-use crate::names::{CONNECTION, JOURNAL, NET, NEW, PORT, STORE};
-use crate::readers::{numbers_of, short_of, word_in};
+use crate::names::{BINARY, CONNECTION, JOURNAL, NET, NEW, PORT, STORE};
+use crate::readers::{numbers_of, short_of, word_in, wrong_words};
 use abt_live_files::{SourcePlan, SwitchPlan};
 use abt_perform::WordsFault;
 use clap::ArgMatches;
@@ -16,6 +16,9 @@ use std::alloc::Global;
 
 // The rule of a port.
 const PORT_RULE: &str = "--port names a port by its number in the net, digits alone";
+
+// The rule of ports together.
+const ONCE_RULE: &str = "--port names each port once";
 
 // The rule of a connection.
 const CONNECTION_RULE: &str =
@@ -33,16 +36,33 @@ pub(crate) fn switch_of(alloc: Global, found: &ArgMatches<'_>) -> Result<Command
         file,
         ports,
         journal,
+        is_binary: found.get_flag(BINARY),
     }))
 }
 
 // The ports that are named, in their order.
 fn ports_of(alloc: Global, found: &ArgMatches<'_>) -> Result<Vec<u16>, WordsFault>
-    ensures ok { IfOk result (λ ports. AreNumbers (words_in found.now (codes "port")) ports.items) }
-    ensures err { IfErr result
-        (λ fault. (fault ≡ Memory) ⊎ AreNoNumbers (words_in found.now (codes "port"))) }
+    ensures ok { IfOk result (λ ports. NamePorts (words_in found.now (codes "port")) ports.items) }
+    ensures err { IfErr result (λ fault. (fault ≡ Memory) ⊎
+        AreNoNumbers (words_in found.now (codes "port")) ⊎ NameOneTwice (words_in found.now (codes "port"))) }
 {
-    numbers_of(alloc, found.get_strs(PORT).unwrap_or(&[]), PORT_RULE)
+    let ports = numbers_of(alloc, found.get_strs(PORT).unwrap_or(&[]), PORT_RULE)?;
+    if stands_twice(ports.as_slice()) {
+        return Err(wrong_words(alloc, ONCE_RULE)?);
+    }
+    Ok(ports)
+}
+
+// Whether a number stands there twice.
+fn stands_twice(numbers: &[u16]) -> bool
+    ensures { IsTrue result ↔ StandsTwice numbers.now }
+{
+    for (place, number) in numbers.iter().enumerate() {
+        if numbers[..place].contains(number) {
+            return true;
+        }
+    }
+    false
 }
 
 pub(crate) fn source_of(alloc: Global, found: &ArgMatches<'_>) -> Result<Command, WordsFault>
@@ -54,12 +74,14 @@ pub(crate) fn source_of(alloc: Global, found: &ArgMatches<'_>) -> Result<Command
     let file = word_in(alloc, found, NET)?;
     let store = word_in(alloc, found, STORE)?;
     let journal = word_in(alloc, found, JOURNAL)?;
+    let is_binary = found.get_flag(BINARY);
     Ok(Command::Source(SourcePlan {
         file,
         conn,
         store,
         journal,
         is_new: found.get_flag(NEW),
+        is_binary,
     }))
 }
 

@@ -5,8 +5,8 @@ ghost use Rattle.abt_cli.specs.Commands.{IsActorIn, IsLogActor, IsLogAudit};
 ghost use Rattle.abt_cli.specs.Refused.{HasNoLogActor, IsNoActorIn};
 
 use crate::command::LogCommand;
-use crate::names::{FILES, OF_SOURCE, PORT, QUIET};
-use crate::readers::{short_of, words_in};
+use crate::names::{OF_SOURCE, PORT, QUIET};
+use crate::readers::{files_in, short_of};
 use abt_perform::WordsFault;
 use abt_weave::Actor;
 use clap::ArgMatches;
@@ -62,7 +62,7 @@ pub(crate) fn log_audit(
     ensures command { IfOk result (IsLogAudit found.now) }
     ensures same { IfOk result (λ command. command.actor ≡ actor) }
 {
-    let files = words_in(alloc, found, FILES)?;
+    let files = files_in(alloc, found)?;
     let quiet = found.get_flag(QUIET);
     Ok(LogCommand {
         files,

@@ -6,8 +6,8 @@ use crate::command::Command;
 use abt_draw::PicturePlan;
 use abt_live_files::{SourcePlan, SwitchPlan};
 
-// The standard output.
-const PRINTED: &str = "-";
+/// The standard output.
+pub(crate) const PRINTED: &str = "-";
 
 // Whether a command would write over a file that it reads, or write one file twice. Files are told apart by their names.
 pub(crate) fn loses_text(command: &Command) -> bool

@@ -19,7 +19,7 @@ pub const NET: &str = "NET";
 
 pub const CONNECTION: &str = "CONNECTION";
 
-/// The journals of `abt audit`.
+/// The scenarios of `abt check`, the journals of `abt audit`.
 pub const FILES: &str = "FILES";
 
 /// The rate of `abt code`.
@@ -40,6 +40,12 @@ pub const ASK: &str = "ASK";
 
 /// Whether a command answers as JSON.
 pub const JSON: &str = "json";
+
+/// Whether each line of a check names its file.
+pub const LOCATED: &str = "located";
+
+/// Whether scenarios are tested by what they expect.
+pub const EXPECT: &str = "expect";
 
 /// Whether cells come from the standard input.
 pub const STDIN: &str = "stdin";
@@ -94,6 +100,9 @@ pub const JOURNAL: &str = "journal";
 pub const STORE: &str = "store";
 
 pub const NEW: &str = "new";
+
+/// Messages as cells.
+pub const BINARY: &str = "binary";
 
 /// The seed and the chances of a play.
 pub const SEED: &str = "seed";
@@ -177,13 +186,20 @@ pub(crate) fn new<'a>(alloc: Global) -> Arg<'a> {
     )
 }
 
+pub(crate) fn binary<'a>(alloc: Global) -> Arg<'a> {
+    flag(
+        alloc,
+        BINARY,
+        "Have messages come and go as cells of 52 octets behind an octet that says which port, and all else as lines",
+    )
+}
+
 pub(crate) fn capacity<'a>(alloc: Global) -> Arg<'a> {
     word(
         alloc,
         CAPACITY,
-        "The capacity of the port's link in units of 1/512 cell/s, at most 2^60",
+        "The capacity of the port's link in units of 1/512 cell/s, at most 2^60, or in words, as 155Mbps",
     )
-    .value_parser(value_parser!(u64).range(0..=1152921504606846976))
 }
 
 pub(crate) fn cell<'a>(alloc: Global) -> Result<Arg<'a>, AllocError> {
@@ -200,12 +216,43 @@ pub(crate) fn cells<'a>(alloc: Global) -> Result<Arg<'a>, AllocError> {
     )
 }
 
-pub(crate) fn journal_files<'a>(alloc: Global) -> Arg<'a> {
+/// Any number of files that are read.
+fn files<'a>(alloc: Global, help: &'a str) -> Arg<'a> {
     Arg::new(alloc, FILES)
         .value_name("FILE")
         .action(ArgAction::Append)
         .num_args(0..)
-        .help("The journals, as JSON Lines; without a file they are read from the standard input")
+        .help(help)
+}
+
+pub(crate) fn journal_files<'a>(alloc: Global) -> Arg<'a> {
+    files(
+        alloc,
+        "The journals, as JSON Lines; without a file they are read from the standard input",
+    )
+}
+
+pub(crate) fn scenario_files<'a>(alloc: Global) -> Arg<'a> {
+    files(
+        alloc,
+        "The scenarios, TOML texts; without a file one is read from the standard input",
+    )
+}
+
+pub(crate) fn located<'a>(alloc: Global) -> Arg<'a> {
+    flag(
+        alloc,
+        LOCATED,
+        "Begin each line with FILE:LINE:COLUMN, as is done if there are several files",
+    )
+}
+
+pub(crate) fn expect<'a>(alloc: Global) -> Arg<'a> {
+    flag(
+        alloc,
+        EXPECT,
+        "Run each scenario, and test that its events have the outcomes of its array expect; answer in TAP",
+    )
 }
 
 pub(crate) fn json<'a>(alloc: Global) -> Arg<'a> {
@@ -263,7 +310,7 @@ pub(crate) fn tau<'a>(alloc: Global) -> Arg<'a> {
         alloc,
         TAU,
         "T",
-        "The tolerance in picoseconds, at most 10^12",
+        "The tolerance in picoseconds, at most 10^12, or in ns, us or ms, as 200ns",
     )
     .required(true)
 }
@@ -273,7 +320,7 @@ pub(crate) fn rate<'a>(alloc: Global) -> Arg<'a> {
         alloc,
         RATE,
         "RATE",
-        "The rate: a code, four hexadecimal digits, or one that a code says exactly, as 500cps",
+        "The rate: a code, four hexadecimal digits, or a rate in words, as 500cps; it means the nearest code below",
     )
     .required(true)
 }

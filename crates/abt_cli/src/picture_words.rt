@@ -6,7 +6,8 @@ ghost use Rattle.abt_cli.specs.Pictures as pictures;
 ghost use Rattle.abt_cli.specs.Refused.{HasNoPicture};
 ghost use Rattle.abt_cli.specs.Words.{AreNumbers, text_in};
 
-use crate::names::{DRAW, FROM, ONLY, TO};
+use crate::lost::PRINTED;
+use crate::names::{DRAW, FROM, ONLY, OUTPUT, TO};
 use crate::readers::{numbers_of, wrong_words};
 use abt_draw::PicturePlan;
 use abt_perform::WordsFault;
@@ -67,13 +68,23 @@ pub(crate) fn picture_if_named(
 // The file under a name, and whether it is for a page; none if its name ends in no way that is known.
 fn file_of<'a>(found: &ArgMatches<'a>, name: &str) -> Option<(&'a str, bool)>
     ensures some { IfSome result (λ file. (text_in found.now name.now ≡ Some file.0.now) ×
-        (pictures.is_page file.0.now ≡ Some file.1)) }
+        (pictures.page_of name.now file.0.now ≡ Some file.1)) }
     ensures none { IfNone result ((file : List ℕ) → text_in found.now name.now ≡ Some file →
-        pictures.is_page file ≡ None) }
+        pictures.page_of name.now file ≡ None) }
 {
     let file = found.get_str(name)?;
-    let page = is_page(file)?;
+    let page = page_of(name, file)?;
     Some((file, page))
+}
+
+// Whether a file under a name is for a page. The picture of `abt draw` may go to the standard output.
+fn page_of(name: &str, file: &str) -> Option<bool>
+    ensures { result ≡ pictures.page_of name.now file.now }
+{
+    if name == OUTPUT && file == PRINTED {
+        return Some(false);
+    }
+    is_page(file)
 }
 
 // Whether a file is for a page, by the end of its name.

@@ -1,35 +1,37 @@
 //! Readers of the words that `clap` found, and what is told of words that are refused.
-ghost use Rattle.std.specs.Prelude.{◌≡◌, ◌⊎◌, ◌^◌, Some, None, IfErr, IfOk, IfSome, codes, map, option_map, string_bytes};
+ghost use Rattle.std.specs.Prelude.{◌≡◌, ◌⊎◌, ◌^◌, Some, None, IfErr, IfOk, IfSome, IsNone, codes, map, option_map, string_bytes};
 ghost use Rattle.abt_perform.specs.declared.plan.WordsFault.TheVariants.{Memory};
 ghost use Rattle.abt_cli.specs.Commands.{IsCountIn};
 ghost use Rattle.abt_cli.specs.Refused.{AreNoNumbers, IsNoCapacity, IsNoCount, IsNoCountIn, IsNoNumberIn, IsNoRate, IsNoTolerance};
-ghost use Rattle.abt_cli.specs.Words.{AreNumbers, IsCapacity, IsCount, IsNumberIn, IsTolerance, text_in, word_in, words_in};
+ghost use Rattle.abt_cli.specs.Words.{AreNumbers, IsCapacity, IsCount, IsNumberIn, IsTolerance, file_in, files_in, text_in, word_in, words_in};
 ghost use Rattle.abt_codes.specs.Nearest.{IsSaid};
 ghost use Rattle.abt_rate.specs.Limits.{AreWorkers};
 ghost use Rattle.abt_text.specs.Words.{number_below};
 
 use crate::decimal::decimal_of;
-use crate::names::{CAPACITY, RATE, TAU, WORKERS};
-use abt_codes::rate_said;
+use crate::names::{CAPACITY, FILE, FILES, RATE, TAU, WORKERS};
+use abt_codes::{SaidRate, picoseconds_in, rate_said, units_in};
 use abt_perform::WordsFault;
-use abt_rate::{CAPACITY_MAX, Rate, TAU_MAX, WORKERS_MAX};
+use abt_rate::{CAPACITY_MAX, TAU_MAX, WORKERS_MAX};
 use abt_text::{u16_of, u64_of};
 use clap::ArgMatches;
 use clap::error::ErrorKind;
 use std::alloc::{AllocError, Global};
 
 // The rule of a capacity.
-const CAPACITY_RULE: &str = "a capacity is a decimal number of at most 2^60, digits alone";
+const CAPACITY_RULE: &str =
+    "a capacity is a decimal number of units, or a rate in words such as 155Mbps, of at most 2^60 units";
 
 // The rule of a count of link workers.
 const WORKERS_RULE: &str = "there are 1 to 64 link workers, a decimal number, digits alone";
 
 // The rule of a tolerance.
-const TAU_RULE: &str = "a tolerance is a decimal number of at most 10^12, digits alone";
+const TAU_RULE: &str =
+    "a tolerance is a whole number of picoseconds, or of ns, us or ms as in 200ns, of at most 10^12 picoseconds";
 
 // The rule of a rate.
 const RATE_RULE: &str =
-    "a rate is a code, four hexadecimal digits, or a rate in words that a code says exactly";
+    "a rate is a code, four hexadecimal digits, or a rate in words, such as 500cps or 1.3Mbps";
 
 // The rule of a seed and of chances.
 const NUMBERS_RULE: &str =
@@ -46,6 +48,27 @@ pub(crate) fn text_in(
     match found.get_str(name) {
         Some(text) => Ok(Some(String::from_str(alloc, text)?)),
         None => Ok(None),
+    }
+}
+
+/// The file of the scenario, if one is named; `-` is the standard input.
+pub(crate) fn file_in(alloc: Global, found: &ArgMatches<'_>) -> Result<Option<String>, AllocError>
+    ensures { IfOk result (λ file. option_map string_bytes file ≡ file_in found.now) }
+{
+    match found.get_str(FILE) {
+        Some("-") | None => Ok(None),
+        Some(name) => Ok(Some(String::from_str(alloc, name)?)),
+    }
+}
+
+/// The files of journals, in their order; `-` alone is the standard input.
+pub(crate) fn files_in(alloc: Global, found: &ArgMatches<'_>) -> Result<Vec<String>, AllocError>
+    ensures { IfOk result (λ files. map string_bytes files.items ≡ files_in found.now) }
+{
+    let words = found.get_strs(FILES).unwrap_or(&[]);
+    match words {
+        ["-"] => Ok(Vec::new(alloc)),
+        _ => texts_of(alloc, words),
     }
 }
 
@@ -88,9 +111,31 @@ pub(crate) fn capacity_of(alloc: Global, found: &ArgMatches<'_>) -> Result<u64, 
     ensures err { IfErr result (λ fault. (fault ≡ Memory) ⊎
         IsNoCapacity (word_in found.now (codes "CAPACITY"))) }
 {
-    match decimal_of(found.get_str(CAPACITY).unwrap_or(""), CAPACITY_MAX) {
+    capacity_said(alloc, found.get_str(CAPACITY).unwrap_or(""))
+}
+
+// The capacity that a word says, or what it should have said.
+fn capacity_said(alloc: Global, word: &str) -> Result<u64, WordsFault>
+    ensures ok { IfOk result (IsCapacity word.now) }
+    ensures err { IfErr result (λ fault. (fault ≡ Memory) ⊎ IsNoCapacity word.now) }
+{
+    match capacity_in(word) {
         Some(capacity) => Ok(capacity),
         None => Err(wrong_words(alloc, CAPACITY_RULE)?),
+    }
+}
+
+// The capacity that a word says.
+fn capacity_in(word: &str) -> Option<u64>
+    ensures some { IfSome result (IsCapacity word.now) }
+    ensures none { IsNone result → IsNoCapacity word.now }
+{
+    if let Some(capacity) = decimal_of(word, CAPACITY_MAX) {
+        return Some(capacity);
+    }
+    match units_in(word) {
+        Some(units) if units <= u128::from(CAPACITY_MAX) => Some(units as u64),
+        _ => None,
     }
 }
 
@@ -133,14 +178,14 @@ pub(crate) fn tau_in(alloc: Global, found: &ArgMatches<'_>) -> Result<u64, Words
     ensures err { IfErr result (λ fault. (fault ≡ Memory) ⊎
         IsNoTolerance (word_in found.now (codes "tau"))) }
 {
-    match u64_of(found.get_str(TAU).unwrap_or("")) {
-        Some(tau) if tau <= TAU_MAX => Ok(tau),
+    match picoseconds_in(found.get_str(TAU).unwrap_or("")) {
+        Some(tau) if tau <= u128::from(TAU_MAX) => Ok(tau as u64),
         _ => Err(wrong_words(alloc, TAU_RULE)?),
     }
 }
 
 /// The rate that is named.
-pub(crate) fn rate_in(alloc: Global, found: &ArgMatches<'_>) -> Result<Rate, WordsFault>
+pub(crate) fn rate_in(alloc: Global, found: &ArgMatches<'_>) -> Result<SaidRate, WordsFault>
     ensures ok { IfOk result (IsSaid (word_in found.now (codes "rate"))) }
     ensures err { IfErr result (λ fault. (fault ≡ Memory) ⊎
         IsNoRate (word_in found.now (codes "rate"))) }

@@ -4,11 +4,11 @@ ghost use Rattle.abt_cli.specs.Commands.{AreCells, IsAllowed, IsCell, IsCommandO
 ghost use Rattle.abt_cli.specs.Refused.{IsRefused};
 ghost use Rattle.abt_perform.specs.declared.plan.WordsFault.TheVariants.{Memory};
 
-use crate::command::{AuditCommand, Command, ThreadsCommand};
+use crate::command::{AuditCommand, CheckCommand, Command, ThreadsCommand};
 use crate::log_words::{log_actor, log_audit};
-use crate::names::{CODE, EVENTS, EXPLAIN, FILE, FILES, HEX, JOURNALS, JSON, QUIET, STDIN};
+use crate::names::{CODE, EVENTS, EXPECT, EXPLAIN, HEX, JOURNALS, JSON, LOCATED, QUIET, STDIN};
 use crate::picture_words::picture_if_named;
-use crate::readers::{capacity_of, text_in, word_in, words_in, workers_of};
+use crate::readers::{capacity_of, file_in, files_in, text_in, word_in, words_in, workers_of};
 use abt_perform::WordsFault;
 use clap::ArgMatches;
 use std::alloc::{AllocError, Global};
@@ -73,7 +73,7 @@ pub(crate) fn run_of(alloc: Global, found: &ArgMatches<'_>) -> Result<Command, W
     ensures command { IfOk result (IsCommandOf (codes "run") found.now) }
     ensures err { IfErr result (IsRefused (codes "run") found.now) }
 {
-    let file = text_in(alloc, found, FILE)?;
+    let file = file_in(alloc, found)?;
     let json = found.get_flag(JSON);
     let explain = found.get_flag(EXPLAIN);
     let quiet = found.get_flag(QUIET);
@@ -91,7 +91,7 @@ pub(crate) fn threads_of(alloc: Global, found: &ArgMatches<'_>) -> Result<Comman
     ensures err { IfErr result (IsRefused (codes "threads") found.now) }
 {
     let workers = workers_of(alloc, found)?;
-    let file = text_in(alloc, found, FILE)?;
+    let file = file_in(alloc, found)?;
     let journals = text_in(alloc, found, JOURNALS)?;
     let events = text_in(alloc, found, EVENTS)?;
     Ok(Command::Threads(ThreadsCommand {
@@ -110,7 +110,7 @@ pub(crate) fn explain_of(alloc: Global, found: &ArgMatches<'_>) -> Result<Comman
     ensures command { IfOk result (IsCommandOf (codes "explain") found.now) }
     ensures err { IfErr result (IsRefused (codes "explain") found.now) }
 {
-    let file = text_in(alloc, found, FILE)?;
+    let file = file_in(alloc, found)?;
     let json = found.get_flag(JSON);
     let quiet = found.get_flag(QUIET);
     Ok(Command::Explain { file, json, quiet })
@@ -121,9 +121,13 @@ pub(crate) fn check_of(alloc: Global, found: &ArgMatches<'_>) -> Result<Command,
     ensures command { IfOk result (IsCommandOf (codes "check") found.now) }
     ensures err { IfErr result (IsRefused (codes "check") found.now) }
 {
-    let file = text_in(alloc, found, FILE)?;
-    let json = found.get_flag(JSON);
-    Ok(Command::Check { file, json })
+    let as_json = found.get_flag(JSON);
+    Ok(Command::Check(CheckCommand {
+        files: files_in(alloc, found)?,
+        json: as_json,
+        located: found.get_flag(LOCATED),
+        expect: found.get_flag(EXPECT),
+    }))
 }
 
 pub(crate) fn audit_of(alloc: Global, found: &ArgMatches<'_>) -> Result<Command, WordsFault>
@@ -135,7 +139,7 @@ pub(crate) fn audit_of(alloc: Global, found: &ArgMatches<'_>) -> Result<Command,
         return Ok(Command::AuditLog(log_audit(alloc, found, actor)?));
     }
     let picture = picture_if_named(alloc, found)?;
-    let files = words_in(alloc, found, FILES)?;
+    let files = files_in(alloc, found)?;
     let events = text_in(alloc, found, EVENTS)?;
     let quiet = found.get_flag(QUIET);
     Ok(Command::Audit(AuditCommand {

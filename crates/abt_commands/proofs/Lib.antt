@@ -1,1 +1,3 @@
+mod FilesTold
+mod MayPrint
 mod Results

@@ -5,6 +5,8 @@ pub mod AuditsLog
 pub mod Carried
 pub mod Check
 pub mod Checked
+pub mod CheckedFiles
+pub mod Delivered
 pub mod Draws
 pub mod DrawsThreads
 pub mod Ends

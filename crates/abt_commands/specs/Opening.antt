@@ -33,6 +33,12 @@ unopened_line Memory = fault_line fault.Memory
 unopened_line Folder = fault_line fault.Read
 unopened_line why = open_line
 
+-- the name of that fault
+abbrev pub unopened_name : Why → Text
+unopened_name Memory = codes "memory"
+unopened_name Folder = codes "read"
+unopened_name why = codes "open"
+
 abbrev pub why_words : Why → Text
 why_words Memory = codes "memory was refused"
 why_words Missing = codes "there is no such file"

@@ -18,7 +18,7 @@ pub record EndsProcess (Done Refused : (left old new told_old told_new : Option 
 -- The scenario is that of some reader, which is there in place of the file; the ports that are named answer the lines, and nothing is told.
 pub record IsSwitched {J : Type 0} (contents : J → Option Text) (plan : SwitchPlan) (left old new told_old told_new : Option Text) : Type 0 where
   pub net : Option Text
-  pub served : IsSwitchServed contents net plan.ports.items left old new
+  pub served : IsSwitchServed contents net plan left old new
   pub quiet : Keeps told_old told_new
 
 -- Lines that the ports don't all answer, over some reader in place of the file: it is told why, by the name of the journal, or the port.

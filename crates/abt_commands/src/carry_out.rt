@@ -74,12 +74,15 @@ where
             json,
             quiet: _,
         } => explain(rt, progress, &file, json, input, out, errors),
-        Command::Check { file, json } => check(rt, progress, &file, json, input, out, errors),
+        Command::Check(command) => check(rt, progress, &command, input, out, errors),
         Command::Audit(command) => audit(rt, progress, &command, input, out, errors),
         Command::AuditLog(command) => audit_log(rt, progress, &command, input, out, errors),
         Command::Police { tau, rate, json } => answer_lines(
             alloc,
-            PartsPlan::Police { tau, rate },
+            PartsPlan::Police {
+                tau,
+                rate: rate.rate,
+            },
             json,
             input,
             out,
@@ -87,7 +90,7 @@ where
         ),
         Command::Shape { rate, json } => answer_lines(
             alloc,
-            PartsPlan::Shape { rate },
+            PartsPlan::Shape { rate: rate.rate },
             json,
             input,
             out,

@@ -3,7 +3,7 @@ ghost use Rattle.abt_commands.specs.Draws.{Draws, DrawsScenario, EndsDrawnOver};
 
 use crate::draw_threads::draw_threads;
 use crate::input::{Input, opened};
-use crate::picture_file::keep_text;
+use crate::picture_file::deliver;
 use abt_cli::DrawCommand;
 use abt_draw::{PicturePlan, drawing_of, tell_draw_fault};
 use abt_progress::Progress;
@@ -14,7 +14,7 @@ use std::sync::Wait;
 use std::thread::Threads;
 
 // Draws the scenario of a file, or else of the input that is there, or a run of its scripts in threads, and gives the exit status. The
-// picture goes to its own file, whole or not at all.
+// picture goes to its own file, whole or not at all, or out.
 pub(crate) fn draw<T, R: Read, W: Write, E: Write, P: Write + Drop>(
     rt: &T,
     progress: &Progress<P>,
@@ -54,19 +54,19 @@ fn draw_scenario<T: Files + AllocGlobal, R: Read, W: Write, E: Write, P: Write +
     }
 }
 
-// Draws the scenario that a reader has left. Nothing is printed.
+// Draws the scenario that a reader has left.
 fn over_reader<T: Files + AllocGlobal, R: Read, W: Write, E: Write>(
     rt: &T,
     picture: &PicturePlan,
     reader: &mut R,
-    _out: &mut W,
+    out: &mut W,
     errors: &mut E,
 ) -> u8
     ensures { EndsDrawnOver picture.now result (R.remaining reader.old) (R.remaining reader.new)
-        (W.contents _out.old) (W.contents _out.new) (E.contents errors.old) (E.contents errors.new) }
+        (W.contents out.old) (W.contents out.new) (E.contents errors.old) (E.contents errors.new) }
 {
     match drawing_of(rt.alloc(), picture, reader) {
-        Ok(text) => keep_text(rt, picture, text.as_str(), errors),
+        Ok(text) => deliver(rt, picture, text.as_str(), out, errors),
         Err(fault) => {
             tell_draw_fault(rt.alloc(), fault, errors);
             1

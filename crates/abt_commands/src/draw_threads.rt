@@ -2,14 +2,15 @@
 ghost use Rattle.std.specs.Prelude.{◌≡◌, ◌⊎◌, ◌+◌, option_map, string_bytes, IfErr, IfOk};
 ghost use Rattle.std.specs.Io.KnownBytes.{Keeps};
 ghost use Rattle.abt_text.specs.Streams.{ConsumesAtMost, text_max};
-ghost use Rattle.abt_commands.specs.DrawsThreads.{DrawsThreads, EndsRunDrawnOver, IsNoRunOfText, IsRunOfText};
+ghost use Rattle.abt_commands.specs.Delivered.{is_printed};
+ghost use Rattle.abt_commands.specs.DrawsThreads.{DrawsThreads, EndsRunDrawnOver, IsNoRunOfText, IsRunOfText, MayPrint};
 ghost use Rattle.abt_commands.specs.Saved.{IsSavedIfNamed};
 
 use crate::input::{Input, opened};
-use crate::picture_file::keep_picture;
+use crate::picture_file::{deliver, keep_picture};
 use crate::saving::save_if_named;
 use abt_cli::DrawCommand;
-use abt_draw::{PicturePlan, Scene, picture_of};
+use abt_draw::{DrawFault, PicturePlan, Scene, picture_of, tell_draw_fault};
 use abt_model::Event;
 use abt_net::Net;
 use abt_perform::{Fault, tell_fault};
@@ -47,22 +48,22 @@ where
     }
 }
 
-// Runs the scenario that a reader has left, and draws and writes its events as the command says. Nothing is printed.
+// Runs the scenario that a reader has left, and draws and writes its events as the command says.
 fn over_reader<T, R: Read, W: Write, E: Write>(
     rt: &T,
     command: &DrawCommand,
     workers: u16,
     reader: &mut R,
-    _out: &mut W,
+    out: &mut W,
     errors: &mut E,
 ) -> u8
 where
     T: Files + AllocGlobal + Threads + Wait + Sync,
     ensures { EndsRunDrawnOver workers command.now result (R.remaining reader.old) (R.remaining reader.new)
-        (W.contents _out.old) (W.contents _out.new) (E.contents errors.old) (E.contents errors.new) }
+        (W.contents out.old) (W.contents out.new) (E.contents errors.old) (E.contents errors.new) }
 {
     match run_of(rt, rt.alloc(), workers, reader) {
-        Ok(run) => keep_run(rt, command, &run, errors),
+        Ok(run) => keep_run(rt, command, &run, out, errors),
         Err(fault) => {
             tell_fault(fault, errors);
             1
@@ -85,28 +86,48 @@ pub(crate) fn run_of<T: Threads + Wait + Sync, R: Read>(
     show_scenario(rt, alloc, workers, reader, &mut lines)
 }
 
-// Writes the events of a run to the file for them, if there is to be one, and their picture to its own. Gives the exit status.
-fn keep_run<T: Files + AllocGlobal, E: Write>(
+// Writes the events of a run to the file for them, if there is to be one, and their picture to its own, or out. Gives the exit status.
+fn keep_run<T: Files + AllocGlobal, W: Write, E: Write>(
     rt: &T,
     command: &DrawCommand,
     run: &JudgedRun,
+    out: &mut W,
     errors: &mut E,
 ) -> u8
     ensures status { (result ≡ 0) ⊎ (result ≡ 1) }
     ensures ok { result ≡ 0 →
         IsSavedIfNamed (option_map string_bytes command.now.events) run.now.ran.net run.now.judged.events }
     ensures quiet { result ≡ 0 → Keeps (E.contents errors.old) (E.contents errors.new) }
+    ensures printed { MayPrint (is_printed command.now.picture) (W.contents out.old) (W.contents out.new) }
 {
     let JudgedRun { ran, judged } = run;
     let events = judged.events.as_slice();
-    keep_events(
-        rt,
-        &command.events,
-        &command.picture,
-        &ran.net,
-        events,
-        errors,
-    )
+    let saved = save_if_named(rt, &command.events, &ran.net, events, errors);
+    let drawn = draw_run(rt, &command.picture, &ran.net, events, out, errors);
+    if saved == 0 { drawn } else { saved }
+}
+
+// Draws events, and puts the picture into its file, or out. Gives the exit status.
+#[tactic(auto, using(crate::proofs::MayPrint::delivered, crate::proofs::MayPrint::none_out))]
+fn draw_run<T: Files + AllocGlobal, W: Write, E: Write>(
+    rt: &T,
+    picture: &PicturePlan,
+    net: &Net,
+    events: &[Event],
+    out: &mut W,
+    errors: &mut E,
+) -> u8
+    ensures status { (result ≡ 0) ⊎ (result ≡ 1) }
+    ensures quiet { result ≡ 0 → Keeps (E.contents errors.old) (E.contents errors.new) }
+    ensures printed { MayPrint (is_printed picture.now) (W.contents out.old) (W.contents out.new) }
+{
+    match text_of(rt.alloc(), picture, net, events) {
+        Ok(text) => deliver(rt, picture, text.as_str(), out, errors),
+        Err(fault) => {
+            tell_draw_fault(rt.alloc(), fault, errors);
+            1
+        }
+    }
 }
 
 // Writes events as a scenario to the file that may be named, and their picture to its own, or tells why not. Gives the exit status.
@@ -123,13 +144,23 @@ pub(crate) fn keep_events<T: Files + AllocGlobal, E: Write>(
     ensures quiet { result ≡ 0 → Keeps (E.contents errors.old) (E.contents errors.new) }
 {
     let saved = save_if_named(rt, name, net, events, errors);
+    let text = text_of(rt.alloc(), picture, net, events);
+    let drawn = keep_picture(rt, picture, text, errors);
+    if saved == 0 { drawn } else { saved }
+}
+
+// The text of the picture of events, which stand in no text.
+fn text_of(
+    alloc: Global,
+    picture: &PicturePlan,
+    net: &Net,
+    events: &[Event],
+) -> Result<String, DrawFault> {
     let scene = Scene {
         net,
         events,
         lines: &[],
         stuck: &[],
     };
-    let text = picture_of(rt.alloc(), picture, &scene);
-    let drawn = keep_picture(rt, picture, text, errors);
-    if saved == 0 { drawn } else { saved }
+    picture_of(alloc, picture, &scene)
 }

@@ -8,6 +8,7 @@ mod audit_picture;
 mod carry_out;
 mod cell;
 mod check;
+mod check_files;
 mod codes;
 mod draw;
 mod draw_threads;

@@ -122,7 +122,19 @@ fn unopened_line(why: Why) -> &'static str
     }
 }
 
-fn why_words(why: Why) -> &'static str
+// The name of that fault.
+pub(crate) fn unopened_name(why: Why) -> &'static str
+    ensures { result.now ≡ spec.unopened_name why }
+{
+    match why {
+        Why::Memory => "memory",
+        Why::Folder => "read",
+        _ => "open",
+    }
+}
+
+// Why a file can't be opened or read, in words.
+pub(crate) fn why_words(why: Why) -> &'static str
     ensures { result.now ≡ spec.why_words why }
 {
     match why {

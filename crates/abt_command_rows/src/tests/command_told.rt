@@ -1,5 +1,5 @@
 //! Commands in words.
-use abt_cli::{AuditCommand, Command, DrawCommand, LogCommand, ThreadsCommand};
+use abt_cli::{AuditCommand, CheckCommand, Command, DrawCommand, LogCommand, ThreadsCommand};
 use abt_codes::{Kind, MessageWords};
 use abt_draw::PicturePlan;
 use abt_play::PlayPlan;
@@ -44,9 +44,7 @@ pub(super) fn told(alloc: Global, command: &Command) -> Result<String, Fail> {
             &["explain", named(file)],
             &[("json", *json), ("quiet", *quiet)],
         ),
-        Command::Check { file, json } => {
-            flagged(alloc, &["check", named(file)], &[("json", *json)])
-        }
+        Command::Check(command) => check_told(alloc, command),
         Command::Audit(command) => audit_told(alloc, command),
         Command::AuditLog(command) => log_told(alloc, command),
         _ => other_told(alloc, command),
@@ -56,12 +54,12 @@ pub(super) fn told(alloc: Global, command: &Command) -> Result<String, Fail> {
 fn other_told(alloc: Global, command: &Command) -> Result<String, Fail> {
     match command {
         Command::Police { tau, rate, json } => {
-            let units = rate.units();
+            let units = rate.rate.units();
             let text = format!(in alloc; "police {tau} {units}")?;
             flagged(alloc, &[text.as_str()], &[("json", *json)])
         }
         Command::Shape { rate, json } => {
-            let units = rate.units();
+            let units = rate.rate.units();
             let text = format!(in alloc; "shape {units}")?;
             flagged(alloc, &[text.as_str()], &[("json", *json)])
         }
@@ -87,6 +85,16 @@ fn other_told(alloc: Global, command: &Command) -> Result<String, Fail> {
         Command::Draw(command) => draw_told(alloc, command),
         _ => Err(Fail::from("another command")),
     }
+}
+
+fn check_told(alloc: Global, command: &CheckCommand) -> Result<String, Fail> {
+    let files = listed(alloc, command.files.as_slice())?;
+    let flags = [
+        ("json", command.json),
+        ("located", command.located),
+        ("expect", command.expect),
+    ];
+    flagged(alloc, &["check", files.as_str()], &flags)
 }
 
 fn threads_told(alloc: Global, command: &ThreadsCommand) -> Result<String, Fail> {

@@ -7,7 +7,7 @@ use std::process::Abort;
 use std::test::Fail;
 
 // Words behind the program's name, and the command that they ask for, as `told` says it. A field that is empty is told as `-`.
-const ROWS: [(&str, &str); 42] = [
+const ROWS: [(&str, &str); 47] = [
     ("rate 53e8", "rate 53e8"),
     ("rate 53e8 --json", "rate 53e8 json"),
     ("rate --json 53e8", "rate 53e8 json"),
@@ -59,6 +59,14 @@ const ROWS: [(&str, &str); 42] = [
     ("check", "check -"),
     ("check a.toml", "check a.toml"),
     ("check a.toml --json", "check a.toml json"),
+    ("check a.toml b.toml", "check a.toml,b.toml"),
+    ("check --located a.toml", "check a.toml located"),
+    (
+        "check a.toml --json b.toml --located",
+        "check a.toml,b.toml json located",
+    ),
+    ("check --expect", "check - expect"),
+    ("check --expect a.toml b.toml", "check a.toml,b.toml expect"),
     ("audit", "audit - -"),
     ("audit a.jsonl b.jsonl", "audit a.jsonl,b.jsonl -"),
     ("audit a.jsonl --events e.toml", "audit a.jsonl e.toml"),
@@ -83,9 +91,10 @@ const ROWS: [(&str, &str); 42] = [
 ];
 
 // The same of parts by hand, nets that are asked line by line, plays, pictures and processes.
-const OTHER_ROWS: [(&str, &str); 34] = [
+const OTHER_ROWS: [(&str, &str); 37] = [
     ("police --tau 200 --rate 53e8", "police 200 512000"),
     ("police --rate 1000cps --tau 0", "police 0 512000"),
+    ("police --rate 1000.5cps --tau 2ns", "police 2000 512000"),
     (
         "police --json --tau 200 --rate 53e8",
         "police 200 512000 json",
@@ -140,6 +149,8 @@ const OTHER_ROWS: [(&str, &str); 34] = [
         "write no 1 2 3 0000 5258 json",
     ),
     ("draw -o d.svg", "draw - - - picture d.svg - 0 0"),
+    ("draw - -o -", "draw - - - picture - - 0 0"),
+    ("run -", "run -"),
     (
         "draw a.toml --output d.html",
         "draw a.toml - - page d.html - 0 0",
@@ -172,7 +183,7 @@ const OTHER_ROWS: [(&str, &str); 34] = [
 ];
 
 // Words that are refused, beside those of a plan (`plans`).
-const REFUSED: [&str; 61] = [
+const REFUSED: [&str; 62] = [
     "none",
     "rate 53e8 --stdin",
     "cell 00 --stdin",
@@ -191,6 +202,8 @@ const REFUSED: [&str; 61] = [
     "threads --workers 4 --journals -",
     "explain a.toml b.toml",
     "check --quiet",
+    "check --expect --json a.toml",
+    "check --expect --located a.toml",
     "audit e.toml --events e.toml",
     "audit a.jsonl e.toml --events e.toml",
     "audit d.svg --draw d.svg",
@@ -231,7 +244,6 @@ const REFUSED: [&str; 61] = [
     "draw a.svg -o a.svg",
     "draw -o d.svg --events e.toml",
     "draw -o d.svg --workers 65",
-    "draw -o -",
     "draw -o d.svg --workers 4 --events -",
     "draw -o d.svg --workers 4 --events d.svg",
 ];

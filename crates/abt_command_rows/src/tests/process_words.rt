@@ -9,7 +9,7 @@ use std::process::Abort;
 use std::test::Fail;
 
 // Words behind the program's name, and the command that they ask for, as `told` says it.
-const ROWS: [(&str, &str); 5] = [
+const ROWS: [(&str, &str); 7] = [
     (
         "switch a.toml --port 0 --journal j.jsonl",
         "switch a.toml 0 j.jsonl",
@@ -17,6 +17,14 @@ const ROWS: [(&str, &str); 5] = [
     (
         "switch --port 65535 a.toml --journal j.jsonl --port 7",
         "switch a.toml 65535,7 j.jsonl",
+    ),
+    (
+        "switch a.toml --binary --port 0 --journal j.jsonl",
+        "switch a.toml 0 j.jsonl binary",
+    ),
+    (
+        "source a.toml 0 --store s --journal j.jsonl --binary",
+        "source a.toml 0 s j.jsonl binary",
     ),
     (
         "source a.toml 0 --store s --journal j.jsonl",
@@ -33,12 +41,14 @@ const ROWS: [(&str, &str); 5] = [
 ];
 
 // Words that are refused.
-const REFUSED: [&str; 16] = [
+const REFUSED: [&str; 18] = [
     "switch a.toml --journal j.jsonl",
     "switch a.toml --port 0",
     "switch --port 0 --journal j.jsonl",
     "switch a.toml --port 65536 --journal j.jsonl",
     "switch a.toml --port 0,1 --journal j.jsonl",
+    "switch a.toml --port 0 --port 0 --journal j.jsonl",
+    "switch a.toml --port 7 --port 1 --port 07 --journal j.jsonl",
     "switch a.toml --port 0 --journal a.toml",
     "switch a.toml --port 0 --journal -",
     "source a.toml --store s --journal j.jsonl",
@@ -96,9 +106,16 @@ fn switch_told(alloc: Global, plan: &SwitchPlan) -> Result<String, Fail> {
         }
         write!(ports, "{port}")?;
     }
-    let file = plan.file.as_str();
-    let journal = plan.journal.as_str();
-    Ok(format!(in alloc; "switch {file} {ports} {journal}")?)
+    flagged(
+        alloc,
+        &[
+            "switch",
+            plan.file.as_str(),
+            ports.as_str(),
+            plan.journal.as_str(),
+        ],
+        &[("binary", plan.is_binary)],
+    )
 }
 
 fn source_told(alloc: Global, plan: &SourcePlan) -> Result<String, Fail> {
@@ -113,6 +130,6 @@ fn source_told(alloc: Global, plan: &SourcePlan) -> Result<String, Fail> {
             plan.store.as_str(),
             plan.journal.as_str(),
         ],
-        &[("new", plan.is_new)],
+        &[("new", plan.is_new), ("binary", plan.is_binary)],
     )
 }

@@ -1,5 +1,4 @@
 -- The run is the one whose events are written.
-use Rattle.std.proofs.KnownBytes.{Keeps-refl}
 use Rattle.abt_commands.proofs.draw_threads.over_reader.Goals as goal
 
 pub returns-in-Ok : goal.returns-in-Ok
@@ -10,8 +9,8 @@ returns-in-Ok g c = record {
     run = c.in-Ok.run';
     is_run = c.in-Ok.ensures.ok;
     saved = c.keep_run.ensures.ok done;
-    silent = Keeps-refl _;
+    printed = c.keep_run.ensures.printed;
     quiet = c.keep_run.ensures.quiet done;
   };
-  refused = λ _. Keeps-refl _;
+  refused = λ _. c.keep_run.ensures.printed;
 }

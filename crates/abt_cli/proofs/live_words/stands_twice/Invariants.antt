@@ -1,0 +1,6 @@
+-- No number stands twice so far.
+use Rattle.std.proofs.Common.{◌≡◌, ◌<◌, ℕ, get_or}
+use Rattle.abt_cli.proofs.live_words.stands_twice.Given as goal
+
+abbrev pub invariant-loop-place : goal.invariant-loop-place
+invariant-loop-place l = (i j : ℕ) → i < j → j < l.place → get_or l.numbers i 0 ≡ get_or l.numbers j 0 → ⊥
