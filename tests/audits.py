@@ -2,8 +2,8 @@
 entry wrong. Those that `abt threads --journals` writes of each sample for threads come back through `abt audit`.
 
 Damaged journals (`tests/damage.py`) are beside a slow search of scenarios/model, which is given the entries that sources lack
-(`tests/completing.py`): where entries are in no order, the lines that are told are just those at which it ends, and an entry that
-mismatches is one of them.
+(`tests/completing.py`): where entries are in no order, the lines that are told are just those at which it ends, each with what it waits for
+(`tests/waits.py`), and an entry that mismatches is one of them.
 
 usage: audits.py PROGRAM..
 """
@@ -12,10 +12,10 @@ import random
 from pathlib import Path
 
 from harness import SCENARIOS, End, Trial, main, sample_runs, samples, worked
-from completing import stuck_lines
 from damage import actor, changed, damaged, later, swapped
 from journals import entries, journals, texts_of
 from search import Search
+from waits import Waits
 
 WHOLE = End(0, "woven\nsafe\n")
 END = '{"end":true}'
@@ -30,7 +30,7 @@ def worked_run():
 
 def worked_faults():
     """The logs of docs/JOURNALS.md in which something is wrong: their names, their texts, and what is told of them."""
-    shown = r"^```\n(\{\"net\"[^`]*)^```\n\n```console\n\$ abt audit (\S+)\n(fault:[^`]*)^```$"
+    shown = r"^```\n(\{\"net\"[^`]*)^```\n\n```console\n\$ abt audit (\S+)\n(fault:.*?)^```$"
     return [(name, text.encode(), told) for text, name, told in worked("JOURNALS.md", shown, 2)]
 
 
@@ -40,7 +40,7 @@ def sample_journals():
 
 
 class Auditor(Trial):
-    answers = damaged = 0
+    answers = damaged = waits = 0
 
     def put(self, texts):
         """Texts as files, and the names of these."""
@@ -144,7 +144,8 @@ def try_damaged(auditor, name, lines):
     """Journals with one entry changed, missing, there twice or elsewhere are stuck just where a slow search ends."""
     for what, left in damaged(lines, random.Random(name), 2):
         auditor.damaged += 1
-        stuck = stuck_lines(left)
+        waits = Waits(left)
+        stuck = waits.lines()
         status, out, told = auditor.audit(text_of(left))
         fault, *entries = told.splitlines() or [""]
         spots = [int(one.split(":")[1]) for one in entries if one.startswith("0:")]
@@ -153,7 +154,8 @@ def try_damaged(auditor, name, lines):
         elif fault == "fault: Mismatch":
             right = (status, out) == (1, "") and len(spots) == 1 and spots[0] in stuck
         else:
-            right = (status, out, fault, spots) == (1, "", "fault: NoOrder", stuck)
+            right = (status, out, fault) == (1, "", "fault: NoOrder") and waits.are(entries)
+            auditor.waits += len(stuck)
         if not right:
             auditor.fail(f"{name}, {what}: {(status, out, told)}, and the slow search ends at the lines {stuck}")
 

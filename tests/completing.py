@@ -145,8 +145,3 @@ class CompletedSearch(Search):
         entries = list(completed(lines))
         super().__init__([lines[0], *(dumps(entry) for _, entry in entries), '{"end":true}'])
         self.spots = {actor: [entries[number - 2][0] for number in numbers] for actor, numbers in self.spots.items()}
-
-
-def stuck_lines(lines):
-    """The lines at which that search ends."""
-    return list(CompletedSearch(lines).run().values())

@@ -98,7 +98,8 @@ class Followed:
             self.put(folder, "log.jsonl", "net")
             self.put(folder, "log.jsonl", "told")
             follow = self.begin(folder, "--idle", 600, "log.jsonl")
-            entry = f"log.jsonl:2: {self.lines['told']}\n"
+            waits = "waits for yes 1 of connection 0 at its source: no message with number 1 lies at any hop"
+            entry = f"log.jsonl:2: {self.lines['told']}\nwhy: {waits}\n"
             self.trial.wants(f"before {how!r}", [True], [follow.hears(f"waits\n{entry}")])
             if isinstance(how, str):
                 follow.say(how)
@@ -198,9 +199,9 @@ class Followed:
         # What a kill cut is told behind the answer.
         output = re.sub(r"^note: text \d ends in the middle of line \d+\n", "", given.output, flags=re.M)
         woven = [int(it) for it in re.findall(r"^woven (\d+) events$", given.told, re.M)]
-        rest = re.sub(r"^(woven \d+ events|waits|run/\w+\.jsonl:(\d+: \{.*\}| it isn't there yet))\n", "", given.told, flags=re.M)
+        rest = re.sub(r"^(woven \d+ events|waits|why: .*|run/\w+\.jsonl:(\d+: \{.*\}| it isn't there yet))\n", "", given.told, flags=re.M)
         self.trial.wants("live processes", (0, "woven\nsafe\n", ""), (given.status, output, rest))
-        looks = len(re.findall("^w", given.told, re.M))
+        looks = len(re.findall("^(?:woven|waits)", given.told, re.M))
         # How many looks there are depends on the machine: one while they run, and one behind them, are wanted.
         self.trial.wants("live processes, what is woven", [sorted(set(woven)), True], [woven, looks > 1])
         return f"{looks} looks at live processes with {at_work.count['kills']} kills"

@@ -209,6 +209,16 @@ def line_of(found):
     return f"{place}{what}{found['message']}\n"
 
 
+def located_of(found):
+    """The line that an object of `check` says of one of several files."""
+    name = found["file"]
+    if "faults" in found:
+        return f"{name}: {line_of(found)}"
+    place = f"{name}:{found['line']}:{found['column']}" if "line" in found else name
+    what = {"fault": f"fault: {named(found)}", "warning": "warning"}[found["kind"]]
+    return f"{place}: {what}: {found['message']}\n"
+
+
 def run(trial, words, text):
     return trial.run(*words, text=text, folder=SCENARIOS)
 
@@ -227,6 +237,9 @@ def look(trial):
     tried += [(["code", rate], code_of) for rate in RATES] + [(["write", *words.split()], written_of) for words in MESSAGES]
     tried += answered(cells)
     tried += [(["check", *words], lambda found: "".join(map(line_of, found)), text) for words, text in checked]
+    several = [["none.toml"], [*(sample.name for sample in samples()), "none.toml", "."]]
+    tried += [(["check", "--located", *words], lambda found: "".join(map(located_of, found)), faulty[0]) for words in several]
+    tried += [(["check", "--located"], lambda found: "".join(map(located_of, found)), text) for text in faulty]
     for check, all_given in ((try_words, tried), (try_explained, runs)):
         for given in all_given:
             trial.checks(given, check, trial, *given)

@@ -3,6 +3,8 @@ woven and safe.
 
 For the audit `about` lines are left out of a source's journal, and it gets what the first port of its path served.
 
+A second run has the messages go as cells behind an octet (`--binary`).
+
 Before that, stores, journals, ports and connections that can't be had are told by name, and a journal that can't grow ends its switch with
 no answer that it doesn't have. Two controls have to be found behind it: a source whose store is put back to an older file after each kill,
 and requests that overtake cells on an access line.
@@ -235,6 +237,62 @@ def full_journal(program, folder):
     return None
 
 
+def binary_faults(program, folder):
+    """Cells that aren't served, and lines among cells: each has its answer, and the journal has the step of the cell that is served alone."""
+    run = Run(program, folder, 3)
+    run.end()
+    journal, store = folder / "cells.jsonl", run.sources[0].store
+    request, yes = [
+        bytes.fromhex(subprocess.run([program, "write", kind, "1", "100", "1", "0000", "5258"], capture_output=True, text=True, timeout=60).stdout)
+        for kind in ("request", "yes")
+    ]
+    sent = [
+        (b"\x80" + request, b"\x81" + request),
+        (b"\x81" + request, b"fault port\n"),
+        (b"\xff" + request, b"fault port\n"),
+        (b"\x80" + request[:51] + b"\n", b"fault Crc\n"),
+        (b"0 capacity 512001\r\n", b"nothing\n"),
+        (b"\xfe" + b"\n" * 52, b"fault NotRm\n"),
+        (b"0 data\n", b"fault words\n"),
+        (b"0 " + b"x" * 5000 + b"\n", b"fault TooLong\n"),
+        (b"\x80" + yes[:51], b"fault cut\n"),
+    ]
+    heard = [
+        (b"start 0\n", b"started\n"),
+        (b"ask 5258\n", b"\x80" + request),
+        (b"\x80" + yes, b"fault port\n"),
+        (b"\xff" + request, b"fault request\n"),
+        (b"\xff" + yes, b"heard\n"),
+        (b"\xff", b"fault cut\n"),
+    ]
+    switch = ["switch", run.net, "--journal", journal, "--port", 0]
+    for words, cases in [(switch, sent), (sourced(run.net, 0, store, run.sources[0].journal), heard)]:
+        given, wanted = (b"".join(part) for part in zip(*cases))
+        done = subprocess.run([str(word) for word in (program, *words, "--binary")], input=given, capture_output=True, timeout=60)
+        if (done.returncode, done.stdout, done.stderr) != (0, wanted, b""):
+            return f"FAILED: cells as octets gave {done.returncode}, {done.stderr}, {done.stdout}, and not {wanted}"
+    steps = [next(iter(entry["input"])) for entry in lines_of(journal)]
+    return None if steps == ["request", "capacity"] else f"FAILED: cells as octets left {steps} in the journal"
+
+
+def far_ports(program, folder):
+    """A port from 127 on has no octet: what goes to it, and what comes to it, is a line. Cells that come octet by octet are answered too."""
+    folder.mkdir()
+    net = folder / "net.toml"
+    net.write_text(f"ports = {[512000] * 130}\n[[connection]]\nvpi = 1\nvci = 100\npath = [128, 126, 129]\ndelay = 0\ntau = 0\n")
+    ports = [word for port in (126, 128, 129) for word in ("--port", port)]
+    words = [program, "switch", net, "--journal", folder / "journal.jsonl", *ports, "--binary"]
+    done = subprocess.run([program, "write", "request", "1", "100", "1", "0000", "5258"], capture_output=True, text=True, timeout=60)
+    line = done.stdout.strip().encode()
+    cell = b"\xfe" + bytes.fromhex(done.stdout)
+    live = subprocess.Popen([str(word) for word in words], stdin=subprocess.PIPE, stdout=subprocess.PIPE, bufsize=0)
+    for octet in b"128 " + line + b"\n" + cell:
+        live.stdin.write(bytes([octet]))
+    live.stdin.close()
+    said, wanted = live.stdout.read(), cell + b"send 129 " + line + b"\n"
+    return None if (live.wait(), said) == (0, wanted) else f"FAILED: ports without an octet gave {said}, and not {wanted}"
+
+
 def controls(program, room):
     """Runs whose audits have to find that something is wrong."""
     found = Counter()
@@ -249,13 +307,13 @@ def controls(program, room):
     return None if found["puts_back"] and found["overtakes"] else "FAILED: a control wasn't found"
 
 
-def ran(program, room, seed, steps):
+def ran(program, room, seed, steps, binary=False):
     """A run, and what its audit finds."""
     began = time.time()
-    run, statuses = played(program, room, seed, steps)
+    run, statuses = played(program, room, seed, steps, binary=binary)
     status, output, told, lines = audit(program, run)
     count = ", ".join(f"{number} {name}" for name, number in sorted(run.count.items()))
-    print(f"live: seed {seed}, {steps} steps in {time.time() - began:.0f} s, {lines} lines of journals: {count}", flush=True)
+    print(f"live: {'cells, ' if binary else ''}seed {seed}, {steps} steps in {time.time() - began:.0f} s, {lines} lines of journals: {count}", flush=True)
     if status or output != "woven\nsafe\n" or any(statuses):
         kept = Path.cwd() / "live.failed"
         shutil.copytree(run.folder, kept, dirs_exist_ok=True)
@@ -266,12 +324,14 @@ def ran(program, room, seed, steps):
 
 def tried(program, room, words):
     fault = refusals(program, room / "refusals") or file_faults(program, room / "files") or full_journal(program, room / "full")
-    fault = fault or mended(program, room / "mended") or clocked(program, room / "clocked")
-    fault = fault or ran(program, room / "run", words.seed, words.steps) or controls(program, room)
+    fault = fault or mended(program, room / "mended") or clocked(program, room / "clocked") or binary_faults(program, room / "binary")
+    fault = fault or far_ports(program, room / "far")
+    fault = fault or ran(program, room / "run", words.seed, words.steps) or ran(program, room / "cells", words.seed + 1, words.steps // 4, True)
+    fault = fault or controls(program, room)
     until, seed = time.time() + 60 * (words.long or 0), words.seed
     while not fault and time.time() < until:
         seed += 1
-        fault = ran(program, room / "run", seed, words.steps)
+        fault = ran(program, room / "run", seed, words.steps, seed % 2 == 0)
     return fault
 
 

@@ -2,8 +2,9 @@
 can't know. Each subset of that is left out, and all are woven; so they are if the last line is cut.
 
 Of journals without any of it, and with one entry changed, missing, there twice or elsewhere, those are woven of which a slow search finds events
-once they are completed (`completing.py`); where entries are in no order, the lines that are told are just those at which it ends. The
-adapters of docs/JOURNALS.md make its run of the logs of lines there.
+once they are completed (`completing.py`); where entries are in no order, the lines that are told are just those at which it ends, each with
+what it waits for (`waits.py`). The adapters of docs/JOURNALS.md make its run of the logs of lines there. Of each kind of entry that waits
+a log was worked out by hand (`tests/cases/stuck.toml`).
 
 usage: loose_audits.py PROGRAM..
 """
@@ -12,9 +13,10 @@ import random
 
 from harness import main, run as run_text, sample_runs, samples, worked
 from audits import WHOLE, Auditor, text_of, worked_run
-from completing import KINDS, stripped, stuck_lines
+from completing import KINDS, dumps, stripped
 from damage import damaged
 from journals import entries, texts_of
+from waits import Waits
 
 SUBSETS = [kinds for count in range(1, len(KINDS) + 1) for kinds in itertools.combinations(KINDS, count)]
 # The search takes a store that isn't told for one that works.
@@ -45,7 +47,8 @@ def try_damaged(auditor, name, lines):
     for what, left in damaged(lines, random.Random(f"{name} loose"), 2):
         auditor.damaged += 1
         loose = stripped(left, SEARCHED)
-        stuck = stuck_lines(loose)
+        waits = Waits(loose)
+        stuck = waits.lines()
         status, out, told = auditor.audit(text_of(loose))
         fault, *found = told.splitlines() or [""]
         spots = [int(one.split(":")[1]) for one in found if one.startswith("0:")]
@@ -54,9 +57,33 @@ def try_damaged(auditor, name, lines):
         elif fault == "fault: Mismatch":
             right = (status, out) == (1, "") and len(spots) == 1 and spots[0] in stuck
         else:
-            right = (status, out, fault, spots) == (1, "", "fault: NoOrder", stuck)
+            right = (status, out, fault) == (1, "", "fault: NoOrder") and waits.are(found)
+            auditor.waits += len(stuck)
         if not right:
             auditor.fail(f"{name}, {what}: {(status, out, told)}, and the slow search ends at the lines {stuck}")
+
+
+def stuck_pieces():
+    """The pieces of the logs of tests/cases/stuck.toml: a net, and how far a source comes in it."""
+    ends = {"delay": 1000, "tau": 200}, {"delay": 3000, "tau": 400}
+    conns = [{"vpi": 1, "vci": 100 + number, "path": path, **ends[number]} for number, path in enumerate(([0, 1], [1]))]
+    first, second = ({"vpi": 1, "vci": 100 + number, "seq": 1, "floor": "0000", "ask": "5120"} for number in (0, 1))
+
+    def asks(source, cell):
+        yield {"source": source, "did": {"start": 0}, "outcome": "started"}
+        yield {"source": source, "did": {"ask": "5120"}, "outcome": {"asked": cell}}
+
+    def serves(port, **came):
+        return {"port": port, "input": came, "reply": "passed"}
+
+    hears = {"source": 1, "did": {"told": 1, "granted": True}, "outcome": {"told": "Raised"}}
+    pieces = {
+        "net": [{"net": {"ports": [512000, 512000], "connections": conns}}],
+        "up": asks(0, first),
+        "served": [serves(0, request=first)],
+        "raised": [*asks(1, second), serves(1, request=second), serves(1, answer={**second, "granted": True}), hears],
+    }
+    return {name: text_of(map(dumps, lines)).decode() for name, lines in pieces.items()}
 
 
 def try_adapters(auditor, run):
@@ -86,7 +113,9 @@ def look(auditor):
             try_cut(auditor, name, lines)
         try_damaged(auditor, name, lines)
     try_adapters(auditor, worked_run())
-    return f"{len(every)} runs without what may be left out, {auditor.damaged} damaged ones beside a slow search"
+    by_hand = auditor.cases("stuck", **stuck_pieces())
+    slow = f"{auditor.damaged} damaged ones beside a slow search, which has {auditor.waits} entries in no order"
+    return f"{len(every)} runs without what may be left out, {slow}, {by_hand} stuck logs worked out by hand"
 
 
 if __name__ == "__main__":

@@ -26,18 +26,40 @@ LIVES = 0.004
 
 
 class Live:
-    """A process that answers lines."""
+    """A process that answers lines, and cells too if it is asked to: then messages are handed to it, and heard, as cells behind an octet."""
 
-    def __init__(self, words):
-        self.process = subprocess.Popen([str(word) for word in words], stdin=subprocess.PIPE, stdout=subprocess.PIPE, bufsize=0)
+    def __init__(self, words, binary=False):
+        words = [str(word) for word in words]
+        self.binary, self.is_source = binary, words[1] == "source"
+        self.process = subprocess.Popen([*words, *(["--binary"] if binary else [])], stdin=subprocess.PIPE, stdout=subprocess.PIPE, bufsize=0)
 
     def tell(self, line):
-        self.process.stdin.write(line.encode() + b"\n")
+        words = line.split(" ")
+        if self.binary and len(words) < 3 and len(words[-1]) == 104:
+            self.process.stdin.write(bytes([255 if self.is_source else 128 + int(words[0])]) + bytes.fromhex(words[-1]))
+        else:
+            self.process.stdin.write(line.encode() + b"\n")
 
     def hear(self):
         """The words of the next answer, or none if the process ended before it was whole."""
-        said = self.process.stdout.readline()
+        mark = self.process.stdout.read(1)
+        if self.binary and mark >= b"\x80":
+            return self.heard(mark[0])
+        said = mark + self.process.stdout.readline() if mark not in (b"", b"\n") else mark
         return said.decode().split() if said.endswith(b"\n") else []
+
+    def heard(self, mark):
+        """The words of a line for the cell behind an octet."""
+        cell = b""
+        while len(cell) < 52 and (more := self.process.stdout.read(52 - len(cell))):
+            cell += more
+        if len(cell) < 52:
+            return []
+        conn = next(conn for conn, known in enumerate(CONNECTIONS) if known["vci"] == int.from_bytes(cell[:4]) >> 4 & 0xFFFF)
+        if self.is_source:
+            assert mark == 128 + CONNECTIONS[conn]["path"][0], mark
+            return ["rm", cell.hex()]
+        return (["tell", str(conn)] if mark == 255 else ["send", str(mark - 128)]) + [cell.hex()]
 
     def ask(self, line):
         self.tell(line)
@@ -69,7 +91,7 @@ class Source:
 
     def begin(self, *more):
         words = ["source", self.run.net, self.conn, "--store", self.store, "--journal", self.journal, *more]
-        self.live = Live([self.run.program, *words])
+        self.live = Live([self.run.program, *words], self.run.binary)
 
     def kill(self):
         self.live.kill()
@@ -82,8 +104,8 @@ class Source:
 class Run:
     """Sources, ports and the network between them."""
 
-    def __init__(self, program, folder, seed, puts_back=False, overtakes=False):
-        self.program, self.folder, self.rng = program, folder, random.Random(seed)
+    def __init__(self, program, folder, seed, puts_back=False, overtakes=False, binary=False):
+        self.binary, self.program, self.folder, self.rng = binary, program, folder, random.Random(seed)
         self.puts_back, self.overtakes, self.count = puts_back, overtakes, Counter()
         folder.mkdir()
         self.net = folder / "net.toml"
@@ -94,7 +116,7 @@ class Run:
         self.net.write_text(f"ports = {PORTS}\n{''.join(tables)}")
         self.ports = [folder / f"port{number}.jsonl" for number in range(len(PORTS))]
         self.switches = [
-            Live([program, "switch", self.net, "--journal", journal, "--port", number]) for number, journal in enumerate(self.ports)
+            Live([program, "switch", self.net, "--journal", journal, "--port", number], binary) for number, journal in enumerate(self.ports)
         ]
         self.sources = [Source(self, conn) for conn in range(len(CONNECTIONS))]
         # What is on each access line, in order, and what is on its way elsewhere.
@@ -197,8 +219,8 @@ class Run:
         return [live.end() for live in [*(source.live for source in self.sources), *self.switches]]
 
 
-def played(program, folder, seed, steps, **control):
-    run = Run(program, folder, seed, **control)
+def played(program, folder, seed, steps, **how):
+    run = Run(program, folder, seed, **how)
     for _ in range(steps):
         run.step()
     return run, run.end()

@@ -22,9 +22,12 @@ CELL = ["cell", "--stdin"]
 PORT = ["port", "512000", "--stdin"]
 FLAT = 2048
 # What a unit of a rate in words is, in cells per second.
-WORDS = {"cps": Fraction(1), "bps": Fraction(1, 424), "kbps": Fraction(1000, 424), "Mbps": Fraction(10**6, 424)}
+WORDS = {"cps": Fraction(1), "bps": Fraction(1, 424), "kbps": Fraction(1000, 424), "Mbps": Fraction(10**6, 424), "Gbps": Fraction(10**9, 424)}
 RATES = """500cps 1.3Mbps 64kbps 149.76Mbps 424bps 0cps 000.000000000Mbps 0.000000001bps 0.5cps 0.999999999cps 1cps 1.000000001cps
-1023.5cps 4290772992cps 4290772992.000000001cps 9999999999999999999Mbps 9999999999999999999.999999999Mbps""".split()
+1023.5cps 4290772992cps 4290772992.000000001cps 9999999999999999999Mbps 9999999999999999999.999999999Mbps
+1Gbps 0.000000001Gbps 1.23456789Gbps 1819.28Gbps 9999999999999999999.999999999Gbps""".split()
+# Tolerances, and what they are in picoseconds.
+TOLERANCES = {"200ps": 200, "200ns": 200_000, "0200us": 200_000_000, "1000ms": 10**12, "0ns": 0}
 
 
 def worked_table():
@@ -103,7 +106,7 @@ def code_line(side, found):
 
 
 def try_rates(trial):
-    """The codes nearest to rates, by exact fractions over all codes; and a rate in words for police and shape."""
+    """The codes nearest to rates, by exact fractions over all codes; and these rates for a policer and a shaper."""
     known = list(rates())
     for text in RATES:
         number, word = re.fullmatch(r"([\d.]+)([a-zA-Z]+)", text).groups()
@@ -111,8 +114,21 @@ def try_rates(trial):
         below = max((rate for rate in known if rate[1] <= 512 * cells), key=lambda rate: rate[1])
         above = min((rate for rate in known if rate[1] >= 512 * cells), key=lambda rate: rate[1], default=None)
         trial.wants(f"code {text}", End(0, code_line("below", below) + code_line("above", above)), trial.run("code", text))
-    for words, rate in [(["police", "--tau", "5", "--rate"], "1000cps"), (["shape", "--rate"], "0.424Mbps")]:
-        trial.wants(f"{words} {rate}", trial.run(*words, "53e8", text="0\n7\n"), trial.run(*words, rate, text="0\n7\n"))
+        # A policer and a shaper take the code below, and tell it if it isn't just that.
+        told = "" if below[1] == 512 * cells else f"no code says this rate: {code_line('below', below)}"
+        for words in (["police", "--tau", "5", "--rate"], ["shape", "--rate"]):
+            end = trial.run(*words, f"{below[0]:04x}", text="0\n7\n")
+            trial.wants(f"{words} {text}", End(end.status, end.output, told), trial.run(*words, text, text="0\n7\n"))
+
+
+def try_units(trial, request):
+    """Tolerances in words, and a port whose capacity is a rate: a request for 600 cells per second fits into just that."""
+    for word, tau in TOLERANCES.items():
+        wanted = trial.run("police", "--tau", tau, "--rate", "53e8", text=f"0\n{10**9 - tau}\n")
+        trial.wants(f"--tau {word}", wanted, trial.run("police", "--tau", word, "--rate", "53e8", text=f"0\n{10**9 - tau}\n"))
+    for word, units in [("600cps", 307_200), ("599.999cps", 307_199), ("0.2544Mbps", 307_200), ("0.2543999Mbps", 307_199), ("155Mbps", 187_169_811)]:
+        wanted = trial.run("port", units, request)
+        trial.wants(f"port {word}", wanted, trial.run("port", word, request))
 
 
 def look(trial):
@@ -129,6 +145,7 @@ def look(trial):
     ]:
         trial.pipe(words, [(line, f"{number} {told}") for number, (line, told) in enumerate(lines, 1)], last)
     try_rates(trial)
+    try_units(trial, cells["A"])
     for name, words in said.items():
         trial.wants(f"the cell {name}, written", End(0, cells[name] + "\n"), trial.run("write", *words))
     try_many(trial, cells)

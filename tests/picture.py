@@ -130,10 +130,12 @@ class Run:
         return ("end", conn) if stop > len(path) else ("port", path[stop - 1])
 
     def place_of(self, event):
-        """On whose lifeline an event happens that could."""
+        """On whose lifeline an event happens, or would if it could; None, if its net has no such connection or hop."""
         word, *rest = self.events[event]
         if word == "capacity":
             return "port", rest[0]
+        if rest[0] >= len(self.conns) or (word in ("request", "answer") and not 1 <= rest[1] <= len(self.conns[rest[0]]["path"])):
+            return None
         stop = {"arrive": 1, "request": rest[1:2], "answer": rest[1:2], "turn": len(self.conns[rest[0]]["path"]) + 1}.get(word, 0)
         return self.actor(rest[0], stop[0] if isinstance(stop, list) else stop)
 
@@ -189,13 +191,14 @@ class Picture:
         self.run, self.first, self.last, self.only = run, first, last, only
         self.width, self.words = tenths(self.root.get("width")), self.root.findtext(SVG + "desc")
         self.stuck = self.shapes(self.root, "g", "stuck")
-        self.bottom = self.y(last - first + 1 + (len(self.stuck) + 1 if self.stuck else 0))
+        self.kept = [event for event in range(first, last) if not only or run.place_of(event) in run.columns(only)]
+        self.bottom = self.y(len(self.kept) + 1 + (len(self.stuck) + 1 if self.stuck else 0))
 
     def y(self, level):
         return TOP + ROW * level
 
     def level(self, event):
-        return 0 if event < self.first else min(event - self.first + 1, self.last - self.first + 1)
+        return len(self.kept) + 1 if event >= self.last else sum(kept <= event for kept in self.kept)
 
     def shapes(self, under, kind, name):
         return [one for one in under.iter(SVG + kind) if name in one.get("class", "").split(" ")]
@@ -215,9 +218,9 @@ class Picture:
         bands = [one for one in places if one[0] == "port"] + [one for one in places if one[0] == "source"]
         self.check_legend(self.bottom + BAND_STEP * len(bands))
         groups = {one.get("id"): one for one in self.shapes(self.root, "g", "event")}
-        assert list(groups) == [f"e{event + 1}" for event in range(self.first, self.last)], "events"
+        assert list(groups) == [f"e{event + 1}" for event in self.kept], "events"
         self.check_classes(groups.values(), places)
-        notes = [self.check_arrows(groups[f"e{event + 1}"], event, places) for event in range(self.first, self.last)]
+        notes = [self.check_arrows(groups[f"e{event + 1}"], event, places) for event in self.kept]
         drawn = [note for note in self.notes(self.root) if note[2] <= self.bottom + 95]
         assert drawn == list(chain.from_iterable(notes)), ("words of arrows", drawn, notes)
         rows, words = ([at for at, one in enumerate(self.root) if one in ones] for ones in (groups.values(), self.shapes(self.root, "text", "note")))
@@ -231,7 +234,7 @@ class Picture:
 
     def check_classes(self, groups, places):
         """Rows of events that couldn't happen, of what was refused or dropped, and of what happens on no lifeline here look otherwise."""
-        for event, group in enumerate(groups, self.first):
+        for event, group in zip(self.kept, groups):
             outcome = self.run.outcomes[event]
             if outcome.startswith("not-enabled"):
                 wanted = "event off"
@@ -412,12 +415,13 @@ class Page(HTMLParser):
 
     def __init__(self, text):
         super().__init__()
-        self.outside, self.words, self.script, self.styles, self.open = [], "", "", [], []
+        self.outside, self.words, self.script, self.styles, self.open, self.slider = [], "", "", [], [], {}
         self.feed(text)
 
     def handle_starttag(self, tag, attributes):
         self.open.append(tag)
         self.outside += [(tag, *pair) for pair in attributes if pair[0] in TAKES]
+        self.slider = dict(attributes) if tag == "input" else self.slider
 
     def handle_endtag(self, tag):
         while self.open and self.open.pop() != tag:
@@ -442,3 +446,7 @@ class Page(HTMLParser):
         keys = re.search(r"var steps = {(.*?)};", self.script)[1]
         assert keys == " ArrowRight: at + 1, ArrowLeft: at - 1, Home: 0, End: events.length - 1 ", keys
         assert "addEventListener('input', function () { show(slider.value - 1, true); })" in self.script, "the slider"
+
+    def steps(self):
+        """How many rows the slider steps through, how many events are before the first that is shown, and how many are shown."""
+        return tuple(int(self.slider[name]) for name in ("max", "data-before", "data-shown"))

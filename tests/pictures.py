@@ -49,7 +49,9 @@ def check_sample(drawer, sample):
         picture = Picture(drawer.drawn(sample, "picture.svg", *words), run, first, last, only)
         picture.check()
         assert picture.words == explained, "the words of a picture"
-    Page(drawer.drawn(sample, "picture.html")).check(explained)
+        page = Page(drawer.drawn(sample, "picture.html", *words))
+        page.check(explained)
+        assert page.steps() == (len(picture.kept), first, last - first), ("steps", page.steps())
     return len(events)
 
 
@@ -113,6 +115,17 @@ def check_shown(drawer):
     assert drawn == (ROOT / "docs" / "two_ports.svg").read_text(), "docs/two_ports.svg isn't what is drawn"
 
 
+def check_printed(drawer):
+    """A picture goes to the standard output too, as it goes to a file; how it is drawn of the standard input is the same."""
+    sample = SCENARIOS / "two_ports.toml"
+    text = drawer.drawn(sample, "printed.svg", "--only", "0")
+    drawer.wants("a picture that is printed", End(0, text), drawer.run("draw", sample, "-o", "-", "--only", "0"))
+    drawer.wants("one of the input", End(0, text), drawer.run("draw", "-", "-o", "-", "--only", "0", text=sample.read_bytes()))
+    end = drawer.run("draw", SCENARIOS / "threads_one_source.toml", "--workers", "2", "-o", "-")
+    assert end.status == 0 and not end.told and end.output.startswith("<svg ") and end.output.endswith("</svg>\n"), end
+    assert "-" not in files_in(drawer.folder), "a file is made for the standard output"
+
+
 def check_schemes(drawer):
     """What a picture and a page show can be read in the light and in the dark scheme; how many colours were measured."""
     picture = ElementTree.fromstring(drawer.drawn(SCENARIOS / "two_ports.toml", "colours.svg"))
@@ -134,6 +147,7 @@ def look(drawer):
     events = [drawer.checks(sample.name, check_sample, drawer, sample) or 0 for sample in samples()]
     woven = [drawer.checks(f"{sample.name}, woven", check_woven, drawer, sample) or 0 for sample in samples("threads_*")]
     drawer.checks("the picture of README.md", check_shown, drawer)
+    drawer.checks("pictures that are printed", check_printed, drawer)
     colours = drawer.checks("the colours", check_schemes, drawer)
     drawer.checks("a wide picture", check_columns, drawer)
     writes = drawer.checks("writes that fail", check_kept, drawer)
