@@ -3,11 +3,12 @@
 The journals are of sources that ask for one rate and then another, and are granted each. A grant is two entries of the source and, at
 each port of its path, one for the request and one for the answer, and one more of the source for the first hop. So they are known without
 a model; `--check` has the slow model of scenarios/model write a short run of that kind, and compares the lines. The lines of the actors
-stand in the order in which it happened, or, with `--mixed`, those of each actor by themselves.
+stand in the order in which it happened, or, with `--mixed`, those of each actor by themselves. With `--writes N` every Nth write of a
+store that keeps more numbers fails, its source crashes and starts again, and the log doesn't say whether it was stored.
 
 Each length is audited so often, and the run that took fewest seconds of the processor is told.
 
-usage: audits.py PROGRAM [--entries N].. [--connections N] [--hops N] [--mixed] [--events] [--runs N]
+usage: audits.py PROGRAM [--entries N].. [--connections N] [--hops N] [--mixed] [--events] [--writes N] [--runs N]
        audits.py --check
 """
 import argparse
@@ -19,7 +20,6 @@ import subprocess
 import sys
 import tempfile
 import time
-from itertools import count
 from pathlib import Path
 
 ROOT = Path(__file__).resolve().parent.parent
@@ -30,6 +30,8 @@ from journals import journals  # noqa: E402
 CAPACITY, DELAY, TAU = 1 << 40, 1000, 200
 # 400 and 600 cells per second.
 RATES = ("5120", "5258")
+# How many numbers one write keeps.
+STRIDE = 64
 LENGTHS = (10_000, 100_000, 1_000_000)
 
 
@@ -42,17 +44,45 @@ def net(connections, hops):
     return line(net={"ports": [CAPACITY] * hops, "connections": conns})
 
 
-def rounds(connections, hops):
-    """The entries of all sources' starts, and then those of one grant after the other, each with its actor."""
-    for c in range(connections):
-        yield [(("source", c), line(source=c, did={"start": 0}, outcome="started"))]
-    places = [0] * hops
-    for seq in count(1):
-        ask = RATES[(seq - 1) % 2]
-        floor = "0000" if seq == 1 else RATES[0]
-        for c in range(connections):
-            terms = {"vpi": 1, "vci": 100 + c, "seq": seq, "floor": floor, "ask": ask}
-            yield list(grant(c, terms, places))
+class Source:
+    """The number of the next request, and the floor; each write of the store keeps the numbers up to one."""
+
+    def __init__(self, number):
+        self.number, self.seq, self.kept, self.floor = number, 1, 0, "0000"
+
+    def start(self):
+        return ("source", self.number), line(source=self.number, did={"start": 0}, outcome="started")
+
+    def fails(self, is_stored):
+        """A write that fails, of which the log doesn't say whether it was stored, and the start after it, by which it shows."""
+        source, ask = self.number, {"ask": RATES[0], "store": "failed"}
+        yield ("source", source), line(source=source, did=ask, outcome={"refused": "Keep"})
+        yield ("source", source), line(source=source, did="crash", outcome="crashed")
+        yield self.start()
+        self.kept += STRIDE if is_stored else 0
+        self.seq, self.floor = self.kept + 1, "0000"
+
+    def asks(self):
+        terms = {"vpi": 1, "vci": 100 + self.number, "seq": self.seq, "floor": self.floor, "ask": RATES[(self.seq - 1) % 2]}
+        self.kept = max(self.kept, self.seq + STRIDE - 1 if self.seq > self.kept else 0)
+        self.seq, self.floor = self.seq + 1, RATES[0]
+        return terms
+
+
+def rounds(connections, hops, writes):
+    """The entries of all sources' starts, and then those of one grant after the other, each with its actor. Of the writes of the stores
+    this one in so many fails, if it is more than 0, and every other of these is stored."""
+    sources = [Source(c) for c in range(connections)]
+    for source in sources:
+        yield [source.start()]
+    places, written = [0] * hops, 0
+    while True:
+        for source in sources:
+            is_write = source.seq > source.kept > 0
+            written += is_write
+            if is_write and writes and written % writes == 0:
+                yield list(source.fails(written // writes % 2 == 0))
+            yield list(grant(source.number, source.asks(), places))
 
 
 def grant(c, terms, places):
@@ -69,23 +99,23 @@ def grant(c, terms, places):
     yield source, line(source=c, did={"told": terms["seq"], "granted": True}, outcome={"told": "Raised"})
 
 
-def entries(connections, hops, least):
+def entries(connections, hops, least, writes=0):
     """So many entries at least, up to the end of a grant, each with its actor."""
     number = 0
-    for some in rounds(connections, hops):
+    for some in rounds(connections, hops, writes):
         yield from some
         number += len(some)
         if number >= least:
             return
 
 
-def written(file, connections, hops, least, mixed):
+def written(file, connections, hops, least, mixed, writes=0):
     """Writes the journals, and says how many entries they have. No more than a grant is kept in memory, which the peak of a child would
     show."""
     number, actors = 0, {}
     with tempfile.TemporaryDirectory() as folder, open(file, "w") as out:
         out.write(net(connections, hops) + "\n")
-        for actor, one in entries(connections, hops, least):
+        for actor, one in entries(connections, hops, least, writes):
             number += 1
             if mixed and actor not in actors:
                 actors[actor] = open(Path(folder, str(len(actors))), "w+")
@@ -142,7 +172,7 @@ def measure(given):
         file = Path(folder, "run.jsonl")
         words = [given.program.resolve(), "audit", file, *(["--events", Path(folder, "events.toml")] if given.events else [])]
         for least in given.entries or LENGTHS:
-            number = written(file, given.connections, given.hops, least, given.mixed)
+            number = written(file, given.connections, given.hops, least, given.mixed, given.writes)
             rows.append((number, *min(taken(words, number) for _ in range(given.runs))))
             print("| {} | {:,} | {:.3f} | {:.3f} | {:.1f} |".format(name, *rows[-1]), flush=True)
     if len(rows) > 1:
@@ -158,6 +188,7 @@ def main():
     parser.add_argument("--hops", type=int, default=1, metavar="N")
     parser.add_argument("--runs", type=int, default=3, metavar="N")
     parser.add_argument("--mixed", action="store_true")
+    parser.add_argument("--writes", type=int, default=0, metavar="N")
     parser.add_argument("--events", action="store_true")
     parser.add_argument("--check", action="store_true")
     given = parser.parse_args()
