@@ -12,7 +12,7 @@ _abt() {
         run) COMPREPLY=($(compgen -f -W "--json --explain --quiet -h --help" -- "$word")) ;;
         threads) COMPREPLY=($(compgen -f -W "--workers --json --journals --events --explain --quiet -h --help" -- "$word")) ;;
         explain) COMPREPLY=($(compgen -f -W "--json --quiet -h --help" -- "$word")) ;;
-        check) COMPREPLY=($(compgen -f -W "--json -h --help" -- "$word")) ;;
+        check) COMPREPLY=($(compgen -f -W "--json --located --expect -h --help" -- "$word")) ;;
         audit) COMPREPLY=($(compgen -f -W "--events --draw --only --from --to --port --source --quiet -h --help" -- "$word")) ;;
         police) COMPREPLY=($(compgen -W "--tau --rate --json -h --help" -- "$word")) ;;
         shape) COMPREPLY=($(compgen -W "--rate --json -h --help" -- "$word")) ;;
@@ -21,8 +21,8 @@ _abt() {
         code) COMPREPLY=($(compgen -W "--json -h --help" -- "$word")) ;;
         write) COMPREPLY=($(compgen -W "$([ "$COMP_CWORD" -eq 2 ] && echo request yes no) --json -h --help" -- "$word")) ;;
         draw) COMPREPLY=($(compgen -f -W "-o --output --only --from --to --workers --events -h --help" -- "$word")) ;;
-        switch) COMPREPLY=($(compgen -f -W "--port --journal -h --help" -- "$word")) ;;
-        source) COMPREPLY=($(compgen -f -W "--store --journal --new -h --help" -- "$word")) ;;
+        switch) COMPREPLY=($(compgen -f -W "--port --journal --binary -h --help" -- "$word")) ;;
+        source) COMPREPLY=($(compgen -f -W "--store --journal --new --binary -h --help" -- "$word")) ;;
         help) COMPREPLY=($(compgen -W "rate cell port run threads explain check audit police shape step play code write draw switch source help" -- "$word")) ;;
         *) COMPREPLY=() ;;
     esac

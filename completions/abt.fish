@@ -8,7 +8,7 @@ complete -c abt -n __fish_use_subcommand -a port -d 'Serve RM cells at one port 
 complete -c abt -n __fish_use_subcommand -a run -d 'Run a scenario, and report what each of its events answered'
 complete -c abt -n __fish_use_subcommand -a threads -d 'Run a scenario\'s scripts in threads, and say what is shown of the run'
 complete -c abt -n __fish_use_subcommand -a explain -d 'Run a scenario, and tell each of its events with its line and its reason'
-complete -c abt -n __fish_use_subcommand -a check -d 'Tell what is wrong or doubtful in a scenario, with its line and column'
+complete -c abt -n __fish_use_subcommand -a check -d 'Tell what is wrong or doubtful in scenarios, with line and column'
 complete -c abt -n __fish_use_subcommand -a audit -d 'Say whether journals are those of one safe run'
 complete -c abt -n __fish_use_subcommand -a police -d 'Judge the arrivals of cells, a line of the standard input each'
 complete -c abt -n __fish_use_subcommand -a shape -d 'Say when cells leave, a line of the standard input each'
@@ -46,6 +46,8 @@ complete -c abt -n '__fish_seen_subcommand_from explain' -l quiet -d 'Draw no pr
 complete -c abt -n '__fish_seen_subcommand_from explain' -s h -l help -d 'Print help'
 complete -c abt -n '__fish_seen_subcommand_from explain' -F
 complete -c abt -n '__fish_seen_subcommand_from check' -l json -d 'Answer as JSON, one object a line'
+complete -c abt -n '__fish_seen_subcommand_from check' -l located -d 'Begin each line with FILE:LINE:COLUMN, as is done if there are several files'
+complete -c abt -n '__fish_seen_subcommand_from check' -l expect -d 'Run each scenario, and test that its events have the outcomes of its array expect; answer in TAP'
 complete -c abt -n '__fish_seen_subcommand_from check' -s h -l help -d 'Print help'
 complete -c abt -n '__fish_seen_subcommand_from check' -F
 complete -c abt -n '__fish_seen_subcommand_from audit' -l events -r -F -d 'Write the net and the events to this file as a scenario, once all is shown'
@@ -58,11 +60,11 @@ complete -c abt -n '__fish_seen_subcommand_from audit' -l source -x -d 'Judge th
 complete -c abt -n '__fish_seen_subcommand_from audit' -l quiet -d 'Draw no progress line; one is drawn on standard error where that is a terminal'
 complete -c abt -n '__fish_seen_subcommand_from audit' -s h -l help -d 'Print help'
 complete -c abt -n '__fish_seen_subcommand_from audit' -F
-complete -c abt -n '__fish_seen_subcommand_from police' -l tau -x -d 'The tolerance in picoseconds, at most 10^12'
-complete -c abt -n '__fish_seen_subcommand_from police' -l rate -x -d 'The rate: a code, four hexadecimal digits, or one that a code says exactly, as 500cps'
+complete -c abt -n '__fish_seen_subcommand_from police' -l tau -x -d 'The tolerance in picoseconds, at most 10^12, or in ns, us or ms, as 200ns'
+complete -c abt -n '__fish_seen_subcommand_from police' -l rate -x -d 'The rate: a code, four hexadecimal digits, or a rate in words, as 500cps; it means the nearest code below'
 complete -c abt -n '__fish_seen_subcommand_from police' -l json -d 'Answer as JSON, one object a line'
 complete -c abt -n '__fish_seen_subcommand_from police' -s h -l help -d 'Print help'
-complete -c abt -n '__fish_seen_subcommand_from shape' -l rate -x -d 'The rate: a code, four hexadecimal digits, or one that a code says exactly, as 500cps'
+complete -c abt -n '__fish_seen_subcommand_from shape' -l rate -x -d 'The rate: a code, four hexadecimal digits, or a rate in words, as 500cps; it means the nearest code below'
 complete -c abt -n '__fish_seen_subcommand_from shape' -l json -d 'Answer as JSON, one object a line'
 complete -c abt -n '__fish_seen_subcommand_from shape' -s h -l help -d 'Print help'
 complete -c abt -n '__fish_seen_subcommand_from step' -l json -d 'Answer as JSON, one object a line'
@@ -86,7 +88,7 @@ complete -c abt -n '__fish_seen_subcommand_from code' -s h -l help -d 'Print hel
 complete -c abt -n '__fish_seen_subcommand_from write' -l json -d 'Answer as JSON, one object a line'
 complete -c abt -n '__fish_seen_subcommand_from write' -s h -l help -d 'Print help'
 complete -c abt -n '__fish_seen_subcommand_from write; and not __fish_seen_subcommand_from request yes no' -a 'request yes no'
-complete -c abt -n '__fish_seen_subcommand_from draw' -s o -l output -r -F -d 'Write the picture to this file: a picture if it ends in .svg, a page if in .html'
+complete -c abt -n '__fish_seen_subcommand_from draw' -s o -l output -r -F -d 'Write the picture to this file: a picture if it ends in .svg, a page if in .html; - is the standard output'
 complete -c abt -n '__fish_seen_subcommand_from draw' -l only -x -d 'Show these connections alone, as 0,2'
 complete -c abt -n '__fish_seen_subcommand_from draw' -l from -x -d 'Show the events from this one on, counted from 1'
 complete -c abt -n '__fish_seen_subcommand_from draw' -l to -x -d 'Show the events up to this one'
@@ -96,11 +98,13 @@ complete -c abt -n '__fish_seen_subcommand_from draw' -s h -l help -d 'Print hel
 complete -c abt -n '__fish_seen_subcommand_from draw' -F
 complete -c abt -n '__fish_seen_subcommand_from switch' -l port -x -d 'A port of the switch, by its number in the net; once for each port'
 complete -c abt -n '__fish_seen_subcommand_from switch' -l journal -r -F -d 'The journal, a file that must not be there: a switch that ended lost its reservations'
+complete -c abt -n '__fish_seen_subcommand_from switch' -l binary -d 'Have messages come and go as cells of 52 octets behind an octet that says which port, and all else as lines'
 complete -c abt -n '__fish_seen_subcommand_from switch' -s h -l help -d 'Print help'
 complete -c abt -n '__fish_seen_subcommand_from switch' -F
 complete -c abt -n '__fish_seen_subcommand_from source' -l store -r -F -d 'The store of the source, a file that no other process uses'
 complete -c abt -n '__fish_seen_subcommand_from source' -l journal -r -F -d 'The journal: read first, and written behind its last line'
 complete -c abt -n '__fish_seen_subcommand_from source' -l new -d 'Make the store, which must not be there, and begin the journal, which must have no line'
+complete -c abt -n '__fish_seen_subcommand_from source' -l binary -d 'Have messages come and go as cells of 52 octets behind an octet that says which port, and all else as lines'
 complete -c abt -n '__fish_seen_subcommand_from source' -s h -l help -d 'Print help'
 complete -c abt -n '__fish_seen_subcommand_from source' -F
 complete -c abt -n '__fish_seen_subcommand_from help' -a 'rate cell port run threads explain check audit police shape step play code write draw switch source help'
