@@ -17,7 +17,7 @@ LONGEST_FILE = 400
 LONGEST_LINE = 140
 # Crates of types, laws or tests, and the program, which is `main` alone: no public function of theirs has a body that a bug of the
 # program could stand in.
-WITHOUT_BODIES = {"abt", "abt_disk_trial", "abt_live_laws", "abt_facts", "abt_serving", *TESTS}
+WITHOUT_BODIES = {"abt", "abt_disk_trial", "abt_live_laws", "abt_facts", "abt_processes", "abt_serving", *TESTS}
 
 
 def faults_of_picture():

@@ -27,13 +27,14 @@ ELSEWHERE = {
     "abt_disk": "crates/abt_disk_trial/src",
     "abt_live": "crates/abt_live_files/src",
     "abt_live_files": "crates/abt_commands/src",
+    "abt_records": "crates/abt_live/src",
     "abt_walk": "crates/abt_rows/src",
 }
 # The first line of the block, of crates that nobody calls.
 COMMANDS = {name: f"$ cd crates/{name} && rt test" for name in CRATES if CRATES[name].has_only_tests()}
 COMMANDS |= {"abt_disk_trial": "$ rt try -- ask FILE NOW COUNT"}
 COMMANDS |= {"abt": "$ ./abt rate 53e8", "abt_uses": "$ cd crates/abt_uses && rt check"}
-COMMANDS |= {"abt_live_laws": "$ cd crates/abt_live_laws && rt check"}
+COMMANDS |= {name: f"$ cd crates/{name} && rt check" for name in ("abt_live_laws", "abt_processes")}
 SECTIONS = ["What a contract sees", "What is proved", "What is only tested", "What is neither"]
 LONGEST_BLOCK = 8
 OPENING = re.compile(r"# (\w+)\n\n((?:(?!```)\S.*\n)+)\n```\w+\n((?:(?!```).*\n)+)```\n")
