@@ -9,15 +9,15 @@ use Rattle.abt_codes.specs.Nearest.{IsSaid}
 use Rattle.abt_codes.specs.declared.message.Kind.{Kind}
 use Rattle.abt_codes.specs.declared.message.Kind.TheVariants as kind
 use Rattle.abt_codes.specs.declared.message.MessageWords.{MessageWords}
-use Rattle.abt_draw.specs.declared.plan.PicturePlan.{PicturePlan}
-use Rattle.abt_live_files.specs.declared.plan.SourcePlan.{SourcePlan}
-use Rattle.abt_live_files.specs.declared.plan.SwitchPlan.{SwitchPlan}
-use Rattle.abt_play.specs.declared.chances.Chances.{Chances}
-use Rattle.abt_play.specs.declared.plan.PlayPlan.{PlayPlan}
+use Rattle.abt_plans.specs.declared.picture.PicturePlan.{PicturePlan}
+use Rattle.abt_plans.specs.declared.process.SourcePlan.{SourcePlan}
+use Rattle.abt_plans.specs.declared.process.SwitchPlan.{SwitchPlan}
+use Rattle.abt_plans.specs.declared.chances.Chances.{Chances}
+use Rattle.abt_plans.specs.declared.play.PlayPlan.{PlayPlan}
 use Rattle.abt_weave.specs.declared.actor.Actor as whose
 use Rattle.abt_weave.specs.declared.actor.Actor.TheVariants as actor
 use Rattle.abt_cli.specs.Pictures.{IsPictureIfNamed, IsPicturePlan}
-use Rattle.abt_cli.specs.Words.{text_in, word_in, words_in, file_in, files_in, flag_in, IsUnset, IsFlag, IsCapacity, IsCount, IsTolerance, IsNumberIn, NamePorts}
+use Rattle.abt_cli.specs.Words.{text_in, word_in, words_in, file_in, files_in, flag_in, IsUnset, IsFlag, IsCapacity, IsCount, IsTolerance, IsNumberIn, IsEpochIn, NamePorts}
 use Rattle.abt_cli.specs.declared.command.Command.{Command}
 use Rattle.abt_cli.specs.declared.command.Command.TheVariants.{Rate, Cell, Port, Run, Threads, Explain, Check, Audit, AuditLog, Police, Shape, Step, Play, Code, Write, Draw, Switch, Source}
 use Rattle.abt_cli.specs.declared.command.ThreadsCommand.{ThreadsCommand}
@@ -63,6 +63,7 @@ pub record IsAudit (found : ArgMatches) (command : AuditCommand) : Type 0 where
   pub files : map string_bytes command.files.items ≡ files_in found
   pub events : name_of command.events ≡ text_in found (codes "events")
   pub picture : IsPictureIfNamed found command.picture
+  pub json : IsFlag found (codes "json") command.json
   pub quiet : IsFlag found (codes "quiet") command.quiet
 
 -- the word, if there is one, says a number below 2^16
@@ -81,6 +82,7 @@ IsLogActor found = IsActorIn (text_in found (codes "port")) (text_in found (code
 -- Each part of an audit of one log, but for whose it is, is what its word says.
 pub record IsLogAudit (found : ArgMatches) (command : LogCommand) : Type 0 where
   pub files : map string_bytes command.files.items ≡ files_in found
+  pub json : IsFlag found (codes "json") command.json
   pub quiet : IsFlag found (codes "quiet") command.quiet
 
 -- The seed and the chances are those that the words name. Without a word nothing is lost or repeated, and any message may be the next.
@@ -140,6 +142,7 @@ pub record IsSource (found : ArgMatches) (plan : SourcePlan) : Type 0 where
   pub journal : string_bytes plan.journal ≡ word_in found (codes "journal")
   pub is_new : IsFlag found (codes "new") plan.is_new
   pub is_binary : IsFlag found (codes "binary") plan.is_binary
+  pub epoch : IsEpochIn (text_in found (codes "clock")) plan.epoch
 
 -- The command is the one that is named, and each of its parts is what its word says.
 abbrev pub IsCommandOf : (name : Text) → ArgMatches → Command → Type 0
@@ -148,8 +151,9 @@ IsCommandOf name found (Rate code json) = (name ≡ codes "rate") × (string_byt
 IsCommandOf name found (Cell cell json) = (name ≡ codes "cell") × IsCell found cell × IsFlag found (codes "json") json
 IsCommandOf name found (Port capacity cells json) = (name ≡ codes "port") × IsCapacity (word_in found (codes "CAPACITY")) capacity ×
     AreCells found cells × IsFlag found (codes "json") json
-IsCommandOf name found (Run file json explain quiet) = (name ≡ codes "run") × (name_of file ≡ file_in found) ×
-    IsFlag found (codes "json") json × IsFlag found (codes "explain") explain × IsFlag found (codes "quiet") quiet
+IsCommandOf name found (Run file json explain strict quiet) = (name ≡ codes "run") × (name_of file ≡ file_in found) ×
+    IsFlag found (codes "json") json × IsFlag found (codes "explain") explain × IsFlag found (codes "strict") strict ×
+    IsFlag found (codes "quiet") quiet
 IsCommandOf name found (Threads command) = (name ≡ codes "threads") × IsThreads found command
 IsCommandOf name found (Explain file json quiet) = (name ≡ codes "explain") × (name_of file ≡ file_in found) ×
     IsFlag found (codes "json") json × IsFlag found (codes "quiet") quiet

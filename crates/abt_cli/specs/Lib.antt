@@ -1,9 +1,10 @@
 pub mod Commands
 pub mod Decimal
 pub mod Lost
+pub mod OnTerminal
 pub mod Pictures
 pub mod Plans
 pub mod Refused
-pub mod Rounding
+pub mod RateNotes
 pub mod Showing
 pub mod Words

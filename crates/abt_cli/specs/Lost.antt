@@ -3,9 +3,9 @@
 use Rattle.std.specs.Prelude.{◌≡◌, ◌⊎◌, Any, Option, None, Some, String, List, [], ◌∷◌, codes, string_bytes}
 use Rattle.std.specs.declared.alloc.Global.{Global}
 use Rattle.abt_text.specs.Text.{Text}
-use Rattle.abt_draw.specs.declared.plan.PicturePlan.{PicturePlan}
-use Rattle.abt_live_files.specs.declared.plan.SourcePlan.{SourcePlan}
-use Rattle.abt_live_files.specs.declared.plan.SwitchPlan.{SwitchPlan}
+use Rattle.abt_plans.specs.declared.picture.PicturePlan.{PicturePlan}
+use Rattle.abt_plans.specs.declared.process.SourcePlan.{SourcePlan}
+use Rattle.abt_plans.specs.declared.process.SwitchPlan.{SwitchPlan}
 use Rattle.abt_cli.specs.declared.command.Command.{Command}
 use Rattle.abt_cli.specs.declared.command.Command.TheVariants.{Threads, Audit, Play, Draw, Switch, Source}
 

@@ -5,19 +5,24 @@ use Rattle.std.specs.Str.{bytes_eq}
 use Rattle.clap.specs.declared.parser.matches.ArgMatches.{ArgMatches}
 use Rattle.abt_text.specs.Text.{Text}
 use Rattle.abt_text.specs.Words.{number_of}
-use Rattle.abt_draw.specs.declared.plan.PicturePlan.{PicturePlan}
+use Rattle.abt_plans.specs.declared.picture.PictureForm.{PictureForm}
+use Rattle.abt_plans.specs.declared.picture.PictureForm.TheVariants as form
+use Rattle.abt_plans.specs.declared.picture.PicturePlan.{PicturePlan}
 use Rattle.abt_cli.specs.Words.{text_in, AreNumbers}
 
 abbrev pub ends_in : (text ending : Text) → Bool
 ends_in text ending = ends_with eqb text ending
 
--- whether a file is for a page, by the end of its name; else it is for a picture, or for neither
-abbrev pub is_page : (file : Text) → Option Bool
-is_page file = if ends_in file (codes ".html") then Some true else if ends_in file (codes ".svg") then Some false else None
+-- the form of what is drawn into a file, by the end of its name
+abbrev pub form_in : (file : Text) → Option PictureForm
+form_in file = if ends_in file (codes ".html") then Some form.Page
+    else if ends_in file (codes ".svg") then Some form.Svg
+    else if ends_in file (codes ".txt") then Some form.Text
+    else None
 
 -- the picture of `abt draw` may go to `-`, the standard output
-abbrev pub page_of : (name file : Text) → Option Bool
-page_of name file = if bytes_eq name (codes "output") && bytes_eq file (codes "-") then Some false else is_page file
+abbrev pub form_of : (name file : Text) → Option PictureForm
+form_of name file = if bytes_eq name (codes "output") && bytes_eq file (codes "-") then Some form.Svg else form_in file
 
 -- the parts of a list between its commas
 abbrev pub parts_of : Text → List Text
@@ -37,7 +42,7 @@ IsEventOf (Some word) (Some number) = (number_of word ≡ Some number) × (1 ≤
 -- What is to be shown, and in which file, is what the words say; the name of the file stands under a name of its own.
 pub record IsPicturePlan (found : ArgMatches) (name : Text) (plan : PicturePlan) : Type 0 where
   pub out : text_in found name ≡ Some (string_bytes plan.out)
-  pub page : page_of name (string_bytes plan.out) ≡ Some plan.page
+  pub form : form_of name (string_bytes plan.out) ≡ Some plan.form
   pub only : AreNamed (text_in found (codes "only")) plan.only.items
   pub from : IsEventOf (text_in found (codes "from")) plan.from
   pub to : IsEventOf (text_in found (codes "to")) plan.to

@@ -15,6 +15,6 @@ abbrev pub plan_of : Command → Option Plan
 plan_of (Rate code false) = Some (plan.Rate code)
 plan_of (Cell (Some cell) false) = Some (plan.Cell cell)
 plan_of (Port capacity (Some cells) false) = Some (plan.Port capacity cells)
-plan_of (Run file false explain quiet) = Some (plan.Run file)
+plan_of (Run file false explain false quiet) = Some (plan.Run file)
 plan_of (Threads command) = of_threads command command.json command.journals command.events
 plan_of command = None

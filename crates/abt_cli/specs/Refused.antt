@@ -6,14 +6,14 @@ use Rattle.abt_text.specs.Words.{number_below}
 use Rattle.abt_codes.specs.Nearest.{IsSaid}
 use Rattle.abt_codes.specs.declared.message.Kind.{Kind}
 use Rattle.abt_codes.specs.declared.nearest.SaidRate.{SaidRate}
-use Rattle.abt_draw.specs.declared.plan.PicturePlan.{PicturePlan}
+use Rattle.abt_plans.specs.declared.picture.PicturePlan.{PicturePlan}
 use Rattle.abt_perform.specs.declared.plan.WordsFault.{WordsFault}
 use Rattle.abt_perform.specs.declared.plan.WordsFault.TheVariants.{Memory}
-use Rattle.abt_play.specs.declared.chances.Chances.{Chances}
+use Rattle.abt_plans.specs.declared.chances.Chances.{Chances}
 use Rattle.abt_weave.specs.declared.actor.Actor.{Actor}
 use Rattle.abt_cli.specs.Commands.{kind_word, IsChancesOf, IsActorIn, IsCountIn}
 use Rattle.abt_cli.specs.Pictures.{IsPicturePlan}
-use Rattle.abt_cli.specs.Words.{text_in, word_in, words_in, AreNumbers, IsCapacity, IsCount, IsNumberIn, IsTolerance, NameOneTwice}
+use Rattle.abt_cli.specs.Words.{text_in, word_in, words_in, AreNumbers, IsCapacity, IsCount, IsEpochIn, IsNumberIn, IsTolerance, NameOneTwice}
 
 -- The word says no such number, rate or message.
 abbrev pub IsNoCapacity : (word : Text) → Type 0
@@ -41,6 +41,10 @@ AreNoNumbers words = (numbers : List ℕ) → AreNumbers words numbers → ⊥
 -- The words say no count of link workers, no chances of a play, or no picture.
 abbrev pub IsNoCountIn : Option Text → Type 0
 IsNoCountIn word = (workers : Option ℕ) → IsCountIn word workers → ⊥
+
+-- The word says no epoch.
+abbrev pub IsNoEpochIn : Option Text → Type 0
+IsNoEpochIn word = (epoch : Option ℕ) → IsEpochIn word epoch → ⊥
 
 abbrev pub HasNoChances : ArgMatches → Type 0
 HasNoChances found = (chances : Chances) → IsChancesOf found chances → ⊥
@@ -72,7 +76,8 @@ SaysNone name found =
     ((name ≡ codes "draw") × HasNoPicture found (codes "output")) ⊎
     ((name ≡ codes "switch") × AreNoNumbers (words_in found (codes "port"))) ⊎
     ((name ≡ codes "switch") × NameOneTwice (words_in found (codes "port"))) ⊎
-    ((name ≡ codes "source") × (number_below (2 ^ 16) (word_in found (codes "CONNECTION")) ≡ None))
+    ((name ≡ codes "source") × (number_below (2 ^ 16) (word_in found (codes "CONNECTION")) ≡ None)) ⊎
+    ((name ≡ codes "source") × IsNoEpochIn (text_in found (codes "clock")))
 
 -- The name is that of a command.
 abbrev pub IsCommand : (name : Text) → Type 0

@@ -75,6 +75,12 @@ abbrev pub IsNumberIn : Option Text → (default limit : ℕ) → ℕ → Type 0
 IsNumberIn None default limit number = number ≡ default
 IsNumberIn (Some word) default limit number = (number_of word ≡ Some number) × (number ≤ limit)
 
+-- Moments are read from the machine's clock if a word says at how many nanoseconds of it the run began.
+abbrev pub IsEpochIn : Option Text → (epoch : Option ℕ) → Type 0
+IsEpochIn None epoch = epoch ≡ None
+IsEpochIn (Some word) None = ⊥
+IsEpochIn (Some word) (Some epoch) = number_of word ≡ Some epoch
+
 -- Each of the words says its number, below 2^16.
 abbrev pub AreNumbers : (words : List Text) → (numbers : List ℕ) → Type 0
 AreNumbers words numbers = map (number_below (2 ^ 16)) words ≡ map Some numbers

@@ -5,8 +5,8 @@ ghost use Rattle.abt_cli.specs.Lost.{listed};
 
 use crate::command::{AuditCommand, Command};
 use crate::lost::PRINTED;
-use abt_draw::PicturePlan;
 use abt_files::are_apart;
+use abt_plans::PicturePlan;
 use std::alloc::{AllocError, AllocGlobal};
 use std::rt::Files;
 

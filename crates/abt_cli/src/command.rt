@@ -1,9 +1,6 @@
 //! The commands of the program, with what their words name.
 use abt_codes::{MessageWords, SaidRate};
-use abt_draw::PicturePlan;
-use abt_live_files::{SourcePlan, SwitchPlan};
-use abt_play::PlayPlan;
-use abt_step::AnswerForm;
+use abt_plans::{AnswerForm, PicturePlan, PlayPlan, SourcePlan, SwitchPlan};
 use abt_weave::Actor;
 
 /// A command, and what its words name. A scenario whose file is `None` is that of the standard input.
@@ -26,11 +23,13 @@ pub enum Command {
         cells: Option<Vec<String>>,
         json: bool,
     },
-    /// Run a scenario, and report what each of its events answered; with `explain`, tell a check of it besides.
+    /// Run a scenario, and report what each of its events answered; with `explain`, tell a check of it besides; with `strict`, refuse one
+    /// of which an event isn't enabled.
     Run {
         file: Option<String>,
         json: bool,
         explain: bool,
+        strict: bool,
         quiet: bool,
     },
     /// Run a scenario's scripts in threads.
@@ -124,6 +123,8 @@ pub struct AuditCommand {
     pub events: Option<String>,
     /// What is to be shown of the events, and into which file, if they are to be drawn.
     pub picture: Option<PicturePlan>,
+    /// Whether what is found is told as JSON.
+    pub json: bool,
     /// Whether nothing is shown of how far it is.
     pub quiet: bool,
 }
@@ -135,6 +136,8 @@ pub struct LogCommand {
     pub files: Vec<String>,
     /// Whose log is judged. The entries of all others are read, and not judged.
     pub actor: Actor,
+    /// Whether what is found is told as JSON.
+    pub json: bool,
     /// Whether nothing is shown of how far it is.
     pub quiet: bool,
 }

@@ -9,7 +9,8 @@ pub(crate) const PROGRAM: &str = "Examples:
   abt run scenarios/one_source.toml
   abt threads scenarios/threads_crossing.toml --workers 4
 What each prints is shown by its own help, as abt help port.
-Status 0: done. 1: a fault, which standard error names. 2: the words are refused.";
+Status 0: done. 1: a fault, which standard error names. 2: the words are refused.
+141: whoever read the output went away.";
 
 pub(crate) const RATE: &str = "Example:
   abt rate 53e8
@@ -49,7 +50,8 @@ gathered: all threads have ended, and their journals fit together.
 woven: one list of events is just these journals.
 safe: no event of that list broke a promise. Each line goes out as soon as it is so.
 What journals are stands in docs/THREADS.md, and how scripts are written in docs/FORMATS.md.
-Status 0: done. 1: a fault, which standard error names. 2: the words are refused.";
+Status 0: done. 1: a fault, which standard error names. 2: the words are refused.
+141: whoever read the output went away.";
 
 pub(crate) const EXPLAIN: &str = "Example:
   printf 'ports = [512000]\\nevents = [\"start 0 0\"]\\n' | abt explain
@@ -75,6 +77,7 @@ A fault names the file and the line; of entries that fit in no order, or that ca
 each is told with its file and its line.
 With --port or --source one log is judged alone, taking what comes in as sent, and answered as
   port 0 obeys: entries 3
+With --json each of these is one object on the standard output, a note and a fault of a text too.
 How journals are written stands in docs/JOURNALS.md.";
 
 pub(crate) const POLICE: &str = "Example:

@@ -68,7 +68,7 @@ pub(crate) fn play_command<'a>(alloc: Global) -> Result<Command<'a>, AllocError>
     let draw = written(
         alloc,
         DRAW,
-        "Draw the events to this file: a picture if it ends in .svg, a page if in .html",
+        "Draw the events to this file: a picture if it ends in .svg, a page if in .html, text if in .txt",
     );
     let play = command(
         alloc,
@@ -96,7 +96,7 @@ pub(crate) fn code_command<'a>(alloc: Global) -> Result<Command<'a>, AllocError>
     .arg(word(
         alloc,
         QUANTITY,
-        "The rate: a decimal number of at most 9 places, and cps, bps, kbps or Mbps",
+        "The rate: a decimal number of at most 9 places, and cps, bps, kbps, Mbps or Gbps",
     ))?
     .arg(json(alloc))
 }
@@ -133,7 +133,7 @@ pub(crate) fn draw_command<'a>(alloc: Global) -> Result<Command<'a>, AllocError>
     let out = written(
         alloc,
         OUTPUT,
-        "Write the picture to this file: a picture if it ends in .svg, a page if in .html; - is the standard output",
+        "Write the picture to this file: a picture if it ends in .svg, a page if in .html, text if in .txt; - is the standard output, and on a terminal text",
     );
     let draw = command(
         alloc,

@@ -16,8 +16,7 @@ use crate::readers::{
 };
 use abt_codes::{Kind, MessageWords};
 use abt_perform::WordsFault;
-use abt_play::{Chances, PlayPlan};
-use abt_step::AnswerForm;
+use abt_plans::{AnswerForm, Chances, PlayPlan};
 use clap::ArgMatches;
 use std::alloc::Global;
 

@@ -7,8 +7,8 @@ use crate::hand_line::{
 use crate::live_line::{source_command, switch_command};
 use crate::names::{
     CODE, DRAW, EVENTS, EXPLAIN, JOURNALS, JSON, LOCATED, OF_SOURCE, PORT, capacity, cell, cells,
-    expect, explain, journal_files, json, located, quiet, scenario, scenario_files, stdin, valued,
-    with_drawn_part, word, workers, written,
+    expect, explain, journal_files, json, located, quiet, scenario, scenario_files, stdin, strict,
+    valued, with_drawn_part, word, workers, written,
 };
 use clap::Command;
 use std::alloc::{AllocError, Global};
@@ -117,6 +117,7 @@ fn run_command<'a>(alloc: Global) -> Result<Command<'a>, AllocError> {
     .arg(scenario(alloc))?
     .arg(json(alloc))?
     .arg(explain(alloc).conflicts_with(JSON)?)?
+    .arg(strict(alloc).conflicts_with(EXPLAIN)?)?
     .arg(quiet(alloc))
 }
 
@@ -182,12 +183,12 @@ fn audit_command<'a>(alloc: Global) -> Result<Command<'a>, AllocError> {
     let events = written(
         alloc,
         EVENTS,
-        "Write the net and the events to this file as a scenario, once all is shown",
+        "Write the net and the events, or those before journals are stuck, to this file as a scenario",
     );
     let draw = written(
         alloc,
         DRAW,
-        "Draw the events, or those before journals are stuck, to this file: a picture if it ends in .svg, a page if in .html",
+        "Draw the events, or those before journals are stuck, to this file: a picture if it ends in .svg, a page if in .html, text if in .txt",
     );
     let audit = command(
         alloc,
@@ -197,7 +198,12 @@ fn audit_command<'a>(alloc: Global) -> Result<Command<'a>, AllocError> {
     );
     let audit = audit.arg(journal_files(alloc))?.arg(events)?.arg(draw)?;
     let audit = with_drawn_part(alloc, audit)?;
-    with_one_log(alloc, audit)?.arg(quiet(alloc))
+    let audit = with_one_log(alloc, audit)?;
+    audit
+        .arg(json(alloc).help(
+            "Tell what is found on the standard output as JSON, one object a line",
+        ))?
+        .arg(quiet(alloc))
 }
 
 // Whose log is judged alone. Nothing is woven then, so there are no events.

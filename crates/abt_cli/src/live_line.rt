@@ -1,7 +1,8 @@
 //! The command line of a switch and a source as processes.
 use crate::examples;
 use crate::line::command;
-use crate::names::{CONNECTION, binary, journal, net, new, ports, store, word};
+use crate::live_names::{binary, clock, journal, new, ports, store};
+use crate::names::{CONNECTION, net, word};
 use clap::Command;
 use std::alloc::{AllocError, Global};
 
@@ -41,5 +42,6 @@ pub(crate) fn source_command<'a>(alloc: Global) -> Result<Command<'a>, AllocErro
             "The journal: read first, and written behind its last line",
         ))?
         .arg(new(alloc))?
-        .arg(binary(alloc))
+        .arg(binary(alloc))?
+        .arg(clock(alloc))
 }

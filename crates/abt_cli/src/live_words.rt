@@ -3,14 +3,16 @@ ghost use Rattle.std.specs.Prelude.{◌≡◌, ◌⊎◌, ◌^◌, ◌↔◌, So
 ghost use Rattle.abt_perform.specs.declared.plan.WordsFault.TheVariants.{Memory};
 ghost use Rattle.abt_text.specs.Words.{number_below};
 ghost use Rattle.abt_cli.specs.Commands.{IsAllowed, IsCommandOf};
-ghost use Rattle.abt_cli.specs.Refused.{AreNoNumbers, IsRefused};
-ghost use Rattle.abt_cli.specs.Words.{NameOneTwice, NamePorts, StandsTwice, word_in, words_in};
+ghost use Rattle.abt_cli.specs.Refused.{AreNoNumbers, IsNoEpochIn, IsRefused};
+ghost use Rattle.abt_cli.specs.Words.{IsEpochIn, NameOneTwice, NamePorts, StandsTwice, text_in, word_in, words_in};
 
 use crate::command::Command;
-use crate::names::{BINARY, CONNECTION, JOURNAL, NET, NEW, PORT, STORE};
+use crate::live_names::{BINARY, CLOCK, JOURNAL, NEW, STORE};
+use crate::names::{CONNECTION, NET, PORT};
 use crate::readers::{numbers_of, short_of, word_in, wrong_words};
-use abt_live_files::{SourcePlan, SwitchPlan};
 use abt_perform::WordsFault;
+use abt_plans::{SourcePlan, SwitchPlan};
+use abt_text::u64_of;
 use clap::ArgMatches;
 use std::alloc::Global;
 
@@ -23,6 +25,10 @@ const ONCE_RULE: &str = "--port names each port once";
 // The rule of a connection.
 const CONNECTION_RULE: &str =
     "CONNECTION is the number of a connection in the net, the first 0, digits alone";
+
+// The rule of an epoch.
+const EPOCH_RULE: &str =
+    "--clock has the nanoseconds of the machine's monotonic clock at which the run began, 1 to 19 digits alone";
 
 pub(crate) fn switch_of(alloc: Global, found: &ArgMatches<'_>) -> Result<Command, WordsFault>
     ensures limits { IfOk result IsAllowed }
@@ -75,6 +81,7 @@ pub(crate) fn source_of(alloc: Global, found: &ArgMatches<'_>) -> Result<Command
     let store = word_in(alloc, found, STORE)?;
     let journal = word_in(alloc, found, JOURNAL)?;
     let is_binary = found.get_flag(BINARY);
+    let epoch = epoch_of(alloc, found)?;
     Ok(Command::Source(SourcePlan {
         file,
         conn,
@@ -82,7 +89,23 @@ pub(crate) fn source_of(alloc: Global, found: &ArgMatches<'_>) -> Result<Command
         journal,
         is_new: found.get_flag(NEW),
         is_binary,
+        epoch,
     }))
+}
+
+// What the machine's clock counted when the run began, if moments are to be read from it.
+fn epoch_of(alloc: Global, found: &ArgMatches<'_>) -> Result<Option<u64>, WordsFault>
+    ensures ok { IfOk result (IsEpochIn (text_in found.now (codes "clock"))) }
+    ensures err { IfErr result (λ fault. (fault ≡ Memory) ⊎
+        IsNoEpochIn (text_in found.now (codes "clock"))) }
+{
+    let Some(word) = found.get_str(CLOCK) else {
+        return Ok(None);
+    };
+    match u64_of(word) {
+        Some(epoch) => Ok(Some(epoch)),
+        None => Err(wrong_words(alloc, EPOCH_RULE)?),
+    }
 }
 
 // The connection that is named.

@@ -5,7 +5,7 @@ ghost use Rattle.abt_cli.specs.Commands.{IsActorIn, IsLogActor, IsLogAudit};
 ghost use Rattle.abt_cli.specs.Refused.{HasNoLogActor, IsNoActorIn};
 
 use crate::command::LogCommand;
-use crate::names::{OF_SOURCE, PORT, QUIET};
+use crate::names::{JSON, OF_SOURCE, PORT, QUIET};
 use crate::readers::{files_in, short_of};
 use abt_perform::WordsFault;
 use abt_weave::Actor;
@@ -63,10 +63,10 @@ pub(crate) fn log_audit(
     ensures same { IfOk result (λ command. command.actor ≡ actor) }
 {
     let files = files_in(alloc, found)?;
-    let quiet = found.get_flag(QUIET);
     Ok(LogCommand {
         files,
         actor,
-        quiet,
+        json: found.get_flag(JSON),
+        quiet: found.get_flag(QUIET),
     })
 }

@@ -3,8 +3,7 @@ ghost use Rattle.std.specs.Prelude.{◌≡◌, ◌↔◌, ◌⊎◌, string_byte
 ghost use Rattle.abt_cli.specs.Lost.{AreOne, HasOne, IsAmong, IsDrawnOver, IsNamed, IsPlayDrawnOver, IsTaken, LosesText, SourceLosesText, SwitchLosesText};
 
 use crate::command::Command;
-use abt_draw::PicturePlan;
-use abt_live_files::{SourcePlan, SwitchPlan};
+use abt_plans::{PicturePlan, SourcePlan, SwitchPlan};
 
 /// The standard output.
 pub(crate) const PRINTED: &str = "-";

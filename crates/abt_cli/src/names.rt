@@ -1,4 +1,4 @@
-//! The arguments and options of all commands: each name stands here once, with its help.
+//! The arguments and options of commands but for processes: each name stands here once, with its help.
 use clap::{Arg, ArgAction, Command, value_parser};
 use std::alloc::{AllocError, Global};
 
@@ -53,6 +53,9 @@ pub const STDIN: &str = "stdin";
 /// Whether a run is checked besides, and woven events are told.
 pub const EXPLAIN: &str = "explain";
 
+/// Whether each event of a run has to be enabled.
+pub const STRICT: &str = "strict";
+
 /// Whether nothing is shown of how far a command is.
 pub const QUIET: &str = "quiet";
 
@@ -77,7 +80,7 @@ pub const OUTPUT: &str = "output";
 /// The file for the picture of `abt audit` and of `abt play`.
 pub const DRAW: &str = "draw";
 
-/// The source whose log `abt audit` judges alone; a port is named by `PORT`.
+/// The source whose log `abt audit` judges alone.
 pub const OF_SOURCE: &str = "source";
 
 /// The connections that a picture shows, its first event and its last.
@@ -92,17 +95,8 @@ pub const TAU: &str = "tau";
 
 pub const RATE: &str = "rate";
 
-/// The ports of `abt switch`, the journal of both, the store of `abt source`, and whether that is made.
+/// The ports of `abt switch`, and that whose log `abt audit` judges alone.
 pub const PORT: &str = "port";
-
-pub const JOURNAL: &str = "journal";
-
-pub const STORE: &str = "store";
-
-pub const NEW: &str = "new";
-
-/// Messages as cells.
-pub const BINARY: &str = "binary";
 
 /// The seed and the chances of a play.
 pub const SEED: &str = "seed";
@@ -119,7 +113,7 @@ pub(crate) fn word<'a>(alloc: Global, name: &'a str, help: &'a str) -> Arg<'a> {
 }
 
 /// An option without a value.
-fn flag<'a>(alloc: Global, name: &'a str, help: &'a str) -> Arg<'a> {
+pub(crate) fn flag<'a>(alloc: Global, name: &'a str, help: &'a str) -> Arg<'a> {
     Arg::new(alloc, name)
         .long(name)
         .action(ArgAction::SetTrue)
@@ -150,47 +144,6 @@ pub(crate) fn net<'a>(alloc: Global) -> Arg<'a> {
         alloc,
         NET,
         "The net: a scenario, a TOML text, whose events don't happen",
-    )
-}
-
-pub(crate) fn ports<'a>(alloc: Global) -> Arg<'a> {
-    valued(
-        alloc,
-        PORT,
-        "P",
-        "A port of the switch, by its number in the net; once for each port",
-    )
-    .action(ArgAction::Append)
-    .required(true)
-}
-
-pub(crate) fn journal<'a>(alloc: Global, help: &'a str) -> Arg<'a> {
-    valued(alloc, JOURNAL, "FILE", help).required(true)
-}
-
-pub(crate) fn store<'a>(alloc: Global) -> Arg<'a> {
-    valued(
-        alloc,
-        STORE,
-        "FILE",
-        "The store of the source, a file that no other process uses",
-    )
-    .required(true)
-}
-
-pub(crate) fn new<'a>(alloc: Global) -> Arg<'a> {
-    flag(
-        alloc,
-        NEW,
-        "Make the store, which must not be there, and begin the journal, which must have no line",
-    )
-}
-
-pub(crate) fn binary<'a>(alloc: Global) -> Arg<'a> {
-    flag(
-        alloc,
-        BINARY,
-        "Have messages come and go as cells of 52 octets behind an octet that says which port, and all else as lines",
     )
 }
 
@@ -289,6 +242,14 @@ pub(crate) fn explain<'a>(alloc: Global) -> Arg<'a> {
         alloc,
         EXPLAIN,
         "Tell on standard error, behind the run's fault, what abt check says of the scenario",
+    )
+}
+
+pub(crate) fn strict<'a>(alloc: Global) -> Arg<'a> {
+    flag(
+        alloc,
+        STRICT,
+        "End with status 1 if an event isn't enabled, and tell the first such event, and why",
     )
 }
 

@@ -9,14 +9,14 @@ ghost use Rattle.abt_cli.specs.Words.{AreNumbers, text_in};
 use crate::lost::PRINTED;
 use crate::names::{DRAW, FROM, ONLY, OUTPUT, TO};
 use crate::readers::{numbers_of, wrong_words};
-use abt_draw::PicturePlan;
 use abt_perform::WordsFault;
+use abt_plans::{PictureForm, PicturePlan};
 use abt_text::u64_of;
 use clap::ArgMatches;
 use std::alloc::{AllocError, Global};
 
 // The rule of a file for a picture.
-const OUT_RULE: &str = "OUT ends in .svg or in .html";
+const OUT_RULE: &str = "OUT is to end in .svg, .html or .txt; only abt draw takes - too";
 
 // The rule of the connections that are shown.
 const ONLY_RULE: &str = "--only names connections by their places, as 0,2";
@@ -33,7 +33,7 @@ pub(crate) fn picture_of(
     ensures ok { IfOk result (IsPicturePlan found.now out.now) }
     ensures err { IfErr result (λ fault. (fault ≡ Memory) ⊎ HasNoPicture found.now out.now) }
 {
-    let Some((out, page)) = file_of(found, out) else {
+    let Some((out, form)) = file_of(found, out) else {
         return Err(wrong_words(alloc, OUT_RULE)?);
     };
     let only = only_of(alloc, found)?;
@@ -41,7 +41,7 @@ pub(crate) fn picture_of(
     let to = event_of(alloc, found, TO)?;
     Ok(PicturePlan {
         out: String::from_str(alloc, out)?,
-        page,
+        form,
         only,
         from,
         to,
@@ -65,36 +65,38 @@ pub(crate) fn picture_if_named(
     Ok(Some(picture_of(alloc, found, DRAW)?))
 }
 
-// The file under a name, and whether it is for a page; none if its name ends in no way that is known.
-fn file_of<'a>(found: &ArgMatches<'a>, name: &str) -> Option<(&'a str, bool)>
+// The file under a name, and the form of what is drawn there; none if its name ends in no way that is known.
+fn file_of<'a>(found: &ArgMatches<'a>, name: &str) -> Option<(&'a str, PictureForm)>
     ensures some { IfSome result (λ file. (text_in found.now name.now ≡ Some file.0.now) ×
-        (pictures.page_of name.now file.0.now ≡ Some file.1)) }
+        (pictures.form_of name.now file.0.now ≡ Some file.1)) }
     ensures none { IfNone result ((file : List ℕ) → text_in found.now name.now ≡ Some file →
-        pictures.page_of name.now file ≡ None) }
+        pictures.form_of name.now file ≡ None) }
 {
     let file = found.get_str(name)?;
-    let page = page_of(name, file)?;
-    Some((file, page))
+    let form = form_of(name, file)?;
+    Some((file, form))
 }
 
-// Whether a file under a name is for a page. The picture of `abt draw` may go to the standard output.
-fn page_of(name: &str, file: &str) -> Option<bool>
-    ensures { result ≡ pictures.page_of name.now file.now }
+// The form of what is drawn into a file under a name. The picture of `abt draw` may go to the standard output.
+fn form_of(name: &str, file: &str) -> Option<PictureForm>
+    ensures { result ≡ pictures.form_of name.now file.now }
 {
     if name == OUTPUT && file == PRINTED {
-        return Some(false);
+        return Some(PictureForm::Svg);
     }
-    is_page(file)
+    form_in(file)
 }
 
-// Whether a file is for a page, by the end of its name.
-fn is_page(file: &str) -> Option<bool>
-    ensures { result ≡ pictures.is_page file.now }
+// The form of what is drawn into a file, by the end of its name.
+fn form_in(file: &str) -> Option<PictureForm>
+    ensures { result ≡ pictures.form_in file.now }
 {
     if file.ends_with(".html") {
-        Some(true)
+        Some(PictureForm::Page)
     } else if file.ends_with(".svg") {
-        Some(false)
+        Some(PictureForm::Svg)
+    } else if file.ends_with(".txt") {
+        Some(PictureForm::Text)
     } else {
         None
     }

@@ -26,6 +26,7 @@ pub(crate) fn plan_of(command: Command) -> Option<Plan>
         Command::Run {
             file,
             json: false,
+            strict: false,
             ..
         } => Some(Plan::Run(file)),
         Command::Threads(command) => plan_of_threads(command),

@@ -6,7 +6,9 @@ ghost use Rattle.abt_perform.specs.declared.plan.WordsFault.TheVariants.{Memory}
 
 use crate::command::{AuditCommand, CheckCommand, Command, ThreadsCommand};
 use crate::log_words::{log_actor, log_audit};
-use crate::names::{CODE, EVENTS, EXPECT, EXPLAIN, HEX, JOURNALS, JSON, LOCATED, QUIET, STDIN};
+use crate::names::{
+    CODE, EVENTS, EXPECT, EXPLAIN, HEX, JOURNALS, JSON, LOCATED, QUIET, STDIN, STRICT,
+};
 use crate::picture_words::picture_if_named;
 use crate::readers::{capacity_of, file_in, files_in, text_in, word_in, words_in, workers_of};
 use abt_perform::WordsFault;
@@ -76,11 +78,13 @@ pub(crate) fn run_of(alloc: Global, found: &ArgMatches<'_>) -> Result<Command, W
     let file = file_in(alloc, found)?;
     let json = found.get_flag(JSON);
     let explain = found.get_flag(EXPLAIN);
+    let strict = found.get_flag(STRICT);
     let quiet = found.get_flag(QUIET);
     Ok(Command::Run {
         file,
         json,
         explain,
+        strict,
         quiet,
     })
 }
@@ -141,11 +145,13 @@ pub(crate) fn audit_of(alloc: Global, found: &ArgMatches<'_>) -> Result<Command,
     let picture = picture_if_named(alloc, found)?;
     let files = files_in(alloc, found)?;
     let events = text_in(alloc, found, EVENTS)?;
+    let json = found.get_flag(JSON);
     let quiet = found.get_flag(QUIET);
     Ok(Command::Audit(AuditCommand {
         files,
         events,
         picture,
+        json,
         quiet,
     }))
 }

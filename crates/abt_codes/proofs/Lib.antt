@@ -2,3 +2,4 @@ mod Places
 mod Quotients
 mod Scales
 mod ReadBack
+mod Doubted

@@ -1,6 +1,7 @@
 //! Rates in words, the codes nearest to them, cells in words, and what is printed of these.
 #![tactic(auto)]
 
+mod doubt;
 mod duration;
 mod fault;
 mod message;
@@ -12,6 +13,7 @@ mod quantity;
 mod text;
 mod written;
 
+pub use doubt::{code_below, code_doubt};
 pub use duration::picoseconds_in;
 pub use fault::CodesFault;
 pub use message::{Kind, MessageWords, rm_in};
