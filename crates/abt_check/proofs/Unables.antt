@@ -1,16 +1,25 @@
 -- Lists that grow up to a length.
 use Rattle.std.proofs.Common.{◌≡◌, ℕ, ◌+◌, ◌≤◌, ◌<◌, List, [], ◌∷◌, ◌++◌, inl, inr, refl, sym, subst, ap, ◌∙◌, arith, length, take, append_assoc, length-append}
-use Rattle.std.specs.Prelude.{nat_lt}
+use Rattle.std.specs.Prelude.{nat_lt, Option, Some}
 use Rattle.std.proofs.lemmas.Bool.{cases_Bool, cond-true, cond-false, ltb-true, ltb-false}
 use Rattle.std.proofs.Math.Seq.{take-append_seam}
 use Rattle.abt_model.specs.declared.outcome.Outcome.{Outcome}
-use Rattle.abt_model.specs.declared.outcome.Outcome.TheVariants.{NotEnabled}
+use Rattle.abt_model.specs.declared.outcome.Outcome.TheVariants.{EmitRefused, NotEnabled}
+use Rattle.abt_shaper.specs.declared.fault.ShapeFault.TheVariants.{Zero}
 use Rattle.abt_reason.specs.declared.grounds.Grounds.{Grounds}
-use Rattle.abt_check.specs.Unable.{UnableView, unable_at, with_more}
+use Rattle.abt_reason.specs.declared.sighting.Sought.{Sought}
+use Rattle.abt_check.specs.Unable.{UnableView, unable_at, waiting_at, with_more}
+use Rattle.abt_check.specs.declared.unable.Look.{Look}
+use Rattle.abt_check.specs.declared.unable.Look.TheVariants.{Wide}
 
-pub one_at_most : (index : ℕ) (grounds : Grounds) (o : Outcome) → length (unable_at index grounds o) ≤ 1
-one_at_most index grounds (NotEnabled cause) = omega arith
-one_at_most index grounds o = omega arith
+waiting_at_most : (look : Look) (index : ℕ) (grounds : Grounds) (p : Option Sought) → length (waiting_at look index grounds p) ≤ 1
+waiting_at_most Wide index grounds (Some sought) = omega arith
+waiting_at_most look index grounds p = omega arith
+
+pub one_at_most : (look : Look) (index : ℕ) (grounds : Grounds) (p : Option Sought) (o : Outcome) → length (unable_at look index grounds p o) ≤ 1
+one_at_most look index grounds p (NotEnabled cause) = omega arith
+one_at_most look index grounds p (EmitRefused Zero) = waiting_at_most look index grounds p
+one_at_most look index grounds p o = omega arith
 
 -- a list of so many elements hides what stands behind it
 full : (most : ℕ) (before rest : List UnableView) → length before ≡ most → take most (before ++ rest) ≡ before

@@ -81,8 +81,8 @@ warning_objects file source (warning ∷ others) = warning_object file source wa
 
 -- the last object: how many there are of each
 abbrev pub counts_object : (file : Option Text) → Checked → Text
-counts_object file checked = object_line (file_members file ++ number_member (codes "faults") (length checked.faults.items)
-    ++ number_member (codes "warnings") (length checked.warnings.items))
+counts_object file checked = object_line (text_member (codes "kind") (codes "counts") ++ file_members file
+    ++ number_member (codes "faults") (length checked.faults.items) ++ number_member (codes "warnings") (length checked.warnings.items))
 
 -- the faults, the warnings, and how many there are
 abbrev pub check_objects : (file : Option Text) → (source : Text) → Checked → Text

@@ -1,9 +1,9 @@
 pub mod Check
 pub mod CheckText
 pub mod Findings
-pub mod Rates
 pub mod Unable
 pub mod Seen
+pub mod Strict
 pub mod Performed
 pub mod CheckObjects
 pub mod Located

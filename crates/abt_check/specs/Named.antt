@@ -1,5 +1,5 @@
 -- What is told of one file of several: its check, or why it isn't checked (docs/FORMATS.md, "Checks of files").
-use Rattle.std.specs.Prelude.{◌≡◌, ◌⊎◌, ◌<◌, ◌≤◌, ⊤, ℕ, not, Bool, true, false, length, Some, codes}
+use Rattle.std.specs.Prelude.{◌≡◌, ◌⊎◌, ◌<◌, ◌≤◌, ⊤, ℕ, ◌&&◌, not, Bool, true, false, length, Some, codes}
 use Rattle.std.specs.Str.{IsUtf8}
 use Rattle.abt_files.specs.Shown.{shown}
 use Rattle.abt_text.specs.Streams.{text_max}
@@ -59,7 +59,7 @@ pub record IsTestSaid (count number : ℕ) (name source : Text) (said : FileSaid
   pub diagnosis : Text
   pub found : IsDiagnosis (mark_of name) source skipped diagnosis
   pub told : said.octets.items ≡ test_text count number name skipped diagnosis
-  pub faulty : said.is_faulty ≡ not (is_empty diagnosis)
+  pub faulty : said.is_faulty ≡ (not skipped && not (is_empty diagnosis))
 
 -- The text is checked, or tested.
 abbrev pub IsTextSaid : FileForm → (number : ℕ) → (name source : Text) → FileSaid → Type 0

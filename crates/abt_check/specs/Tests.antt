@@ -9,13 +9,14 @@ use Rattle.abt_scenario.specs.Scenarios.{Reads}
 use Rattle.abt_scenario.specs.declared.scenario.Scenario.{Scenario}
 use Rattle.abt_text.specs.Text.{Text, ◌⋅◌, newline, decimal}
 use Rattle.toml.specs.Data.{Data}
-use Rattle.abt_check.specs.Check.{AreFaultsOf}
+use Rattle.abt_check.specs.Check.{AreFaultsOf, IsCheckOf}
 use Rattle.abt_check.specs.Expectations.{expect_in, expectations_of}
 use Rattle.abt_check.specs.Located as lines
 use Rattle.abt_check.specs.OutcomeWords.{is_empty}
 use Rattle.abt_check.specs.Performed.{has_some}
 use Rattle.abt_check.specs.declared.expectations.ExpectFault.{ExpectFault}
 use Rattle.abt_check.specs.declared.expectations.ExpectFault.TheVariants.{NoArray, NoText, NoOutcome, Count, Memory}
+use Rattle.abt_check.specs.declared.finding.Checked.{Checked}
 use Rattle.abt_check.specs.declared.finding.Found.{Found}
 
 -- the name of a test: that of its file as it is shown, where no `#` (35) stands, which would begin a directive
@@ -89,16 +90,22 @@ pub record IsCompared (source diagnosis : Text) : Type 0 where
   pub are_texts : expectations_of (length scenario.events) value ≡ Ok texts
   pub told : diagnosis ≡ difference_lines 1 (outcomes_of scenario.net scenario.events) texts
 
--- Nothing is expected.
-pub record IsSkipped (source diagnosis : Text) : Type 0 where
+-- The warnings of a check of the text are told. Which these are isn't said, so none may be.
+pub record AreDoubts (mark source diagnosis : Text) : Type 0 where
+  pub checked : Checked
+  pub is_check : IsCheckOf source checked
+  pub told : diagnosis ≡ lines.warning_lines mark source checked.warnings.items
+
+-- Nothing is expected: what is doubtful in the text is told.
+pub record IsSkipped (mark source diagnosis : Text) : Type 0 where
   pub scenario : Scenario
   pub read : Reads source (Ok scenario)
   pub none : expect_in source ≡ None
-  pub told : diagnosis ≡ []
+  pub doubts : AreDoubts mark source diagnosis
 
 -- what is found in a text, and whether it is skipped
 abbrev pub IsDiagnosis : (mark source : Text) → (skipped : Bool) → (diagnosis : Text) → Type 0
-IsDiagnosis mark source true diagnosis = IsSkipped source diagnosis
+IsDiagnosis mark source true diagnosis = IsSkipped mark source diagnosis
 IsDiagnosis mark source false diagnosis =
     IsNoScenario mark source diagnosis ⊎ IsMisfit mark source diagnosis ⊎ IsCompared source diagnosis
 
@@ -106,9 +113,9 @@ IsDiagnosis mark source false diagnosis =
 abbrev pub plan : (count number : ℕ) → Text
 plan count number = if number == 1 then codes "TAP version 13\n1.." ⋅ decimal count ⋅ newline else []
 
--- nothing is wrong if nothing is told
-abbrev pub verdict : (diagnosis : Text) → Text
-verdict diagnosis = if is_empty diagnosis then codes "ok " else codes "not ok "
+-- nothing is wrong if nothing is expected, or nothing is told
+abbrev pub verdict : (skipped : Bool) → (diagnosis : Text) → Text
+verdict skipped diagnosis = if skipped || is_empty diagnosis then codes "ok " else codes "not ok "
 
 abbrev pub directive : (skipped : Bool) → Text
 directive skipped = if skipped then codes " # SKIP it has no `expect`" else []
@@ -116,4 +123,4 @@ directive skipped = if skipped then codes " # SKIP it has no `expect`" else []
 -- a test of this number among so many: whether all is as expected, its name, and what isn't
 abbrev pub test_text : (count number : ℕ) → (name : Text) → (skipped : Bool) → (diagnosis : Text) → Text
 test_text count number name skipped diagnosis =
-    plan count number ⋅ verdict diagnosis ⋅ decimal number ⋅ codes " - " ⋅ title_of name ⋅ directive skipped ⋅ newline ⋅ diagnosis
+    plan count number ⋅ verdict skipped diagnosis ⋅ decimal number ⋅ codes " - " ⋅ title_of name ⋅ directive skipped ⋅ newline ⋅ diagnosis

@@ -58,7 +58,8 @@ fn push_fault(
     write!(text, "{place}fault: {fault}: {said}\n")
 }
 
-fn push_warnings(
+/// Adds the lines of some warnings.
+pub(crate) fn push_warnings(
     alloc: Global,
     text: &mut String,
     name: &str,

@@ -114,7 +114,7 @@ fn test_said(
 {
     let diagnosis = diagnosis_of(alloc, name, source)?;
     let text = test_text(alloc, count, number, name, &diagnosis)?;
-    let is_faulty = !diagnosis.text.is_empty();
+    let is_faulty = !diagnosis.is_skipped && !diagnosis.text.is_empty();
     let octets = text.into_bytes();
     Ok(FileSaid { octets, is_faulty })
 }

@@ -107,6 +107,7 @@ fn push_counts(
         spec.counts_object (option_map (λ name. name.now) file.entry) checked.now) }
 {
     let mut object = begin(alloc, text)?;
+    push_text(&mut object, "kind", "counts")?;
     push_file(&mut object, file)?;
     push_number(&mut object, "faults", checked.faults.len() as u64)?;
     push_number(&mut object, "warnings", checked.warnings.len() as u64)?;

@@ -1,9 +1,5 @@
-//! Rates in words, or in digits, where a rate code is wanted.
-ghost use Rattle.std.specs.Prelude.{◌↔◌, ◌<◌, IsTrue};
-ghost use Rattle.abt_check.specs.Rates.{IsCodeBelow, IsDoubtful};
-
-use abt_codes::{Quantity, below, exactly, quantity_in};
-use abt_format::rate_of;
+//! Rates in words where a rate code is wanted.
+use abt_codes::{Quantity, code_below, exactly, quantity_in};
 use abt_text::HexCode;
 use std::alloc::{AllocError, Global};
 
@@ -33,45 +29,4 @@ fn code_said(alloc: Global, written: &str, quantity: Quantity) -> Result<String,
     } else {
         format!(in alloc; "the nearest code below {written} is {code}")
     }
-}
-
-// The code of the greatest rate that isn't above a quantity.
-fn code_below(quantity: Quantity) -> u16
-    requires { 0 < quantity.under }
-    ensures { IsCodeBelow quantity result }
-{
-    below(quantity).code()
-}
-
-// Whether a code says rate 0, and isn't the one that is written for it.
-fn is_doubtful(word: &str) -> bool
-    ensures { IsTrue result ↔ IsDoubtful word.now }
-{
-    match rate_of(word) {
-        Some(rate) => rate.units() == 0 && word != "0000",
-        None => false,
-    }
-}
-
-// What is doubtful in a code that is asked for, and maybe was to be so many cells per second.
-pub(crate) fn code_doubt(alloc: Global, word: &str) -> Result<Option<String>, AllocError> {
-    if !is_doubtful(word) {
-        return Ok(None);
-    }
-    let cells = format!(in alloc; "{word}cps")?;
-    let text = match quantity_in(cells.as_str()) {
-        Some(quantity) if quantity.under > 0 => {
-            let code = HexCode(code_below(quantity));
-            let number = number_shown(word);
-            format!(in alloc; "code {word} is rate 0; {number} cells/s is {code}")?
-        }
-        _ => format!(in alloc; "code {word} is rate 0, which is written 0000")?,
-    };
-    Ok(Some(text))
-}
-
-// A number without zeros in front.
-fn number_shown(digits: &str) -> &str {
-    let number = digits.trim_start_matches('0');
-    if number.is_empty() { "0" } else { number }
 }

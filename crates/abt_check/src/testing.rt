@@ -1,15 +1,15 @@
 //! Tests of what a scenario expects of its events, as the Test Anything Protocol has them.
-ghost use Rattle.std.specs.Prelude.{◌≡◌, ◌++◌, IfOk, Ok, OnOk, length, map, string_bytes};
+ghost use Rattle.std.specs.Prelude.{◌≡◌, ◌++◌, IfOk, Ok, OnOk, length, map, string_bytes, true};
 ghost use Rattle.abt_format.specs.OutcomeText.{outcome_text};
 ghost use Rattle.abt_model.specs.Run.{outcomes_of};
 ghost use Rattle.abt_scenario.specs.Scenarios.{Reads};
 ghost use Rattle.abt_check.specs.Tests as spec;
-ghost use Rattle.abt_check.specs.Tests.{IsDiagnosis};
+ghost use Rattle.abt_check.specs.Tests.{AreDoubts, IsDiagnosis};
 
 use crate::checking::check;
 use crate::expectations::{EXPECT, ExpectFault, document_of, expect_in, expectations_of};
 use crate::finding::at_item;
-use crate::located::{located, push_fault_lines};
+use crate::located::{located, push_fault_lines, push_warnings};
 use crate::telling::has_some;
 use abt_files::shown_letter;
 use abt_format::push_outcome;
@@ -18,7 +18,7 @@ use abt_places::layout_of;
 use abt_scenario::{Scenario, read, trace_of};
 use std::alloc::{AllocError, Global};
 
-/// What is found in a scenario that expects outcomes: the lines of what isn't as it is to be, or that nothing is expected.
+/// What is found in a scenario: the lines of what isn't as it is to be; or that nothing is expected, and the lines of what is doubtful.
 #[derive(Drop)]
 pub(crate) struct Diagnosis {
     pub(crate) text: String,
@@ -39,7 +39,7 @@ pub(crate) fn test_text(
     let plan = plan(alloc, count, number)?;
     let title = title_of(alloc, name)?;
     let said = diagnosis.text.as_str();
-    let verdict = verdict(said);
+    let verdict = verdict(diagnosis.is_skipped, said);
     let directive = directive(diagnosis.is_skipped);
     format!(in alloc; "{plan}{verdict}{number} - {title}{directive}\n{said}")
 }
@@ -55,10 +55,10 @@ fn plan(alloc: Global, count: u64, number: u64) -> Result<String, AllocError>
     }
 }
 
-fn verdict(diagnosis: &str) -> &'static str
-    ensures { result.now ≡ spec.verdict diagnosis.now }
+fn verdict(is_skipped: bool, diagnosis: &str) -> &'static str
+    ensures { result.now ≡ spec.verdict is_skipped diagnosis.now }
 {
-    if diagnosis.is_empty() {
+    if is_skipped || diagnosis.is_empty() {
         "ok "
     } else {
         "not ok "
@@ -145,10 +145,7 @@ fn tested(
 {
     let document = document_of(alloc, source)?;
     let Some(value) = expect_in(&document) else {
-        return Ok(Diagnosis {
-            text: String::new(alloc),
-            is_skipped: true,
-        });
+        return skipped(alloc, mark, source);
     };
     let text = match expectations_of(alloc, scenario.events.len(), value) {
         Ok(texts) => differences_of(alloc, scenario, texts.as_slice())?,
@@ -158,6 +155,20 @@ fn tested(
     Ok(Diagnosis {
         text,
         is_skipped: false,
+    })
+}
+
+// What is doubtful in a scenario that expects nothing: its key `expect` may be misspelt, or stand where nothing reads it.
+fn skipped(alloc: Global, mark: &str, source: &str) -> Result<Diagnosis, AllocError>
+    ensures { IfOk result (λ found. (found.is_skipped ≡ true)
+        × AreDoubts mark.now source.now (string_bytes found.text)) }
+{
+    let checked = check(alloc, source)?;
+    let mut text = String::new(alloc);
+    push_warnings(alloc, &mut text, mark, source, checked.warnings.as_slice())?;
+    Ok(Diagnosis {
+        text,
+        is_skipped: true,
     })
 }
 

@@ -1,8 +1,8 @@
 //! Texts that say no event, no command and no operation.
 use crate::finding::{Findings, at_item, entry_in};
 use crate::net::items_at;
-use crate::rates::code_doubt;
 use crate::words::{Kind, misfit};
+use abt_codes::code_doubt;
 use abt_format::{command_of, event_of, operation_of};
 use abt_model::{Command, Event};
 use abt_scenario::ScenarioFault;

@@ -13,5 +13,5 @@ abbrev pub invariant-loop-index : goal.invariant-loop-index
 invariant-loop-index l =
     StandsFor l.net (take l.index l.events) l.world
     × AreSightings l.net (facts_after l.net (take l.index l.events)) l.sightings
-    × IsGrown l.most (map seen l.found.items) (spec.unable_in l.net (facts_after l.net (take l.index l.events)) l.index (drop l.index l.events))
-    (take l.most (spec.unable_in l.net [] 0 l.events))
+    × IsGrown l.most (map seen l.found.items) (spec.unable_in l.look l.net (facts_after l.net (take l.index l.events)) l.index (drop l.index l.events))
+    (take l.most (spec.unable_in l.look l.net [] 0 l.events))
