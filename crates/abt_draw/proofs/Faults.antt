@@ -6,7 +6,7 @@ use Rattle.abt_model.specs.declared.event.Event.{Event}
 use Rattle.abt_draw.specs.Drawn.{IsDrawn, IsUndrawn, IsUnplaced, IsPlaced, IsNamed, IsUndrawnRange, IsUnknown, AreKnown, IsFoundFirst, first_of, last_of}
 use Rattle.abt_draw.specs.declared.fault.DrawFault.{DrawFault}
 use Rattle.abt_draw.specs.declared.fault.DrawFault.TheVariants.{Engine, Events, Range, Only, Columns, Numbers}
-use Rattle.abt_draw.specs.declared.plan.PicturePlan.{PicturePlan}
+use Rattle.abt_plans.specs.declared.picture.PicturePlan.{PicturePlan}
 
 -- a fault of the range is one of all that is named
 pub unplaced_range : (plan : PicturePlan) (net : Topology) (events : ℕ) (fault : DrawFault) → AreKnown plan.only.items (length net.conns)

@@ -1,7 +1,7 @@
 -- The legend is held when a text has grown.
 use Rattle.std.proofs.Common.{List, ℕ}
 use Rattle.std.specs.Prelude.{Result, Ok, Err, OnOk}
-use Rattle.abt_draw.specs.Legend.{HasWords, HasKey, HasLegend}
+use Rattle.abt_draw.specs.Legend.{HasWords, HasKey, HasLegend, HasStuckKey}
 use Rattle.abt_draw.specs.Within.{Grows}
 use Rattle.abt_draw.specs.declared.mark.Mark.{Mark}
 use Rattle.abt_draw.specs.declared.mark.Mark.TheVariants.{Start, Crash, Ask, Cell, Set, Refused, Idle}
@@ -17,9 +17,18 @@ key_still mark old new grows has = record {
   meaning = words_still _ old new grows has.meaning;
 }
 
+pub stuck_key_still : (old new : List ℕ) → Grows old new → HasStuckKey old → HasStuckKey new
+stuck_key_still old new grows has = record {
+  at = has.at;
+  circle = holds_still old new _ grows has.circle;
+  cross = holds_still old new _ grows has.cross;
+  meaning = words_still _ old new grows has.meaning;
+}
+
 pub legend_still : (old new : List ℕ) → Grows old new → HasLegend old → HasLegend new
 legend_still old new grows has = record {
   marks = λ mark. key_still mark old new grows (has.marks mark);
+  stuck = stuck_key_still old new grows has.stuck;
   rates = words_still _ old new grows has.rates;
   times = words_still _ old new grows has.times;
 }

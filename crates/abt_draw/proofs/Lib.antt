@@ -6,4 +6,6 @@ pub mod Keyed
 pub mod Shown
 pub mod Columned
 pub mod Faults
+pub mod Counted
+pub mod Cut
 pub mod Paged

@@ -4,6 +4,7 @@ use Rattle.std.specs.Prelude.{Result, Ok, Err, IfOk}
 use Rattle.abt_text.specs.Text.{Text, ◌⋅◌}
 use Rattle.abt_chart.specs.declared.chart.Chart.{Chart}
 use Rattle.abt_draw.specs.Bands.{HasBands}
+use Rattle.abt_draw.specs.Cells.{HasCells}
 use Rattle.abt_draw.specs.Columns.{columns_of}
 use Rattle.abt_draw.specs.Elements.{document_text}
 use Rattle.abt_draw.specs.Escapes.{escaped}
@@ -15,7 +16,7 @@ use Rattle.abt_draw.specs.Rows.{HasRows}
 use Rattle.abt_draw.specs.Stuck.{HasStuckRows}
 use Rattle.abt_draw.specs.Within.{Holds, Grows}
 use Rattle.abt_draw.specs.declared.place.Span.{Span}
-use Rattle.abt_draw.specs.declared.plan.PicturePlan.{PicturePlan}
+use Rattle.abt_plans.specs.declared.picture.PicturePlan.{PicturePlan}
 use Rattle.abt_draw.specs.declared.point.Size.{Size}
 use Rattle.abt_draw.specs.declared.scene.Scene.{Scene}
 use Rattle.abt_draw.specs.declared.sheet.Sheet.{Sheet}
@@ -24,8 +25,8 @@ use Rattle.abt_draw.proofs.Within.{holds_still}
 -- a document is an SVG text if its content has everything
 pub svg_made : (sheet : Sheet) (words : Text) (size : Size) (title style definitions content held start text : Text) → start ≡ [] → content ≡ held
     → text ≡ start ++ document_text size title words style definitions content → HasLifelines sheet held → HasRows sheet words held
-    → HasStuckRows sheet held → HasBands sheet held → HasLegend held → IsSvg sheet words text
-svg_made sheet words size title style definitions content held start text start_is content_is is lifelines rows stuck bands legend = record {
+    → HasStuckRows sheet held → HasBands sheet held → HasCells sheet held → HasLegend held → IsSvg sheet words text
+svg_made sheet words size title style definitions content held start text start_is content_is is lifelines rows stuck bands cells legend = record {
   size = size;
   title = title;
   style = style;
@@ -36,6 +37,7 @@ svg_made sheet words size title style definitions content held start text start_
   rows = rows;
   stuck = stuck;
   bands = bands;
+  cells = cells;
   legend = legend;
 }
 
@@ -63,7 +65,7 @@ page_made sheet words svg shown old new shown_is is_svg picture below grows = re
 }
 
 -- the file of a sheet of these things
-pub sheet_file : (plan : PicturePlan) (scene : Scene) (chart : Chart) (span : Span) (words text : Text) (sheet : Sheet) → IsFile plan.page sheet words text
+pub sheet_file : (plan : PicturePlan) (scene : Scene) (chart : Chart) (span : Span) (words text : Text) (sheet : Sheet) → IsFile plan.form sheet words text
     → sheet.net.now ≡ scene.net.now → sheet.chart.now ≡ chart → sheet.columns.now ≡ columns_of scene.net.now plan.only.items → sheet.only.now ≡ plan.only.items
     → AreRows plan.only.items scene.net.now sheet.columns.now span.first (events_in span scene.events.now) sheet.rows
     → sheet.stuck.now ≡ scene.stuck.now → 460 ≤ sheet.step → IsSheetFile plan scene chart span words text
@@ -75,7 +77,7 @@ sheet_file plan scene chart span words text sheet file net chart_is columns only
 
 -- so of a file that may be made
 pub sheet_files : {T E : Type 0} (plan : PicturePlan) (scene : Scene) (chart : Chart) (span : Span) (words : Text) (bytes : T → Text) (r : Result T E)
-    (sheet : Sheet) → IfOk r (λ text. IsFile plan.page sheet words (bytes text))
+    (sheet : Sheet) → IfOk r (λ text. IsFile plan.form sheet words (bytes text))
     → sheet.net.now ≡ scene.net.now → sheet.chart.now ≡ chart → sheet.columns.now ≡ columns_of scene.net.now plan.only.items → sheet.only.now ≡ plan.only.items
     → AreRows plan.only.items scene.net.now sheet.columns.now span.first (events_in span scene.events.now) sheet.rows
     → sheet.stuck.now ≡ scene.stuck.now → 460 ≤ sheet.step → IfOk r (λ text. IsSheetFile plan scene chart span words (bytes text))

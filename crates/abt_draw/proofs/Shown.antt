@@ -5,6 +5,7 @@ use Rattle.abt_chart.specs.declared.arrow.Arrival.{Arrival}
 use Rattle.abt_chart.specs.declared.arrow.Departure.{Departure}
 use Rattle.abt_chart.specs.declared.crossings.Crossing.{Crossing}
 use Rattle.abt_chart.specs.declared.told.Told.{Told}
+use Rattle.abt_draw.specs.Cells.{HasCells}
 use Rattle.abt_draw.specs.Lifelines.{HasLifeline, HasLifelines}
 use Rattle.abt_draw.specs.Rows.{DrawsArrival, DrawsStump, DrawsSent, DrawsDeparture, HasRow, HasRows}
 use Rattle.abt_draw.specs.Stuck.{HasStuckRow, HasStuckRows}
@@ -80,3 +81,6 @@ stuck_row_still sheet place mark old new grows row =
 pub stuck_rows_still : (sheet : Sheet) (old new : List ℕ) → Grows old new → HasStuckRows sheet old → HasStuckRows sheet new
 stuck_rows_still sheet old new grows rows =
     record { each = λ place mark is. stuck_row_still sheet place mark old new grows (rows.each place mark is) }
+
+pub cells_still : (sheet : Sheet) (old new : List ℕ) → Grows old new → HasCells sheet old → HasCells sheet new
+cells_still sheet old new grows has = record { upper = has.upper; held = holds_still old new _ grows has.held }

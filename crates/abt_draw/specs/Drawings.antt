@@ -9,7 +9,7 @@ use Rattle.abt_draw.specs.Drawn.{IsUndrawn}
 use Rattle.abt_draw.specs.Pictures.{IsPicture}
 use Rattle.abt_draw.specs.declared.fault.DrawFault.{DrawFault}
 use Rattle.abt_draw.specs.declared.fault.DrawFault.TheVariants.{Engine}
-use Rattle.abt_draw.specs.declared.plan.PicturePlan.{PicturePlan}
+use Rattle.abt_plans.specs.declared.picture.PicturePlan.{PicturePlan}
 use Rattle.abt_draw.specs.declared.scene.Scene.{Scene}
 
 -- What is drawn are the events of the scenario of a text, over its net, each with its line; no journal is stuck.

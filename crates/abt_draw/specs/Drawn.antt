@@ -9,7 +9,7 @@ use Rattle.abt_draw.specs.Columns.{columns_of}
 use Rattle.abt_draw.specs.declared.fault.DrawFault.{DrawFault}
 use Rattle.abt_draw.specs.declared.fault.DrawFault.TheVariants.{Engine, Only, Range, Events, Numbers, Columns}
 use Rattle.abt_draw.specs.declared.place.Span.{Span}
-use Rattle.abt_draw.specs.declared.plan.PicturePlan.{PicturePlan}
+use Rattle.abt_plans.specs.declared.picture.PicturePlan.{PicturePlan}
 
 -- the first event that is shown, counted from 1, and the last one
 abbrev pub first_of : PicturePlan → ℕ

@@ -10,9 +10,13 @@ pub mod Levels
 pub mod Legend
 pub mod Rows
 pub mod Lifelines
+pub mod Visible
 pub mod Bands
+pub mod Cells
 pub mod Stuck
 pub mod Columns
 pub mod Drawn
+pub mod Rungs
+pub mod Ladders
 pub mod Pictures
 pub mod Drawings

@@ -1,5 +1,5 @@
--- Whole pictures, as SVG texts and as pages (docs/PICTURES.md, "Drawing").
-use Rattle.std.specs.Prelude.{◌≡◌, ◌≤◌, Bool, true, false, List, [], ◌∷◌, length, take, drop, codes}
+-- Whole pictures, as SVG texts, as pages and as text (docs/PICTURES.md, "Drawing").
+use Rattle.std.specs.Prelude.{◌≡◌, ◌≤◌, List, [], ◌∷◌, length, take, drop, codes}
 use Rattle.abt_text.specs.Text.{Text, ◌⋅◌, newline}
 use Rattle.abt_net.specs.Topology.{Topology}
 use Rattle.abt_chart.specs.Charts.{IsChart}
@@ -7,10 +7,12 @@ use Rattle.abt_chart.specs.declared.chart.Chart.{Chart}
 use Rattle.abt_model.specs.declared.event.Event.{Event}
 use Rattle.abt_reason.specs.Explanation.{IsExplanation}
 use Rattle.abt_draw.specs.Bands.{HasBands}
+use Rattle.abt_draw.specs.Cells.{HasCells}
 use Rattle.abt_draw.specs.Columns.{columns_of}
 use Rattle.abt_draw.specs.Drawn.{IsDrawn, IsSpan}
 use Rattle.abt_draw.specs.Elements.{document_text}
 use Rattle.abt_draw.specs.Escapes.{escaped}
+use Rattle.abt_draw.specs.Ladders.{IsLadder}
 use Rattle.abt_draw.specs.Legend.{HasLegend}
 use Rattle.abt_draw.specs.Levels.{AreRows}
 use Rattle.abt_draw.specs.Lifelines.{HasLifelines}
@@ -18,7 +20,9 @@ use Rattle.abt_draw.specs.Rows.{HasRows}
 use Rattle.abt_draw.specs.Stuck.{HasStuckRows}
 use Rattle.abt_draw.specs.Within.{Holds}
 use Rattle.abt_draw.specs.declared.place.Span.{Span}
-use Rattle.abt_draw.specs.declared.plan.PicturePlan.{PicturePlan}
+use Rattle.abt_plans.specs.declared.picture.PictureForm.{PictureForm}
+use Rattle.abt_plans.specs.declared.picture.PictureForm.TheVariants as form
+use Rattle.abt_plans.specs.declared.picture.PicturePlan.{PicturePlan}
 use Rattle.abt_draw.specs.declared.point.Size.{Size}
 use Rattle.abt_draw.specs.declared.scene.Scene.{Scene}
 use Rattle.abt_draw.specs.declared.scene.StuckMark.{StuckMark}
@@ -36,7 +40,7 @@ pub record IsInWords (scene : Scene) (words : Text) : Type 0 where
   pub is : words ≡ explanation ⋅ stuck_lines scene.stuck.now
 
 -- The text is one SVG element, described by these words, with all lifelines, all rows, those of entries at which journals are stuck too,
--- all bands, and the legend in it.
+-- all bands, all cells, and the legend in it.
 pub record IsSvg (sheet : Sheet) (words text : Text) : Type 0 where
   pub size : Size
   pub title : Text
@@ -48,6 +52,7 @@ pub record IsSvg (sheet : Sheet) (words text : Text) : Type 0 where
   pub rows : HasRows sheet words content
   pub stuck : HasStuckRows sheet content
   pub bands : HasBands sheet content
+  pub cells : HasCells sheet content
   pub legend : HasLegend content
 
 -- The page has that SVG element, and the words below it.
@@ -57,9 +62,11 @@ pub record IsPage (sheet : Sheet) (words text : Text) : Type 0 where
   pub picture : Holds text svg
   pub below : Holds text (codes "<pre>" ⋅ escaped words ⋅ codes "</pre>")
 
-abbrev pub IsFile : (page : Bool) → Sheet → (words text : Text) → Type 0
-IsFile true sheet words text = IsPage sheet words text
-IsFile false sheet words text = IsSvg sheet words text
+-- how it is written
+abbrev pub IsFile : PictureForm → Sheet → (words text : Text) → Type 0
+IsFile form.Svg sheet words text = IsSvg sheet words text
+IsFile form.Page sheet words text = IsPage sheet words text
+IsFile form.Text sheet words text = IsLadder sheet words text
 
 -- the events of a span
 abbrev pub events_in : Span → List Event → List Event
@@ -78,7 +85,7 @@ pub record IsSheet (plan : PicturePlan) (scene : Scene) (chart : Chart) (span : 
 pub record IsSheetFile (plan : PicturePlan) (scene : Scene) (chart : Chart) (span : Span) (words text : Text) : Type 0 where
   pub sheet : Sheet
   pub is_sheet : IsSheet plan scene chart span sheet
-  pub file : IsFile plan.page sheet words text
+  pub file : IsFile plan.form sheet words text
 
 -- The chart is that of the events that are shown, of a run with others before and behind them.
 abbrev pub IsChartOf : Topology → List Event → Span → Chart → Type 0

@@ -90,8 +90,8 @@ pub fn columns_of(
     Ok(Some(columns))
 }
 
-// Whether a connection is shown.
-fn is_shown(only: &[u16], conn: u16) -> bool
+/// Whether a connection is shown.
+pub(crate) fn is_shown(only: &[u16], conn: u16) -> bool
     ensures { result ≡ shown.is_shown only.now conn }
 {
     only.is_empty() || only.contains(&conn)

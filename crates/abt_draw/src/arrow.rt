@@ -126,8 +126,8 @@ fn level_from(rows: &Rows<'_>, sent: Option<usize>) -> u32
     }
 }
 
-// Who sends a message.
-fn sender_of(net: &Net, message: &Message) -> Option<Actor>
+/// Who sends a message.
+pub(crate) fn sender_of(net: &Net, message: &Message) -> Option<Actor>
     ensures { result ≡ spec.sender_of net.now message.now }
 {
     let hops = hops_of(net, message.conn);

@@ -12,13 +12,13 @@ ghost use Rattle.abt_draw.specs.declared.fault.DrawFault.{DrawFault as FaultSpec
 use crate::fault::DrawFault;
 use crate::level::levels_of;
 use crate::page::file_of;
-use crate::plan::PicturePlan;
 use crate::sheet::{Sheet, left_most, left_of, step_of};
 use crate::{Actor, Rows, Scene, Span, StuckMark, columns_of};
 use abt_chart::{Chart, chart_of};
 use abt_model::Event;
 use abt_net::Net;
 use abt_places::read_placed;
+use abt_plans::PicturePlan;
 use abt_reason::explanation_of;
 use std::alloc::{AllocError, Global};
 use std::io::Read;
@@ -211,7 +211,7 @@ fn sheet_text<'a>(
         left,
         step,
     };
-    file_of(&sheet, plan.page, explanation)
+    file_of(&sheet, plan.form, explanation)
 }
 
 // The first event that is shown, counted from 0, and the one behind the last.

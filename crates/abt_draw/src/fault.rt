@@ -17,7 +17,7 @@ pub enum DrawFault {
     #[error("Events {0}: at most 2000 are drawn at once, so choose some by --from and --to")]
     Events(u64),
     /// The events that are named aren't among so many.
-    #[error("Range: --from and --to are to name some of the {0} events")]
+    #[error("Range: the run has {0} events, and --from is to be at most --to")]
     Range(u64),
     /// A connection is named that the net doesn't have.
     #[error("Only {0}: the net has no such connection")]

@@ -1,13 +1,13 @@
 //! The legend of a picture, below its bands.
 ghost use Rattle.std.specs.Prelude.{◌≡◌, OnOk, string_bytes};
 ghost use Rattle.abt_draw.specs.Legend as spec;
-ghost use Rattle.abt_draw.specs.Legend.{HasKey, HasLegend, HasWords};
+ghost use Rattle.abt_draw.specs.Legend.{HasKey, HasLegend, HasStuckKey, HasWords};
 ghost use Rattle.abt_draw.specs.Within.{Grows};
 ghost use Rattle.abt_draw.specs.declared.mark.Mark.{Mark as MarkSpec};
 
 use crate::mark::{Mark, push_cross, push_shape};
 use crate::sheet::Sheet;
-use crate::{Point, Size, push_label, push_line, push_rect};
+use crate::{Point, Size, push_circle, push_label, push_line, push_rect};
 use std::alloc::AllocError;
 
 // From one column or row of the legend to the next, in tenths of a unit, and how high it is.
@@ -30,6 +30,7 @@ pub(crate) fn push_legend(
     push_messages(sheet, out, upper)?;
     push_bands(sheet, out, upper)?;
     push_marks(sheet, out, upper)?;
+    push_stuck_key(sheet, out, place(upper, 2, 3))?;
     push_words(sheet, out, place(upper, 0, 6), rates())?;
     push_words(sheet, out, place(upper, 0, 7), times())?;
     Ok(upper.saturating_add(HEIGHT))
@@ -111,6 +112,25 @@ fn push_mark(sheet: &Sheet<'_>, out: &mut String, at: Point, mark: Mark) -> Resu
 {
     push_shape(sheet, out, mark, beside(at, 110, 0))?;
     push_words(sheet, out, beside(at, 300, 30), meaning_of(mark))
+}
+
+// The key of an entry at which a journal is stuck.
+#[tactic(auto, using(crate::proofs::Within::growing))]
+fn push_stuck_key(sheet: &Sheet<'_>, out: &mut String, place: Point) -> Result<(), AllocError>
+    ensures grows { OnOk result (Grows (string_bytes out.old) (string_bytes out.new)) }
+    ensures key { OnOk result (HasStuckKey (string_bytes out.new)) }
+{
+    let at = beside(place, 110, 0);
+    push_circle(sheet.alloc, out, "mark stuck", at, 70)?;
+    push_cross(sheet, out, "stuck", at, 40)?;
+    push_words(sheet, out, beside(place, 300, 30), stuck())
+}
+
+// What that mark means.
+fn stuck() -> &'static str
+    ensures { result.now ≡ spec.stuck_is }
+{
+    "a journal is stuck"
 }
 
 // The keys of the lines of messages.

@@ -1,33 +1,39 @@
-//! `abt draw`: a scenario is run, and a picture of its run is made; where its parts stand, and their texts in SVG.
+//! `abt draw`: a scenario is run, and a picture of its run is made; where its parts stand, and their texts in SVG; or as text.
 #![tactic(auto)]
 
 mod actor;
 mod arrow;
 mod band;
 mod block;
+mod cells;
 mod drawing;
 mod element;
 mod escape;
 mod fault;
+mod ladder;
 mod legend;
 mod level;
 mod lifeline;
 mod mark;
+mod moment;
 mod page;
 mod picture;
 mod place;
-mod plan;
 mod point;
 mod rates;
 mod row;
+mod rung;
 mod scene;
 mod script;
 mod sheet;
 mod stack;
 mod stuck;
 mod style;
+mod visible;
+mod way;
 mod words;
 
+pub use abt_plans::{PictureForm, PicturePlan};
 pub use actor::{Actor, actor_at, column_of, columns_of};
 pub use arrow::{Arrow, Lost, Spot, arrow_of, lost_of};
 pub use block::{BAND_HEIGHT, Block, blocks_of, height_of};
@@ -39,6 +45,5 @@ pub use element::{
 pub use escape::escaped;
 pub use fault::{DrawFault, tell_draw_fault};
 pub use place::{Rows, Span, level_of, x_of, y_of};
-pub use plan::PicturePlan;
 pub use point::{Point, Size, Tenths};
 pub use scene::{Scene, StuckMark};

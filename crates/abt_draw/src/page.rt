@@ -1,29 +1,30 @@
-//! Pictures as whole files: an SVG text, or a page with the picture in it.
+//! Pictures as whole files: an SVG text, a page with the picture in it, or text.
 ghost use Rattle.std.specs.Prelude.{IfOk, OnOk, codes, string_bytes};
 ghost use Rattle.abt_text.specs.Text.{◌⋅◌};
 ghost use Rattle.abt_draw.specs.Escapes as spec;
 ghost use Rattle.abt_draw.specs.Pictures.{IsSvg, IsPage, IsFile};
 ghost use Rattle.abt_draw.specs.Within.{Grows, Holds};
 
+use crate::ladder::ladder_of;
 use crate::picture::{axis_of, push_picture};
 use crate::script::{KEYS, PAGE, script};
 use crate::sheet::Sheet;
 use crate::style::{definitions, shapes};
-use crate::{Picture, Point, Rows, Size, escaped, push_document, push_line};
+use crate::{Picture, PictureForm, Point, Rows, Size, escaped, push_document, push_line};
 use std::alloc::{AllocError, Global};
 
-/// The text of a picture: a page, or an SVG text. The explanation is that of the whole run.
+/// The text of a picture in a form. The explanation is that of the whole run.
 pub(crate) fn file_of(
     sheet: &Sheet<'_>,
-    page: bool,
+    form: PictureForm,
     explanation: &str,
 ) -> Result<String, AllocError>
-    ensures { IfOk result (λ text. IsFile page sheet.now explanation.now (string_bytes text)) }
+    ensures { IfOk result (λ text. IsFile form sheet.now explanation.now (string_bytes text)) }
 {
-    if page {
-        html_of(sheet, explanation)
-    } else {
-        svg_of(sheet, explanation)
+    match form {
+        PictureForm::Svg => svg_of(sheet, explanation),
+        PictureForm::Page => html_of(sheet, explanation),
+        PictureForm::Text => ladder_of(sheet, explanation),
     }
 }
 
@@ -68,8 +69,8 @@ fn push_cursor(sheet: &Sheet<'_>, out: &mut String) -> Result<(), AllocError>
     push_line(sheet.alloc, out, "cursor", from, to)
 }
 
-// What a picture is of.
-fn title_of(sheet: &Sheet<'_>) -> Result<String, AllocError> {
+/// What a picture is of.
+pub(crate) fn title_of(sheet: &Sheet<'_>) -> Result<String, AllocError> {
     let alloc = sheet.alloc;
     let events = sheet.chart.told.len();
     let behind = if sheet.stuck.is_empty() {
@@ -82,7 +83,18 @@ fn title_of(sheet: &Sheet<'_>) -> Result<String, AllocError> {
     }
     let first = (sheet.rows.first as u64).saturating_add(1);
     let last = (sheet.rows.first as u64).saturating_add(sheet.rows.levels.len() as u64);
-    format!(in alloc; "Events {first} to {last} of a run of {events}{behind}")
+    let only = only_of(sheet)?;
+    format!(in alloc; "Events {first} to {last} of a run of {events}{only}{behind}")
+}
+
+// The connections that are shown, if not all are.
+fn only_of(sheet: &Sheet<'_>) -> Result<String, AllocError> {
+    let mut out = String::new(sheet.alloc);
+    for conn in sheet.only {
+        let mark = if out.is_empty() { ", --only " } else { "," };
+        write!(out, "{mark}{conn}")?;
+    }
+    Ok(out)
 }
 
 // A page with the picture, which steps through its events.
@@ -119,7 +131,7 @@ fn push_steps(out: &mut String, title: &str, rows: &Rows<'_>) -> Result<(), Allo
     )
 }
 
-// The picture, and below it the same in words.
+// The picture, and below it the whole run in words.
 fn push_both(
     alloc: Global,
     out: &mut String,
@@ -133,7 +145,7 @@ fn push_both(
     let text = escaped(alloc, explanation)?;
     write!(
         out,
-        "<div class='both'>\n<div class='picture'>\n{picture}</div>\n<aside id='held' aria-label='What is held'></aside>\n</div>\n<h2>The same in words</h2>\n"
+        "<div class='both'>\n<div class='picture'>\n{picture}</div>\n<aside id='held' aria-label='What is held'></aside>\n</div>\n<h2>The whole run in words</h2>\n"
     )?;
     write!(out, "<pre>{text}</pre>\n")
 }

@@ -2,6 +2,7 @@
 ghost use Rattle.std.specs.Prelude.{◌≡◌, ◌+◌, ◌<◌, ℕ, IsTrue, Some, OnOk, slice_get, string_bytes};
 ghost use Rattle.abt_chart.specs.declared.crossings.Crossing.{Crossing};
 ghost use Rattle.abt_draw.specs.Bands.{HasBands, HasPortBand, HasPortBands, HasSourceBand, HasSourceBands};
+ghost use Rattle.abt_draw.specs.Cells.{HasCells};
 ghost use Rattle.abt_draw.specs.Legend.{HasLegend};
 ghost use Rattle.abt_draw.specs.Levels as levels;
 ghost use Rattle.abt_draw.specs.Lifelines.{HasLifelines};
@@ -11,6 +12,7 @@ ghost use Rattle.abt_draw.specs.Within.{Grows};
 ghost use Rattle.abt_draw.specs.declared.actor.Actor.TheVariants.{Port, Source};
 
 use crate::band::{BAND_STEP, Band, edge_of, push_ground};
+use crate::cells::push_cells;
 use crate::legend::push_legend;
 use crate::level::has_row;
 use crate::lifeline::push_lifelines;
@@ -33,12 +35,14 @@ pub(crate) fn push_picture(
     ensures rows { OnOk result (HasRows sheet.now explanation.now (string_bytes out.new)) }
     ensures stuck { OnOk result (HasStuckRows sheet.now (string_bytes out.new)) }
     ensures bands { OnOk result (HasBands sheet.now (string_bytes out.new)) }
+    ensures cells { OnOk result (HasCells sheet.now (string_bytes out.new)) }
     ensures legend { OnOk result (HasLegend (string_bytes out.new)) }
 {
     push_lifelines(sheet, out)?;
     push_rows(sheet, out, explanation)?;
     push_stuck(sheet, out)?;
-    let lower = push_bands(sheet, out)?;
+    let bottom = push_bands(sheet, out)?;
+    let lower = push_cells(sheet, out, bottom)?;
     push_legend(sheet, out, lower)
 }
 

@@ -29,6 +29,8 @@ line.old { stroke-width: 0.8px; stroke-dasharray: 2 2 }
 line.lost { stroke: #a00; stroke-width: 1.6px }
 line.crash { stroke: #a00; stroke-width: 2.2px }
 line.cell { stroke: #111; stroke-width: 2px }
+line.way { marker-end: url(#head) }
+line.bad { stroke: #a00; stroke-dasharray: 3 2 }
 circle { stroke: #111; fill: #fff }
 circle.ask { fill: #124a8c; stroke: none }
 circle.idle { stroke: #666; stroke-dasharray: 2 1.5 }
@@ -68,7 +70,7 @@ line.up { stroke: #d0d0d0 }
 line.grid { stroke: #333941 }
 line.request, line.rate { stroke: #7fb4ff }
 line.yes { stroke: #7fd18c }
-line.no, line.lost, line.crash, line.stuck, line.capacity, line.least { stroke: #ff8a80 }
+line.no, line.lost, line.crash, line.stuck, line.capacity, line.least, line.bad { stroke: #ff8a80 }
 circle { stroke: #e8e8e8; fill: #15181d }
 circle.ask { fill: #7fb4ff; stroke: none }
 circle.idle { stroke: #a6a6a6 }

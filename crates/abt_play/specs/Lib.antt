@@ -1,4 +1,3 @@
-pub mod Chances
 pub mod Commands
 pub mod Draws
 pub mod Fitting

@@ -4,8 +4,8 @@ use Rattle.std.specs.List.{remove}
 use Rattle.std.specs.declared.alloc.Global.{Global}
 use Rattle.abt_model.specs.Outcomes.{conn_of}
 use Rattle.abt_model.specs.declared.event.Event.{Event}
-use Rattle.abt_play.specs.declared.chances.Fate.{Fate}
-use Rattle.abt_play.specs.declared.chances.Fate.TheVariants.{Lost, Once, Twice}
+use Rattle.abt_plans.specs.declared.chances.Fate.{Fate}
+use Rattle.abt_plans.specs.declared.chances.Fate.TheVariants.{Lost, Once, Twice}
 use Rattle.abt_play.specs.declared.parcel.Parcel.{Parcel}
 
 -- both copies of a message, each of which may be repeated so often

@@ -2,7 +2,6 @@
 #![tactic(auto)]
 
 mod blocks;
-mod chances;
 mod command_events;
 mod draws;
 mod fault;
@@ -12,16 +11,14 @@ mod hand;
 mod inboxes;
 mod parcel;
 mod performing;
-mod plan;
 mod player;
 mod playing;
 mod stage;
 mod tally;
 mod under_way;
 
-pub use chances::{Chances, Fate};
+pub use abt_plans::{Chances, Fate, PlayPlan};
 pub use fault::{PlayFault, ShowFault, StopFault};
 pub use followed::following;
 pub use performing::{ScenarioPlay, show_play, tell_show_fault};
-pub use plan::PlayPlan;
 pub use playing::{Played, play};

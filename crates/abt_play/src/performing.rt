@@ -4,12 +4,12 @@ ghost use Rattle.abt_perform.specs.Plans.{Tells};
 ghost use Rattle.abt_text.specs.Streams.{ConsumesAtMost, text_max};
 ghost use Rattle.abt_play.specs.Performing.{EndsBy, IsPlayOf, IsPlayShown, IsPlayTold, IsPlayUntold, IsUnplayed, show_line};
 
-use crate::chances::Chances;
 use crate::fault::ShowFault;
 use crate::playing::{Played, play};
 use abt_explain::told_text;
 use abt_net::Net;
 use abt_perform::{Fault, tell_fault, tell_text};
+use abt_plans::Chances;
 use abt_scenario::read_from;
 use abt_text::put;
 use std::alloc::Global;

@@ -5,7 +5,6 @@ ghost use Rattle.abt_play.specs.Draws.{generator_of};
 ghost use Rattle.abt_play.specs.Stage.{IsOnStage};
 ghost use Rattle.abt_play.specs.Waiting.{CanHear};
 
-use crate::chances::Chances;
 use crate::command_events::event_of;
 use crate::draws::Draws;
 use crate::fault::StopFault;
@@ -18,6 +17,7 @@ use crate::under_way::UnderWay;
 use abt_model::{Command, Event, Operation, Outcome, Script};
 use abt_net::Net;
 use abt_node::Onward;
+use abt_plans::Chances;
 use std::alloc::{AllocError, Global};
 
 /// How often a request, and what follows it, may be repeated.

@@ -7,7 +7,6 @@ ghost use Rattle.abt_play.specs.Fitting.{CanPlay, IsWhyNone};
 ghost use Rattle.abt_play.specs.Played.{IsPlay};
 ghost use Rattle.abt_play.specs.Stage.{IsOnStage};
 
-use crate::chances::Chances;
 use crate::fault::{PlayFault, StopFault};
 use crate::fitting::scripts_fit;
 use crate::player::Player;
@@ -15,6 +14,7 @@ use crate::stage::Stage;
 use abt_links::are_for_ports;
 use abt_model::{Event, Operation, Script, Sequence, Trace};
 use abt_net::Net;
+use abt_plans::Chances;
 use std::alloc::Global;
 
 /// A play: events, and the trace of their run.

@@ -1,13 +1,13 @@
 //! All messages under way.
 ghost use Rattle.std.specs.Prelude.{◌≡◌, ◌↔◌, ◌<◌, ◌≤◌, ◌++◌, [], ◌∷◌, length, IsTrue, IfSome, IfNone, OnOk, OnErr};
-ghost use Rattle.abt_play.specs.declared.chances.Fate.TheVariants as fate;
+ghost use Rattle.abt_plans.specs.declared.chances.Fate.TheVariants as fate;
 ghost use Rattle.abt_play.specs.UnderWay.{both, copies, count_of, IsTaken};
 
 use crate::blocks::Blocks;
-use crate::chances::Fate;
 use crate::parcel::Parcel;
 use crate::tally::Tally;
 use abt_model::Event;
+use abt_plans::Fate;
 use std::alloc::{AllocError, Global};
 use std::marker::Model;
 

@@ -10,7 +10,7 @@ use Rattle.abt_draw.specs.Drawings.{IsDrawing, IsNoDrawing}
 use Rattle.abt_draw.specs.Drawn.{IsUndrawn}
 use Rattle.abt_draw.specs.Pictures.{IsPicture}
 use Rattle.abt_draw.specs.declared.fault.DrawFault.{DrawFault}
-use Rattle.abt_draw.specs.declared.plan.PicturePlan.{PicturePlan}
+use Rattle.abt_plans.specs.declared.picture.PicturePlan.{PicturePlan}
 use Rattle.abt_draw.specs.declared.scene.Scene.{Scene}
 use Rattle.abt_draw.proofs.drawing.drawing_of.Goals as goal
 

@@ -10,7 +10,7 @@ pub returns-clause-picture : goal.returns-clause-picture
 returns-clause-picture c = on_ok_weaker c.write-2.result
     (λ is. holds_still _ _ _ (grows_by _ _ _ is)
     (holds_between (string_bytes c.args.out.now) (string_bytes c.write.new.self) (codes "<div class='both'>\n<div class='picture'>\n") c.args.picture.now
-    (codes "</div>\n<aside id='held' aria-label='What is held'></aside>\n</div>\n<h2>The same in words</h2>\n") c.in_ok-write.ensures.bytes))
+    (codes "</div>\n<aside id='held' aria-label='What is held'></aside>\n</div>\n<h2>The whole run in words</h2>\n") c.in_ok-write.ensures.bytes))
     c.write-2.ensures.bytes
 
 pub returns-clause-words : goal.returns-clause-words

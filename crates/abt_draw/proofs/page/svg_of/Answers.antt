@@ -3,7 +3,7 @@ use Rattle.std.proofs.Common.{string_bytes}
 use Rattle.abt_draw.proofs.Banded.{bands_still}
 use Rattle.abt_draw.proofs.Keyed.{legend_still}
 use Rattle.abt_draw.proofs.Paged.{svg_made}
-use Rattle.abt_draw.proofs.Shown.{lifelines_still, rows_still, stuck_rows_still}
+use Rattle.abt_draw.proofs.Shown.{cells_still, lifelines_still, rows_still, stuck_rows_still}
 use Rattle.abt_draw.proofs.page.svg_of.Goals as goal
 
 pub returns : goal.returns
@@ -16,4 +16,5 @@ returns c =
     (rows_still c.args.sheet.now c.args.explanation.now _ _ grows c.in_ok-lower.ensures.rows)
     (stuck_rows_still c.args.sheet.now _ _ grows c.in_ok-lower.ensures.stuck)
     (bands_still c.args.sheet.now _ _ grows c.in_ok-lower.ensures.bands)
+    (cells_still c.args.sheet.now _ _ grows c.in_ok-lower.ensures.cells)
     (legend_still _ _ grows c.in_ok-lower.ensures.legend)

@@ -1,6 +1,6 @@
 //! Plans of plays.
 use crate::chances::Chances;
-use abt_draw::PicturePlan;
+use crate::picture::PicturePlan;
 
 /// A play of a scenario's scripts.
 #[derive(Drop)]

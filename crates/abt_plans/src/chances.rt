@@ -1,6 +1,6 @@
 //! The chances of a play.
 ghost use Rattle.std.specs.Prelude.{◌≡◌};
-ghost use Rattle.abt_play.specs.Chances as spec;
+ghost use Rattle.abt_plans.specs.Chances as spec;
 
 /// The seed of a play, and its chances (docs/SCENARIOS.md, "Plays").
 #[derive(Clone, Copy, Debug, PartialEq, Eq)]
