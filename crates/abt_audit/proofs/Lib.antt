@@ -1,4 +1,5 @@
 pub mod Contradiction
+pub mod EntryObjects
 pub mod Heard
 pub mod Judged
 pub mod Lists

@@ -2,8 +2,7 @@
 use Rattle.std.proofs.Common.{◌≡◌, ◌≢◌, ◌∙◌, ℕ, ◌+◌, ◌<◌, ◌++◌, Bool, true, false, List, [], ◌∷◌, length, get_or, take, refl, sym, ap, arith, inl, inr, subst}
 use Rattle.std.proofs.lemmas.List.{take_more}
 use Rattle.std.proofs.lemmas.Bool.{cases_lt, false≢true}
-use Rattle.std.specs.Prelude.{Option, None, Some, Result, Ok, Err, IfOk, MatchOption, ◌↔◌, if◌then◌else◌, codes, option_and_then, slice_get, String}
-use Rattle.std.specs.declared.alloc.Global.{Global}
+use Rattle.std.specs.Prelude.{Option, None, Some, Result, Ok, Err, IfOk, MatchOption, ◌↔◌, if◌then◌else◌, codes, option_and_then, slice_get, string_bytes}
 use Rattle.abt_text.specs.Text.{Text, ◌⋅◌, newline}
 use Rattle.abt_journal.specs.declared.entry.Entry.{Entry}
 use Rattle.abt_journal.specs.declared.input.PortInput.{PortInput}
@@ -16,7 +15,8 @@ use Rattle.abt_node.specs.Table.{Table}
 use Rattle.abt_reason.specs.declared.grounds.Numbers.{Numbers}
 use Rattle.abt_audit.specs.Protocol.{port_answer}
 use Rattle.abt_audit.specs.Stuck.{item_at}
-use Rattle.abt_audit.specs.Why.{IsLastChange, IsLastWithin, IsPortWhy, IsWhyAt, numbers_after, numbers_at, reason_by, since_text, why_line}
+use Rattle.abt_audit.specs.Why.{IsLastChange, IsLastWithin, IsNoWhy, IsPortWhy, IsWhyAt, numbers_after, numbers_at, reason_by, why_line}
+use Rattle.abt_audit.specs.declared.why.Why.{Why}
 
 pub why_of_some : (reason since : Text) → reason ≢ [] → why_line reason since ≡ codes "why" ⋅ reason ⋅ since ⋅ newline
 why_of_some [] since some = absurd (some refl)
@@ -83,18 +83,17 @@ if_ok (Ok x) P Q f p = f x p
 if_ok (Err e) P Q f p = tt
 
 -- why the protocol replies as it does to an entry
-pub port_why_is : (names : List (String Global)) (run : Run) (p place : ℕ) (entries : List Entry) (entry : Entry) (earlier : List Entry) (numbers : Numbers)
-    (last : Option ℕ) (reply : Option PortReply) (reason since line : Text) → slice_get entries place ≡ Some entry → earlier ≡ take place entries
+pub port_why_is : (run : Run) (p place : ℕ) (entries : List Entry) (entry : Entry) (earlier : List Entry) (numbers : Numbers)
+    (last : Option ℕ) (reply : Option PortReply) (why : Why) → slice_get entries place ≡ Some entry → earlier ≡ take place entries
     → numbers ≡ numbers_at (replay (port_table run.net [] p) earlier) entry.input → IsLastChange (port_table run.net [] p) earlier entry.input last
-    → reply ≡ port_answer run.net p entries place → reason ≡ reason_by numbers reply
-    → since ≡ since_text names (option_and_then (item_at (lists_of run.port_spots) p) last) → line ≡ why_line reason since
-    → IsWhyAt names run p place (Some entries) line
-port_why_is names run p place entries entry earlier numbers last reply reason since line there before numbers_are last_is reply_is reason_is since_is line_is =
-    subst (λ (o : Option Entry). MatchOption o (line ≡ []) (λ one. IsPortWhy names run p place entries one line)) (sym there)
+    → reply ≡ port_answer run.net p entries place → string_bytes why.reason ≡ reason_by numbers reply
+    → why.since ≡ option_and_then (item_at (lists_of run.port_spots) p) last → IsWhyAt run p place (Some entries) why
+port_why_is run p place entries entry earlier numbers last reply why there before numbers_are last_is reply_is reason_is since_is =
+    subst (λ (o : Option Entry). MatchOption o (IsNoWhy why) (λ one. IsPortWhy run p place entries one why)) (sym there)
     (record {
       last = last;
       is_last = subst (λ es. IsLastChange (port_table run.net [] p) es entry.input last) before last_is;
-      is = line_is ∙ ap (λ r. why_line r since) (reason_is ∙ ap (λ n. reason_by n reply) (numbers_are
-          ∙ ap (λ es. numbers_at (replay (port_table run.net [] p) es) entry.input) before) ∙ ap (reason_by _) reply_is)
-          ∙ ap (why_line _) since_is;
+      reason = reason_is ∙ ap (λ n. reason_by n reply) (numbers_are
+          ∙ ap (λ es. numbers_at (replay (port_table run.net [] p) es) entry.input) before) ∙ ap (reason_by _) reply_is;
+      since = since_is;
     })

@@ -1,4 +1,4 @@
--- What an audit shows (docs/JOURNALS.md, "Audits").
+-- What an audit shows (docs/AUDITS.md, "What is told").
 use Rattle.std.specs.Prelude.{◌≡◌, ◌⊎◌, ℕ, ◌+◌, true, List, [], ◌∷◌, Option}
 use Rattle.abt_text.specs.Text.{Text}
 use Rattle.abt_net.specs.Topology.{Topology}

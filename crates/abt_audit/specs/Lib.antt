@@ -16,3 +16,6 @@ pub mod Missing
 pub mod Standing
 pub mod Waits
 pub mod FaultTexts
+pub mod Objects
+pub mod EntryObjects
+pub mod Findings

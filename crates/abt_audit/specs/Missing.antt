@@ -1,4 +1,4 @@
--- What an entry at which a journal is stuck misses, after the events before such entries (docs/JOURNALS.md, "Audits").
+-- What an entry at which a journal is stuck misses, after the events before such entries (docs/AUDITS.md, "What is told").
 use Rattle.std.specs.Prelude.{ℕ, suc, ◌+◌, ◌==◌, ◌&&◌, min, nat_lt, List, [], ◌∷◌, Option, None, Some, if◌then◌else◌, option_map, slice_get}
 use Rattle.abt_cell.specs.Channel.{Channel, same_channel}
 use Rattle.abt_net.specs.declared.conn.Conn.{Conn}

@@ -1,4 +1,4 @@
--- The log of one port, or of one source, judged alone (docs/JOURNALS.md, "One log"). What comes in is taken as sent, so what an entry
+-- The log of one port, or of one source, judged alone (docs/AUDITS.md, "One log"). What comes in is taken as sent, so what an entry
 -- has to say follows from the entries before it in the same log.
 use Rattle.std.specs.Prelude.{◌≡◌, ℕ, ◌+◌, ◌<◌, List, [], ◌∷◌, length, Option, None, Some, slice_get, slice_index_or}
 use Rattle.abt_net.specs.declared.conn.Conn.{Conn}

@@ -1,9 +1,7 @@
--- The protocol's answer for an entry (docs/JOURNALS.md, "Audits"): the reply of a port, or the outcome of a source,
+-- The protocol's answer for an entry (docs/AUDITS.md, "What is told"): the reply of a port, or the outcome of a source,
 -- in the state that the entries before it leave. Facts are those of one connection, the newest first.
 use Rattle.std.specs.Prelude.{ℕ, ◌++◌, List, [], take, fold, Option, Some, None, option_map, option_and_then, slice_get, codes}
 use Rattle.json.specs.Json.{Json}
-use Rattle.json.specs.Print.{print}
-use Rattle.json.specs.Tree.{json_tokens}
 use Rattle.abt_text.specs.Text.{Text, ◌⋅◌, newline}
 use Rattle.abt_cell.specs.Channel.{Channel}
 use Rattle.abt_net.specs.declared.conn.Conn.{Conn}
@@ -30,6 +28,7 @@ use Rattle.abt_entry.specs.EntryWritten.{reply_json, outcome_json}
 use Rattle.abt_weave.specs.declared.actor.Actor.{Actor}
 use Rattle.abt_weave.specs.declared.actor.Actor.TheVariants.{Source, Port}
 use Rattle.abt_journal_text.specs.declared.run.Run.{Run}
+use Rattle.abt_audit.specs.EntryObjects.{printed}
 
 -- the reply of a port to the input of the entry of a place, after the inputs of the entries before
 abbrev pub port_answer : Topology → (p : ℕ) → List Entry → (place : ℕ) → Option PortReply
@@ -74,20 +73,24 @@ facts_through vc entries = fold (facts_past vc) [] entries
 abbrev pub source_answer : Channel → List SourceEntry → (place : ℕ) → Option Outcome
 source_answer vc entries place = option_and_then (answer_in vc (facts_through vc (take place entries))) (slice_get entries place)
 
--- the line of an answer
-abbrev pub protocol_line : Option Json → Text
+-- the line of an answer, as it is written
+abbrev pub protocol_line : Option Text → Text
 protocol_line None = []
-protocol_line (Some answer) = codes "protocol: " ⋅ print (json_tokens answer) ⋅ newline
+protocol_line (Some answer) = codes "protocol: " ⋅ answer ⋅ newline
 
--- what is told of an actor at the entry of a place
-abbrev pub port_told : Topology → (p place : ℕ) → Option (List Entry) → Text
-port_told net p place None = []
-port_told net p place (Some entries) = protocol_line (option_map reply_json (port_answer net p entries place))
+-- what the protocol answers at the entry of a place of an actor
+abbrev pub port_said : Topology → (p place : ℕ) → Option (List Entry) → Option Json
+port_said net p place None = None
+port_said net p place (Some entries) = option_map reply_json (port_answer net p entries place)
 
-abbrev pub source_told : (place : ℕ) → Option Conn → Option SourceJournal → Text
-source_told place (Some conn) (Some journal) = protocol_line (option_map outcome_json (source_answer conn.vc journal.entries place))
-source_told place conn journal = []
+abbrev pub source_said : (place : ℕ) → Option Conn → Option SourceJournal → Option Json
+source_said place (Some conn) (Some journal) = option_map outcome_json (source_answer conn.vc journal.entries place)
+source_said place conn journal = None
 
+abbrev pub protocol_answer : Run → Actor → (place : ℕ) → Option Json
+protocol_answer run (Port p) place = port_said run.net p place (slice_get run.journals p)
+protocol_answer run (Source c) place = source_said place (conn_at run.net c) (slice_get run.sources.items c)
+
+-- what is told of it
 abbrev pub protocol_at : Run → Actor → (place : ℕ) → Text
-protocol_at run (Port p) place = port_told run.net p place (slice_get run.journals p)
-protocol_at run (Source c) place = source_told place (conn_at run.net c) (slice_get run.sources.items c)
+protocol_at run actor place = protocol_line (option_map printed (protocol_answer run actor place))

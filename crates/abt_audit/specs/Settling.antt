@@ -1,4 +1,4 @@
--- How the writes that journals leave open are settled (docs/JOURNALS.md, "Open writes"): each was stored or wasn't, so that what their
+-- How the writes that journals leave open are settled (docs/AUDITS.md, "Open writes"): each was stored or wasn't, so that what their
 -- sources did next fits. Facts are those of one connection, the newest first.
 use Rattle.std.specs.Prelude.{◌≡◌, ◌⊎◌, ◌==◌, ℕ, ◌+◌, zero, suc, ◌≤◌, List, [], ◌∷◌, length, if◌then◌else◌, Option, None, Some}
 use Rattle.abt_cell.specs.Channel.{Channel}

@@ -1,6 +1,7 @@
--- What is told of entries in no order: each, and what it waits for (docs/JOURNALS.md, "Audits").
-use Rattle.std.specs.Prelude.{◌≡◌, ◌-◌, List, [], ◌∷◌, Option, Some, None, codes, slice_get, String}
+-- What is told of entries in no order: each, and what it waits for (docs/AUDITS.md, "What is told", "Findings as JSON").
+use Rattle.std.specs.Prelude.{◌≡◌, ◌-◌, List, [], ◌∷◌, ◌++◌, Option, Some, None, codes, slice_get, String}
 use Rattle.std.specs.declared.alloc.Global.{Global}
+use Rattle.json.specs.Token.{Token}
 use Rattle.abt_text.specs.Text.{Text, ◌⋅◌, code_text, decimal}
 use Rattle.abt_rate.specs.Code.{code_of}
 use Rattle.abt_format.specs.Measures.{seconds_text}
@@ -14,11 +15,14 @@ use Rattle.abt_journal_text.specs.declared.spot.Spot.{Spot}
 use Rattle.abt_reason.specs.Reasons.{cause_reason, verdict_text}
 use Rattle.abt_reason.specs.declared.grounds.Numbers.TheVariants as numbers
 use Rattle.abt_weave.specs.declared.actor.Stuck.{Stuck}
+use Rattle.abt_audit.specs.EntryObjects.{entry_object, said_at, why_members, window_members}
 use Rattle.abt_audit.specs.Missing.{missing_of}
 use Rattle.abt_audit.specs.Names.{name_in}
 use Rattle.abt_audit.specs.Parts.{IsWovenPart, run_journals}
 use Rattle.abt_audit.specs.Stuck.{line_at}
 use Rattle.abt_audit.specs.Why.{why_line}
+use Rattle.abt_audit.specs.declared.form.Form.{Form}
+use Rattle.abt_audit.specs.declared.form.Form.TheVariants.{Words, Json}
 use Rattle.abt_audit.specs.declared.missing.Missing.{Missing}
 use Rattle.abt_audit.specs.declared.missing.Missing.TheVariants as missing
 use Rattle.abt_audit.specs.declared.parting.WovenPart.{WovenPart}
@@ -58,17 +62,31 @@ waits_words names (missing.Cell c cell from to) =
 waits_words names (missing.Step port place spot) =
     codes ": goes with step " ⋅ decimal place ⋅ codes " of port " ⋅ decimal port ⋅ spot_words names spot
 
--- an entry at which a journal is stuck, and what it waits for after this past
-abbrev pub waiting_line : List (String Global) → Run → Past → Stuck → Text
-waiting_line names run past stuck =
-    line_at names run stuck.actor stuck.place ⋅ why_line (waits_words names (missing_of run past stuck.actor stuck.place)) []
+-- an entry at which a journal is stuck, and what it waits for
+abbrev pub waiting_line : List (String Global) → Run → Stuck → Missing → Text
+waiting_line names run stuck missing = line_at names run stuck.actor stuck.place ⋅ why_line (waits_words names missing) []
 
-abbrev pub waiting_lines : List (String Global) → Run → Past → List Stuck → Text
-waiting_lines names run past [] = []
-waiting_lines names run past (stuck ∷ more) = waiting_line names run past stuck ⋅ waiting_lines names run past more
+abbrev pub waiting_members : List (String Global) → Missing → List Token
+waiting_members names missing = why_members names (waits_words names missing) None ++ window_members missing
+
+abbrev pub waiting_object : List (String Global) → Run → Stuck → Missing → Text
+waiting_object names run stuck missing =
+    entry_object (codes "stuck") names stuck.actor stuck.place (waiting_members names missing) None (said_at run stuck.actor stuck.place)
+
+abbrev pub waiting_by : Form → List (String Global) → Run → Stuck → Missing → Text
+waiting_by Words names run stuck missing = waiting_line names run stuck missing
+waiting_by Json names run stuck missing = waiting_object names run stuck missing
+
+-- the same after this past
+abbrev pub waiting_text : Form → List (String Global) → Run → Past → Stuck → Text
+waiting_text form names run past stuck = waiting_by form names run stuck (missing_of run past stuck.actor stuck.place)
+
+abbrev pub waiting_texts : Form → List (String Global) → Run → Past → List Stuck → Text
+waiting_texts form names run past [] = []
+waiting_texts form names run past (stuck ∷ more) = waiting_text form names run past stuck ⋅ waiting_texts form names run past more
 
 -- The text has each of the entries, and what it waits for after the events that are woven from the journals before such entries.
-pub record IsWaitingText (names : List (String Global)) (run : Run) (stuck : List Stuck) (text : Text) : Type 0 where
+pub record IsWaitingText (form : Form) (names : List (String Global)) (run : Run) (stuck : List Stuck) (text : Text) : Type 0 where
   pub part : WovenPart
   pub is_part : IsWovenPart run.net (run_journals run) part
-  pub are : text ≡ waiting_lines names run (facts_after run.net part.events) stuck
+  pub are : text ≡ waiting_texts form names run (facts_after run.net part.events) stuck

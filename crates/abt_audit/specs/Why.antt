@@ -1,6 +1,6 @@
 -- Why the protocol answers as it does at an entry that mismatches: the numbers by which it decides, and the line that made them so
--- (docs/JOURNALS.md, "Audits").
-use Rattle.std.specs.Prelude.{◌≡◌, ◌≢◌, ℕ, ◌+◌, ◌-◌, ◌<◌, List, [], ◌∷◌, length, take, Option, None, Some, Err, MatchOption, option_and_then, option_map, unwrap_or, slice_get, codes, String}
+-- (docs/AUDITS.md, "What is told").
+use Rattle.std.specs.Prelude.{◌≡◌, ◌≢◌, ℕ, ◌+◌, ◌-◌, ◌<◌, List, [], ◌∷◌, length, take, Option, None, Some, Err, MatchOption, option_and_then, option_map, unwrap_or, slice_get, codes, string_bytes, String}
 use Rattle.std.specs.declared.alloc.Global.{Global}
 use Rattle.abt_text.specs.Text.{Text, ◌⋅◌, decimal, newline}
 use Rattle.abt_cell.specs.Channel.{Channel}
@@ -27,6 +27,7 @@ use Rattle.abt_weave.specs.declared.actor.Actor.TheVariants.{Source, Port}
 use Rattle.abt_audit.specs.Names.{name_in}
 use Rattle.abt_audit.specs.Protocol.{port_answer, source_answer}
 use Rattle.abt_audit.specs.Stuck.{item_at}
+use Rattle.abt_audit.specs.declared.why.Why.{Why}
 
 -- the newest number that a port decided for a channel, and the rate that it holds for it; 0 if it doesn't know the channel
 abbrev pub newest_at : Table → Channel → ℕ
@@ -84,23 +85,37 @@ abbrev pub reason_by : Numbers → Option PortReply → Text
 reason_by numbers None = []
 reason_by numbers (Some reply) = port_reason numbers reply
 
--- The line tells why the protocol replies as it does to the entry of a port, and since which line its numbers are these.
-pub record IsPortWhy (names : List (String Global)) (run : Run) (p place : ℕ) (entries : List Entry) (entry : Entry) (line : Text) : Type 0 where
+-- There is no reason.
+pub record IsNoWhy (why : Why) : Type 0 where
+  pub reason : string_bytes why.reason ≡ []
+  pub since : why.since ≡ None
+
+-- This is why the protocol replies as it does to the entry of a port, and since which line its numbers are these.
+pub record IsPortWhy (run : Run) (p place : ℕ) (entries : List Entry) (entry : Entry) (why : Why) : Type 0 where
   pub last : Option ℕ
   pub is_last : IsLastChange (port_table run.net [] p) (take place entries) entry.input last
-  pub is : line ≡ why_line (reason_by (numbers_at (replay (port_table run.net [] p) (take place entries)) entry.input) (port_answer run.net p entries place))
-      (since_text names (option_and_then (item_at (lists_of run.port_spots) p) last))
+  pub reason : string_bytes why.reason ≡ reason_by (numbers_at (replay (port_table run.net [] p) (take place entries)) entry.input) (port_answer run.net p entries place)
+  pub since : why.since ≡ option_and_then (item_at (lists_of run.port_spots) p) last
 
-abbrev pub IsWhyAt : List (String Global) → Run → (p place : ℕ) → Option (List Entry) → Text → Type 0
-IsWhyAt names run p place None line = line ≡ []
-IsWhyAt names run p place (Some entries) line =
-    MatchOption (slice_get entries place) (line ≡ []) (λ entry. IsPortWhy names run p place entries entry line)
+abbrev pub IsWhyAt : Run → (p place : ℕ) → Option (List Entry) → Why → Type 0
+IsWhyAt run p place None why = IsNoWhy why
+IsWhyAt run p place (Some entries) why =
+    MatchOption (slice_get entries place) (IsNoWhy why) (λ entry. IsPortWhy run p place entries entry why)
 
-abbrev pub source_why : (place : ℕ) → Option Conn → Option SourceJournal → Text
-source_why place (Some conn) (Some journal) = why_line (source_reason (source_answer conn.vc journal.entries place)) []
-source_why place conn journal = []
+abbrev pub source_reason_at : (place : ℕ) → Option Conn → Option SourceJournal → Text
+source_reason_at place (Some conn) (Some journal) = source_reason (source_answer conn.vc journal.entries place)
+source_reason_at place conn journal = []
 
--- The line tells why the protocol answers as it does at the entry of an actor.
-abbrev pub IsWhy : List (String Global) → Run → Actor → (place : ℕ) → Text → Type 0
-IsWhy names run (Port p) place line = IsWhyAt names run p place (slice_get run.journals p) line
-IsWhy names run (Source c) place line = line ≡ source_why place (conn_at run.net c) (slice_get run.sources.items c)
+-- This is why the outcome of a source is as it is: no line of its journal changes its reason.
+pub record IsSourceWhy (run : Run) (c place : ℕ) (why : Why) : Type 0 where
+  pub reason : string_bytes why.reason ≡ source_reason_at place (conn_at run.net c) (slice_get run.sources.items c)
+  pub since : why.since ≡ None
+
+-- This is why the protocol answers as it does at the entry of an actor.
+abbrev pub IsWhy : Run → Actor → (place : ℕ) → Why → Type 0
+IsWhy run (Port p) place why = IsWhyAt run p place (slice_get run.journals p) why
+IsWhy run (Source c) place why = IsSourceWhy run c place why
+
+-- the line of a reason
+abbrev pub why_text : List (String Global) → Why → Text
+why_text names why = why_line (string_bytes why.reason) (since_text names why.since)

@@ -1,9 +1,12 @@
 //! The names of the faults of lines.
 ghost use Rattle.std.specs.Prelude.{◌≡◌, IfOk, OnOk, string_bytes};
 ghost use Rattle.abt_text.specs.Text.{◌⋅◌};
+ghost use Rattle.abt_audit.specs.Findings.{notes_text};
 ghost use Rattle.abt_audit.specs.Names.{cause_name, line_name, note_line, note_lines};
 ghost use Rattle.abt_perform.specs.Names.{fault_name};
 
+use crate::form::Form;
+use crate::objects::add_note_objects;
 use abt_journal_text::{Cause, LineFault, Spot};
 use abt_perform::Fault;
 use abt_scenario::ScenarioFault;
@@ -76,11 +79,19 @@ fn add_notes(alloc: Global, text: &mut Vec<u8>, cuts: &[Spot]) -> Result<(), All
 }
 
 // A text, and behind it what is told of lines that are cut.
-pub(crate) fn with_notes(alloc: Global, text: &[u8], cuts: &[Spot]) -> Result<Vec<u8>, AllocError>
-    ensures { IfOk result (λ made. made.items ≡ text.now ⋅ note_lines cuts.now) }
+pub(crate) fn with_notes(
+    alloc: Global,
+    form: Form,
+    text: &[u8],
+    cuts: &[Spot],
+) -> Result<Vec<u8>, AllocError>
+    ensures { IfOk result (λ made. made.items ≡ text.now ⋅ notes_text form cuts.now) }
 {
     let mut made = Vec::new(alloc);
     made.extend_from_slice(text)?;
-    add_notes(alloc, &mut made, cuts)?;
+    match form {
+        Form::Words => add_notes(alloc, &mut made, cuts)?,
+        Form::Json => add_note_objects(alloc, &mut made, cuts)?,
+    }
     Ok(made)
 }

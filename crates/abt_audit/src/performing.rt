@@ -6,6 +6,7 @@ ghost use Rattle.abt_perform.specs.Plans.{Tells};
 ghost use Rattle.abt_perform.specs.declared.fault.Fault.TheVariants as program;
 ghost use Rattle.abt_text.specs.Text.{◌⋅◌};
 ghost use Rattle.abt_audit.specs.Audits.{IsToldAs};
+ghost use Rattle.abt_audit.specs.Findings as findings;
 ghost use Rattle.abt_audit.specs.Names.{text_fault_line};
 ghost use Rattle.abt_audit.specs.declared.fault.AuditFault.TheVariants as audit_fault;
 ghost use Rattle.abt_audit.specs.Performing.{EndsBy, IsNotShown, IsNotShownLeaving, IsNoRun, IsShownAs, IsShownWhole, TellsFault, run_in, shown_text, weave_fault};
@@ -15,22 +16,27 @@ ghost use Rattle.abt_audit.specs.Performing as spec;
 use crate::auditing::{AuditedRun, audit};
 use crate::fault::AuditFault;
 use crate::fault_text::lines_of_fault;
+use crate::form::Form;
 use crate::gathering::read_all;
 use crate::naming::{cause_text, with_notes};
+use crate::objects::woven_object;
+use crate::putting::show_fault;
 use crate::settling::settled_run;
 use crate::stuck::head_of;
 use abt_derive::{derive, restart};
-use abt_journal_text::{Book, Cause, Run, TextFault};
+use abt_journal_text::{Book, Cause, Run, Spot, TextFault};
 use abt_perform::{Fault, MEMORY_LINE, WRITE_LINE, tell_text};
 use abt_text::put;
 use abt_weave::WeaveFault;
 use std::alloc::{AllocError, Global};
 use std::io::{Read, Write};
 
-/// Audits the texts that some readers have left, and gives the exit status: 0 if all lines went out to `writer`, and 1 if `errors`
-/// tells why not. What can't be written there changes no status. The names of the texts are for what is told.
+/// Audits the texts that some readers have left, and gives the exit status: 0 if all that is shown went out to `writer`, and 1 if not. In
+/// words `errors` tells why not; as JSON that goes out too, and `errors` tells alone what is no finding. What can't be written there changes
+/// no status. The names of the texts are for what is told.
 pub fn perform_audit<R: Read + Drop, W: Write, E: Write>(
     alloc: Global,
+    form: Form,
     names: &[String],
     readers: Vec<R>,
     writer: &mut W,
@@ -38,12 +44,12 @@ pub fn perform_audit<R: Read + Drop, W: Write, E: Write>(
 ) -> u8
     ensures status { (result ≡ 0) ⊎ (result ≡ 1) }
     ensures ok { result ≡ 0 →
-        IsShownWhole (map R.remaining readers.items) (W.contents writer.old) (W.contents writer.new) }
+        IsShownWhole form (map R.remaining readers.items) (W.contents writer.old) (W.contents writer.new) }
     ensures quiet { result ≡ 0 → Keeps (E.contents errors.old) (E.contents errors.new) }
-    ensures err { result ≡ 1 → IsNotShown names.now (map R.remaining readers.items)
+    ensures err { result ≡ 1 → IsNotShown form names.now (map R.remaining readers.items)
         (W.contents writer.old) (W.contents writer.new) (E.contents errors.old) (E.contents errors.new) }
 {
-    match show_audit(alloc, names, readers, writer, errors) {
+    match show_audit(alloc, form, names, readers, writer, errors) {
         Ok(run) => {
             drop(run);
             0
@@ -59,27 +65,28 @@ pub fn perform_audit<R: Read + Drop, W: Write, E: Write>(
 /// lines went out to `writer`.
 ///
 /// # Errors
-/// `errors` tells why not. If the journals are stuck, the run is handed out that they are of, what it leaves open settled.
+/// If not all is shown, which is told as there. If the journals are stuck, the run is handed out that they are of, what it leaves open settled.
 pub fn show_audit<R: Read + Drop, W: Write, E: Write>(
     alloc: Global,
+    form: Form,
     names: &[String],
     readers: Vec<R>,
     writer: &mut W,
     errors: &mut E,
 ) -> Result<AuditedRun, Option<Run>>
-    ensures ok { IfOk result (IsShownAs (map R.remaining readers.items) (W.contents writer.old)
+    ensures ok { IfOk result (IsShownAs form (map R.remaining readers.items) (W.contents writer.old)
         (W.contents writer.new)) }
     ensures quiet { IsOk result → Keeps (E.contents errors.old) (E.contents errors.new) }
-    ensures err { IsErr result → IsNotShown names.now (map R.remaining readers.items)
+    ensures err { IsErr result → IsNotShown form names.now (map R.remaining readers.items)
         (W.contents writer.old) (W.contents writer.new) (E.contents errors.old) (E.contents errors.new) }
     ensures sized { IfErr result (λ left. IfSome left IsSizedRun) }
-    ensures left { IfErr result (IsNotShownLeaving names.now (map R.remaining readers.items)
+    ensures left { IfErr result (IsNotShownLeaving form names.now (map R.remaining readers.items)
         (W.contents writer.old) (W.contents writer.new) (E.contents errors.old) (E.contents errors.new)) }
 {
-    match audit_texts(alloc, names, readers, writer) {
+    match audit_texts(alloc, form, names, readers, writer) {
         Ok(run) => Ok(run),
         Err(fault) => {
-            tell(alloc, names, &fault, errors);
+            show_fault(alloc, form, names, &fault, writer, errors);
             Err(run_in(fault))
         }
     }
@@ -98,20 +105,21 @@ fn run_in(fault: AuditFault) -> Option<Run>
 // Audits the texts, and writes what that shows.
 fn audit_texts<R: Read + Drop, W: Write>(
     alloc: Global,
+    form: Form,
     names: &[String],
     readers: Vec<R>,
     writer: &mut W,
 ) -> Result<AuditedRun, AuditFault>
-    ensures ok { IfOk result (IsShownAs (map R.remaining readers.items) (W.contents writer.old)
+    ensures ok { IfOk result (IsShownAs form (map R.remaining readers.items) (W.contents writer.old)
         (W.contents writer.new)) }
-    ensures err { IfErr result (λ fault. EndsBy names.now (map R.remaining readers.items) fault
+    ensures err { IfErr result (λ fault. EndsBy form names.now (map R.remaining readers.items) fault
         (W.contents writer.old) (W.contents writer.new)) }
 {
     let book = match read_all(alloc, readers) {
         Ok(book) => book,
         Err(fault) => return Err(fault_of_text(fault)),
     };
-    let (run, shown) = match judge_book(alloc, names, book) {
+    let (run, shown) = match judge_book(alloc, form, names, book) {
         Ok(judged) => judged,
         Err(fault) => return Err(fault),
     };
@@ -135,11 +143,13 @@ pub(crate) fn fault_of_text(fault: TextFault) -> AuditFault
 // Audits what was told, and gives what goes out of that.
 fn judge_book(
     alloc: Global,
+    form: Form,
     names: &[String],
     book: Book,
 ) -> Result<(AuditedRun, Vec<u8>), AuditFault>
-    ensures ok { IfOk result (λ judged. IsToldAs book judged.0 × (judged.1.items ≡ shown_text book)) }
-    ensures err { IfErr result (IsNoRun names.now book) }
+    ensures ok { IfOk result (λ judged. IsToldAs book judged.0
+        × (judged.1.items ≡ shown_text form book judged.0)) }
+    ensures err { IfErr result (IsNoRun form names.now book) }
 {
     let Some(told) = book.into_run(alloc)? else {
         return Err(AuditFault::Nothing);
@@ -149,20 +159,40 @@ fn judge_book(
     let run = derive(alloc, settled)?;
     match audit(alloc, &run) {
         Ok(audited) => {
-            let shown = with_notes(alloc, b"woven\nsafe\n", run.cuts.as_slice())?;
+            let count = audited.events.len() as u64;
+            let shown = shown_text(alloc, form, count, run.cuts.as_slice())?;
             let Run { net, .. } = run;
             Ok((AuditedRun { net, audited }, shown))
         }
         Err(WeaveFault::Memory) => Err(AuditFault::Memory),
         Err(fault) => {
-            let Ok(lines) = lines_of_fault(alloc, names, &run, &fault) else {
+            let Ok(lines) = lines_of_fault(alloc, form, names, &run, &fault) else {
                 return Err(AuditFault::Memory);
             };
-            let Ok(lines) = with_notes(alloc, lines.as_slice(), run.cuts.as_slice()) else {
+            let Ok(lines) = with_notes(alloc, form, lines.as_slice(), run.cuts.as_slice()) else {
                 return Err(AuditFault::Memory);
             };
             Err(AuditFault::Stuck { fault, lines, run })
         }
+    }
+}
+
+// What goes out of journals that are woven into so many events, and of lines that are cut.
+fn shown_text(alloc: Global, form: Form, events: u64, cuts: &[Spot]) -> Result<Vec<u8>, AllocError>
+    ensures { IfOk result (λ shown. shown.items ≡
+        findings.woven_text form events ⋅ findings.notes_text form cuts.now) }
+{
+    let woven = woven_text(alloc, form, events)?;
+    with_notes(alloc, form, woven.as_slice(), cuts)
+}
+
+// What goes out of journals that are woven into so many events.
+fn woven_text(alloc: Global, form: Form, events: u64) -> Result<Vec<u8>, AllocError>
+    ensures { IfOk result (λ text. text.items ≡ findings.woven_text form events) }
+{
+    match form {
+        Form::Words => octets_of(alloc, "woven\nsafe\n", b""),
+        Form::Json => woven_object(alloc, events),
     }
 }
 

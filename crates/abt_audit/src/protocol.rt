@@ -4,7 +4,8 @@ ghost use Rattle.abt_entry.specs.EntryWritten.{reply_json, outcome_json};
 ghost use Rattle.abt_journal.specs.Replay.{reply_by, table_after, replay};
 ghost use Rattle.abt_model.specs.PortTable.{port_table};
 ghost use Rattle.abt_text.specs.Text.{◌⋅◌, newline};
-ghost use Rattle.abt_audit.specs.Protocol.{protocol_line, protocol_at};
+ghost use Rattle.abt_audit.specs.EntryObjects.{printed};
+ghost use Rattle.abt_audit.specs.Protocol.{protocol_line};
 ghost use Rattle.abt_audit.specs.Protocol as spec;
 
 use crate::obeying::source_answer;
@@ -14,7 +15,7 @@ use abt_journal_text::Run;
 use abt_model::Outcome;
 use abt_net::Net;
 use abt_node::Port;
-use abt_weave::Actor;
+use abt_weave::{Actor, Stuck};
 use abt_world::opening_port;
 use std::alloc::{AllocError, Global};
 
@@ -71,81 +72,82 @@ fn add_answer(text: &mut Vec<u8>, answer: &[u8]) -> Result<(), AllocError>
     Ok(text.push(b'\n')?)
 }
 
-fn add_reply(alloc: Global, text: &mut Vec<u8>, reply: Option<PortReply>) -> Result<(), AllocError>
-    ensures { OnOk result (text.new.items ≡ text.old.items ⋅ protocol_line (option_map reply_json reply)) }
+fn reply_said(alloc: Global, reply: Option<PortReply>) -> Result<Option<Vec<u8>>, AllocError>
+    ensures { IfOk result (λ answer. option_map (λ octets. octets.items) answer ≡
+        option_map printed (option_map reply_json reply)) }
 {
-    let Some(reply) = reply else {
-        return Ok(());
-    };
-    let answer = reply_text(alloc, &reply)?;
-    add_answer(text, answer.as_slice())
+    match reply {
+        Some(reply) => Ok(Some(reply_text(alloc, &reply)?)),
+        None => Ok(None),
+    }
 }
 
-fn add_outcome(
-    alloc: Global,
-    text: &mut Vec<u8>,
-    outcome: Option<Outcome>,
-) -> Result<(), AllocError>
-    ensures { OnOk result (text.new.items ≡
-        text.old.items ⋅ protocol_line (option_map outcome_json outcome)) }
+fn outcome_said(alloc: Global, outcome: Option<Outcome>) -> Result<Option<Vec<u8>>, AllocError>
+    ensures { IfOk result (λ answer. option_map (λ octets. octets.items) answer ≡
+        option_map printed (option_map outcome_json outcome)) }
 {
-    let Some(outcome) = outcome else {
-        return Ok(());
-    };
-    let answer = outcome_text(alloc, &outcome)?;
-    add_answer(text, answer.as_slice())
+    match outcome {
+        Some(outcome) => Ok(Some(outcome_text(alloc, &outcome)?)),
+        None => Ok(None),
+    }
 }
 
-fn add_of_port(
-    alloc: Global,
-    text: &mut Vec<u8>,
-    run: &Run,
-    port: u16,
-    place: u64,
-) -> Result<(), AllocError>
+fn port_said(alloc: Global, run: &Run, port: u16, place: u64) -> Result<Option<Vec<u8>>, AllocError>
     requires { length run.now.journals ≡ length run.now.net.capacities }
-    ensures { OnOk result (text.new.items ≡ text.old.items ⋅ protocol_at run.now (Actor.Port port) place) }
+    ensures { IfOk result (λ answer. option_map (λ octets. octets.items) answer ≡
+        option_map printed (spec.protocol_answer run.now (Actor.Port port) place)) }
 {
     let Some(entries) = run.journals.ports.get(usize::from(port)) else {
-        return Ok(());
+        return Ok(None);
     };
     let reply = port_answer(alloc, &run.net, port, entries.as_slice(), place)?;
-    add_reply(alloc, text, reply)
+    reply_said(alloc, reply)
 }
 
-fn add_of_source(
+fn source_said(
     alloc: Global,
-    text: &mut Vec<u8>,
     run: &Run,
     source: u16,
     place: u64,
-) -> Result<(), AllocError>
-    ensures { OnOk result (text.new.items ≡
-        text.old.items ⋅ protocol_at run.now (Actor.Source source) place) }
+) -> Result<Option<Vec<u8>>, AllocError>
+    ensures { IfOk result (λ answer. option_map (λ octets. octets.items) answer ≡
+        option_map printed (spec.protocol_answer run.now (Actor.Source source) place)) }
 {
     let Some(conn) = run.net.conns().get(usize::from(source)) else {
-        return Ok(());
+        return Ok(None);
     };
     let Some(journal) = run.sources.get(usize::from(source)) else {
-        return Ok(());
+        return Ok(None);
     };
-    let outcome = source_answer(conn.vc, journal.entries.as_slice(), place);
-    add_outcome(alloc, text, outcome)
+    outcome_said(
+        alloc,
+        source_answer(conn.vc, journal.entries.as_slice(), place),
+    )
 }
 
-// Adds the protocol's answer for an actor's entry of a place.
-pub(crate) fn add_protocol(
+// What the protocol answers for an actor's entry of a place, as it is written.
+pub(crate) fn protocol_answer(
     alloc: Global,
-    text: &mut Vec<u8>,
     run: &Run,
-    actor: Actor,
-    place: u64,
-) -> Result<(), AllocError>
+    stuck: Stuck,
+) -> Result<Option<Vec<u8>>, AllocError>
     requires { length run.now.journals ≡ length run.now.net.capacities }
-    ensures { OnOk result (text.new.items ≡ text.old.items ⋅ protocol_at run.now actor place) }
+    ensures { IfOk result (λ answer. option_map (λ octets. octets.items) answer ≡
+        option_map printed (spec.protocol_answer run.now stuck.actor stuck.place)) }
 {
-    match actor {
-        Actor::Port(port) => add_of_port(alloc, text, run, port, place),
-        Actor::Source(source) => add_of_source(alloc, text, run, source, place),
+    match stuck.actor {
+        Actor::Port(port) => port_said(alloc, run, port, stuck.place),
+        Actor::Source(source) => source_said(alloc, run, source, stuck.place),
+    }
+}
+
+// Adds the line of an answer, if there is one.
+pub(crate) fn add_protocol(text: &mut Vec<u8>, answer: &Option<Vec<u8>>) -> Result<(), AllocError>
+    ensures { OnOk result (text.new.items ≡
+        text.old.items ⋅ protocol_line (option_map (λ octets. octets.items) answer.now)) }
+{
+    match answer {
+        Some(answer) => add_answer(text, answer.as_slice()),
+        None => Ok(()),
     }
 }

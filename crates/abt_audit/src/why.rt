@@ -1,18 +1,17 @@
 //! Why the protocol answers as it does at an entry that mismatches.
-ghost use Rattle.std.specs.Prelude.{◌≡◌, ◌↔◌, ◌<◌, [], length, if◌then◌else◌, IfOk, IsTrue, OnOk, option_and_then, slice_get, string_bytes};
+ghost use Rattle.std.specs.Prelude.{◌≡◌, ◌↔◌, ◌<◌, [], length, if◌then◌else◌, IfOk, IsTrue, OnOk, option_and_then, string_bytes};
 ghost use Rattle.abt_journal.specs.Replay.{replay};
-ghost use Rattle.abt_net.specs.Topology.{conn_at};
 ghost use Rattle.abt_reason.specs.Reasons.{reason_text};
 ghost use Rattle.abt_journal_text.specs.Books.{lists_of};
 ghost use Rattle.abt_model.specs.PortTable.{port_table};
 ghost use Rattle.abt_text.specs.Text.{◌⋅◌};
 ghost use Rattle.abt_audit.specs.Why as spec;
-ghost use Rattle.abt_audit.specs.Why.{IsLastChange, IsWhy, IsWhyAt};
+ghost use Rattle.abt_audit.specs.Why.{IsLastChange, IsNoWhy, IsSourceWhy, IsWhy, IsWhyAt};
 ghost use Rattle.abt_audit.specs.Stuck.{item_at};
 
 use crate::obeying::source_answer;
 use crate::protocol::{port_answer, serve};
-use crate::stuck::{name_of, spot_of};
+use crate::stuck::spot_of;
 use abt_journal::{Entry, PortInput, PortReply};
 use abt_journal_text::{Run, Spot};
 use abt_model::Outcome;
@@ -22,6 +21,15 @@ use abt_reason::{Grounds, Numbers, push_reason};
 use abt_weave::{Actor, Stuck};
 use abt_world::opening_port;
 use std::alloc::{AllocError, Global};
+
+// Why the protocol answers as it does at an entry.
+#[derive(Debug, Drop)]
+pub(crate) struct Why {
+    /// In words; empty if there is no reason.
+    pub reason: String,
+    /// The line that made a port's numbers what they are, if one did.
+    pub since: Option<Spot>,
+}
 
 // The numbers by which a port decides an input.
 fn numbers_at(port: &Port, input: &PortInput) -> Numbers
@@ -148,18 +156,6 @@ fn source_reason(alloc: Global, outcome: Option<Outcome>) -> Result<String, Allo
     Ok(text)
 }
 
-// The line from which on something is so, if there is one.
-fn since_text(alloc: Global, names: &[String], spot: Option<Spot>) -> Result<String, AllocError>
-    ensures { IfOk result (λ text. string_bytes text ≡ spec.since_text names.now spot) }
-{
-    let Some(spot) = spot else {
-        return Ok(String::new(alloc));
-    };
-    let name = name_of(names, spot.text);
-    let line = spot.line;
-    format!(in alloc; " since {name}:{line}")
-}
-
 // Where the entry of a place stands in the journal of a port, if there is a place.
 fn spot_if(run: &Run, port: u16, place: Option<u64>) -> Option<Spot>
     ensures { result ≡ option_and_then (item_at (lists_of run.now.port_spots) port) place }
@@ -167,88 +163,70 @@ fn spot_if(run: &Run, port: u16, place: Option<u64>) -> Option<Spot>
     spot_of(run, port, place?)
 }
 
-#[tactic(auto, using(crate::proofs::Whys::why_of_some))]
-// The line of a reason; none if there is no reason.
-pub(crate) fn why_line(alloc: Global, reason: &str, since: &str) -> Result<Vec<u8>, AllocError>
-    ensures { IfOk result (λ line. line.items ≡ spec.why_line reason.now since.now) }
+// No reason.
+fn no_why(alloc: Global) -> Why
+    ensures { IsNoWhy result }
 {
-    let mut line = Vec::new(alloc);
-    if reason.is_empty() {
-        return Ok(line);
+    Why {
+        reason: String::new(alloc),
+        since: None,
     }
-    line.extend_from_slice(b"why")?;
-    line.extend_from_slice(reason.as_bytes())?;
-    line.extend_from_slice(since.as_bytes())?;
-    line.push(b'\n')?;
-    Ok(line)
 }
 
 // Why the protocol replies as it does to the entry of a place in the journal of a port.
 fn entry_why(
     alloc: Global,
-    names: &[String],
     run: &Run,
     port: u16,
     place: u64,
     entries: &[Entry],
-) -> Result<Vec<u8>, AllocError>
+) -> Result<Why, AllocError>
     requires { port < length run.now.net.capacities }
-    ensures { IfOk result (λ line. IsWhyAt names.now run.now port place (Some entries.now) line.items) }
+    ensures { IfOk result (λ why. IsWhyAt run.now port place (Some entries.now) why) }
 {
     let Some(entry) = entries.get(place as usize) else {
-        return Ok(Vec::new(alloc));
+        return Ok(no_why(alloc));
     };
     let earlier = &entries[..place as usize];
     let (numbers, last) = numbers_after(alloc, &run.net, port, earlier, &entry.input)?;
     let reply = port_answer(alloc, &run.net, port, entries, place)?;
     let reason = port_reason(alloc, numbers, reply)?;
-    let since = since_text(alloc, names, spot_if(run, port, last))?;
-    why_line(alloc, reason.as_str(), since.as_str())
+    let since = spot_if(run, port, last);
+    Ok(Why { reason, since })
 }
 
-fn port_why(
-    alloc: Global,
-    names: &[String],
-    run: &Run,
-    port: u16,
-    place: u64,
-) -> Result<Vec<u8>, AllocError>
+fn port_why(alloc: Global, run: &Run, port: u16, place: u64) -> Result<Why, AllocError>
     requires { length run.now.journals ≡ length run.now.net.capacities }
-    ensures { IfOk result (λ line. IsWhy names.now run.now (Actor.Port port) place line.items) }
+    ensures { IfOk result (λ why. IsWhy run.now (Actor.Port port) place why) }
 {
     let Some(entries) = run.journals.ports.get(usize::from(port)) else {
-        return Ok(Vec::new(alloc));
+        return Ok(no_why(alloc));
     };
-    entry_why(alloc, names, run, port, place, entries.as_slice())
+    entry_why(alloc, run, port, place, entries.as_slice())
 }
 
-fn source_why(alloc: Global, run: &Run, source: u16, place: u64) -> Result<Vec<u8>, AllocError>
-    ensures { IfOk result (λ line. line.items ≡ spec.source_why place
-        (conn_at run.now.net source) (slice_get run.now.sources.items source)) }
+fn source_why(alloc: Global, run: &Run, source: u16, place: u64) -> Result<Why, AllocError>
+    ensures { IfOk result (λ why. IsSourceWhy run.now source place why) }
 {
     let Some(conn) = run.net.conns().get(usize::from(source)) else {
-        return Ok(Vec::new(alloc));
+        return Ok(no_why(alloc));
     };
     let Some(journal) = run.sources.get(usize::from(source)) else {
-        return Ok(Vec::new(alloc));
+        return Ok(no_why(alloc));
     };
     let outcome = source_answer(conn.vc, journal.entries.as_slice(), place);
     let reason = source_reason(alloc, outcome)?;
-    why_line(alloc, reason.as_str(), "")
+    let since = None;
+    Ok(Why { reason, since })
 }
 
 // Why the protocol answers as it does at the entry of an actor.
-pub(crate) fn why_of(
-    alloc: Global,
-    names: &[String],
-    run: &Run,
-    stuck: Stuck,
-) -> Result<Vec<u8>, AllocError>
+pub(crate) fn why_of(alloc: Global, run: &Run, stuck: Stuck) -> Result<Why, AllocError>
     requires { length run.now.journals ≡ length run.now.net.capacities }
-    ensures { IfOk result (λ line. IsWhy names.now run.now stuck.actor stuck.place line.items) }
+    ensures { IfOk result (λ why. IsWhy run.now stuck.actor stuck.place why) }
 {
     match stuck.actor {
-        Actor::Port(port) => port_why(alloc, names, run, port, stuck.place),
+        Actor::Port(port) => port_why(alloc, run, port, stuck.place),
         Actor::Source(source) => source_why(alloc, run, source, stuck.place),
     }
 }

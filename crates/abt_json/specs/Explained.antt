@@ -18,7 +18,8 @@ use Rattle.abt_reason.specs.declared.sighting.Sighting.{Sighting}
 use Rattle.abt_reason.specs.declared.sighting.Sought.{Sought}
 use Rattle.abt_reason.specs.Grounds.{grounds_of}
 use Rattle.abt_reason.specs.Reasons.{reason_text}
-use Rattle.abt_entry.specs.ObjectMembers.{text_member, number_member, object_line}
+use Rattle.abt_entry.specs.ObjectMembers.{text_member, number_member}
+use Rattle.abt_json.specs.Kinds.{kind_object}
 use Rattle.abt_json.specs.Objects.{outcome_members, end_objects}
 
 -- the line of the file in which an event's text stands, if it is known
@@ -47,7 +48,7 @@ explained_members number line event grounds outcome =
     ++ sought_members grounds.sought outcome ++ text_member (codes "words") (outcome_text outcome ⋅ reason_text grounds outcome)
 
 abbrev pub explained_object : ℕ → Option ℕ → Event → Grounds → Outcome → Text
-explained_object number line event grounds outcome = object_line (explained_members number line event grounds outcome)
+explained_object number line event grounds outcome = kind_object (codes "event") (explained_members number line event grounds outcome)
 
 -- an event after a past; numbers count from 1
 abbrev pub event_object : Topology → Past → (lines : List ℕ) → (index : ℕ) → Event → Text

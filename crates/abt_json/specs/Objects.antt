@@ -24,7 +24,8 @@ use Rattle.abt_model.specs.declared.trace.Trace.{Trace}
 use Rattle.abt_perform.specs.CellText.{message_of}
 use Rattle.abt_perform.specs.declared.fault.Fault.{Fault}
 use Rattle.abt_perform.specs.declared.fault.Fault.TheVariants.{Code}
-use Rattle.abt_entry.specs.ObjectMembers.{text_member, number_member, rate_member, object_line}
+use Rattle.abt_entry.specs.ObjectMembers.{text_member, number_member, rate_member}
+use Rattle.abt_json.specs.Kinds.{exact_members, kind_object}
 
 -- the spacing of a rate's cells in picoseconds, null for the rate 0
 abbrev pub spacing_token : ℕ → Token
@@ -38,7 +39,7 @@ abbrev pub rate_members : ℕ → List Token
 rate_members units = rate_member (codes "code") units ++ number_member (codes "units") units ++ spacing_member units
 
 abbrev pub rate_object : ℕ → Text
-rate_object units = object_line (rate_members units)
+rate_object units = kind_object (codes "rate") (rate_members units)
 
 abbrev pub rate_json_of : Option ℕ → Result Text Fault
 rate_json_of (Some units) = Ok (rate_object units)
@@ -72,7 +73,7 @@ abbrev pub message_members : Rm → List Token
 message_members rm = text_member (codes "message") (message_name rm) ++ terms_members (request_of rm)
 
 abbrev pub cell_object : Rm → Text
-cell_object rm = object_line (message_members rm)
+cell_object rm = kind_object (codes "message") (message_members rm)
 
 abbrev pub cell_json_of : Result Rm Fault → Result Text Fault
 cell_json_of (Ok rm) = Ok (cell_object rm)
@@ -92,11 +93,15 @@ outcome_with name member text = outcome_named name ++ text_member member text
 abbrev pub refused_members : Text → List Token
 refused_members fault = outcome_with (codes "refused") (codes "fault") fault
 
+-- when the next cell may leave, in picoseconds
+abbrev pub next_members : ℕ → List Token
+next_members next = exact_members (codes "next") (codes "next_text") next
+
 abbrev pub shape_fault_members : ShapeFault → List Token
 shape_fault_members ClockBack = refused_members (codes "ClockBack")
 shape_fault_members TimeRange = refused_members (codes "TimeRange")
 shape_fault_members Zero = refused_members (codes "Zero")
-shape_fault_members (TooSoon next) = refused_members (codes "TooSoon") ++ number_member (codes "next") next
+shape_fault_members (TooSoon next) = refused_members (codes "TooSoon") ++ next_members next
 
 abbrev pub dropped_members : Text → List Token
 dropped_members cause = outcome_with (codes "dropped") (codes "cause") cause
@@ -118,7 +123,7 @@ outcome_members (AskRefused fault) = refused_members (ask_fault_name fault)
 outcome_members (Repeated request) = outcome_named (codes "again") ++ request_members request
 outcome_members Crashed = outcome_named (codes "crashed")
 outcome_members (Emitted cell next) =
-    outcome_named (codes "emitted") ++ number_member (codes "cell") cell ++ number_member (codes "next") next
+    outcome_named (codes "emitted") ++ number_member (codes "cell") cell ++ next_members next
 outcome_members (EmitRefused fault) = shape_fault_members fault
 outcome_members (Arrived verdict) = outcome_with (codes "arrived") (codes "verdict") (verdict_name verdict)
 outcome_members (Requested reply) = onward_members reply
@@ -130,7 +135,7 @@ outcome_members (CapacityRefused fault) = refused_members (capacity_fault_name f
 outcome_members (NotEnabled cause) = outcome_with (codes "not-enabled") (codes "cause") (cause_name cause)
 
 abbrev pub outcome_object : ℕ → Outcome → Text
-outcome_object place outcome = object_line (number_member (codes "event") place ++ outcome_members outcome)
+outcome_object place outcome = kind_object (codes "event") (number_member (codes "event") place ++ outcome_members outcome)
 
 -- an object for each outcome, numbered on
 abbrev pub outcome_objects : ℕ → List Outcome → Text
@@ -147,7 +152,8 @@ abbrev pub held_member : List ℕ → List Token
 held_member held = key (codes "held") ∷ begin_array ∷ (rate_strings held ++ end_array ∷ [])
 
 abbrev pub conn_object : ℕ → ℕ → List ℕ → Text
-conn_object conn rate held = object_line (number_member (codes "connection") conn ++ rate_member (codes "rate") rate ++ held_member held)
+conn_object conn rate held =
+    kind_object (codes "connection") (number_member (codes "connection") conn ++ rate_member (codes "rate") rate ++ held_member held)
 
 -- an object for each connection, numbered on, with its rate and what its hops hold
 abbrev pub conn_objects : ℕ → List ℕ → List (List ℕ) → Text
@@ -156,7 +162,9 @@ conn_objects conn _ _ = []
 
 abbrev pub port_object : ℕ → ℕ → ℕ → Text
 port_object port total capacity =
-    object_line (number_member (codes "port") port ++ number_member (codes "total") total ++ number_member (codes "capacity") capacity)
+    kind_object (codes "port")
+    (number_member (codes "port") port ++ exact_members (codes "total") (codes "total_text") total
+    ++ exact_members (codes "capacity") (codes "capacity_text") capacity)
 
 -- an object for each port, numbered on, with its total and its capacity
 abbrev pub port_objects : ℕ → List ℕ → List ℕ → Text
@@ -164,7 +172,7 @@ port_objects port (total ∷ totals) (capacity ∷ capacities) = port_object por
 port_objects port _ _ = []
 
 abbrev pub safe_object : Bool → Text
-safe_object safe = object_line (key (codes "safe") ∷ boolean safe ∷ [])
+safe_object safe = kind_object (codes "end") (key (codes "safe") ∷ boolean safe ∷ [])
 
 -- how the net stands in the end
 abbrev pub end_objects : Trace → Text

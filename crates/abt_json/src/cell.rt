@@ -5,8 +5,9 @@ ghost use Rattle.abt_perform.specs.declared.fault.Fault.TheVariants.{Memory};
 ghost use Rattle.abt_entry.specs.ObjectMembers.{Adds};
 ghost use Rattle.abt_json.specs.Objects.{cell_json, cell_object, message_members, message_name, channel_members, terms_members, rates_members, request_members};
 
+use crate::object::begin_kind_behind;
 use abt_cell::{Request, Rm, Vc};
-use abt_entry::{begin, end, push_number, push_rate, push_text};
+use abt_entry::{end, push_number, push_rate, push_text};
 use abt_perform::{Fault, message_of};
 use abt_rate::Rate;
 use json::Writer;
@@ -25,7 +26,7 @@ fn cell_object(alloc: Global, rm: &Rm) -> Result<Vec<u8>, AllocError>
     ensures { IfOk result (λ text. text.items ≡ cell_object rm.now) }
 {
     let mut text = Vec::new(alloc);
-    let mut object = begin(alloc, &mut text)?;
+    let mut object = begin_kind_behind(alloc, &mut text, "message")?;
     push_message(alloc, &mut object, rm)?;
     end(object, &mut text)?;
     Ok(text)

@@ -3,9 +3,10 @@ ghost use Rattle.std.specs.Prelude.{◌≡◌, ◌++◌, IfOk, OnOk, slice_get};
 ghost use Rattle.abt_entry.specs.ObjectMembers.{Adds};
 ghost use Rattle.abt_json.specs.Explained as spec;
 
+use crate::object::begin_kind_behind;
 use crate::outcome::push_outcome;
 use crate::report::push_end;
-use abt_entry::{begin, end, push_number, push_text};
+use abt_entry::{end, push_number, push_text};
 use abt_format as report;
 use abt_format::push_event;
 use abt_model::{Cause, Sequence};
@@ -70,7 +71,7 @@ fn push_event_object(
         (text.new.items ≡ text.old.items ++
         spec.explained_object number line event.now grounds.now outcome.now) }
 {
-    let mut object = begin(alloc, text)?;
+    let mut object = begin_kind_behind(alloc, text, "event")?;
     push_explained(alloc, &mut object, number, line, event, grounds, outcome)?;
     end(object, text)
 }

@@ -5,7 +5,7 @@ ghost use Rattle.json.specs.Token.{end_object};
 ghost use Rattle.abt_entry.specs.ObjectMembers.{Holds, text_member};
 ghost use Rattle.abt_text.specs.Text.{◌⋅◌, newline};
 
-use abt_entry::push_text;
+use abt_entry::{begin, push_text};
 use json::Writer;
 use std::alloc::{AllocError, Global};
 
@@ -20,6 +20,19 @@ pub fn begin_kind(alloc: Global, kind: &str) -> Result<Writer, AllocError>
     object.begin_object()?;
     push_text(&mut object, "kind", kind)?;
     Ok(object)
+}
+
+/// Begins an object of a kind behind the octets of a text, which it takes until the object ends.
+pub(crate) fn begin_kind_behind(
+    alloc: Global,
+    text: &mut Vec<u8>,
+    kind: &str,
+) -> Result<Writer, AllocError>
+    ensures { IfOk result (Holds text.old.items (text_member (codes "kind") kind.now)) }
+{
+    let mut writer = begin(alloc, text)?;
+    push_text(&mut writer, "kind", kind)?;
+    Ok(writer)
 }
 
 /// Ends an object, and adds its line to a text.

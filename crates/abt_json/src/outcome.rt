@@ -4,6 +4,7 @@ ghost use Rattle.abt_entry.specs.ObjectMembers.{Adds};
 ghost use Rattle.abt_json.specs.Objects.{outcome_named, outcome_with, refused_members, shape_fault_members, dropped_members, onward_members, back_members, outcome_members};
 
 use crate::cell::push_request;
+use crate::exact::push_exact;
 use abt_entry::{push_number, push_text};
 use abt_format::{
     ask_fault_name, capacity_fault_name, cause_name, heard_name, start_fault_name, verdict_name,
@@ -79,7 +80,7 @@ fn push_emitted(object: &mut Writer, cell: u64, next: u64) -> Result<(), AllocEr
 {
     push_named(object, "emitted")?;
     push_number(object, "cell", cell)?;
-    push_number(object, "next", next)
+    push_exact(object, "next", "next_text", next)
 }
 
 fn push_shape_fault(object: &mut Writer, fault: ShapeFault) -> Result<(), AllocError>
@@ -91,7 +92,7 @@ fn push_shape_fault(object: &mut Writer, fault: ShapeFault) -> Result<(), AllocE
         ShapeFault::Zero => push_refused(object, "Zero"),
         ShapeFault::TooSoon { next } => {
             push_refused(object, "TooSoon")?;
-            push_number(object, "next", next)
+            push_exact(object, "next", "next_text", next)
         }
     }
 }

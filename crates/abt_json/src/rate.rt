@@ -4,7 +4,8 @@ ghost use Rattle.abt_perform.specs.declared.fault.Fault.TheVariants.{Memory};
 ghost use Rattle.abt_json.specs.Objects.{rate_json, rate_members, rate_object, spacing_member};
 ghost use Rattle.abt_entry.specs.ObjectMembers.{Adds};
 
-use abt_entry::{begin, end, push_number, push_rate};
+use crate::object::begin_kind_behind;
+use abt_entry::{end, push_number, push_rate};
 use abt_format::rate_of;
 use abt_perform::Fault;
 use abt_rate::Rate;
@@ -26,7 +27,7 @@ fn rate_object(alloc: Global, rate: Rate) -> Result<Vec<u8>, AllocError>
     ensures { IfOk result (λ text. text.items ≡ rate_object rate) }
 {
     let mut text = Vec::new(alloc);
-    let mut object = begin(alloc, &mut text)?;
+    let mut object = begin_kind_behind(alloc, &mut text, "rate")?;
     push_rate_members(alloc, &mut object, rate)?;
     end(object, &mut text)?;
     Ok(text)

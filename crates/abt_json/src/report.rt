@@ -3,8 +3,10 @@ ghost use Rattle.std.specs.Prelude.{◌≡◌, ◌++◌, IfOk, OnOk};
 ghost use Rattle.abt_entry.specs.ObjectMembers.{Adds};
 ghost use Rattle.abt_json.specs.Objects.{trace_objects, end_objects, outcome_object, outcome_objects, conn_object, conn_objects, held_member, rate_strings, port_object, port_objects, safe_object};
 
+use crate::exact::push_exact;
+use crate::object::begin_kind_behind;
 use crate::outcome::push_outcome;
-use abt_entry::{begin, end, push_code, push_number, push_rate};
+use abt_entry::{end, push_code, push_number, push_rate};
 use abt_model::{Outcome, Sequence, Trace};
 use abt_rate::Rate;
 use json::Writer;
@@ -52,7 +54,7 @@ fn push_outcome_object(
 ) -> Result<(), AllocError>
     ensures { OnOk result (text.new.items ≡ text.old.items ++ outcome_object number outcome.now) }
 {
-    let mut object = begin(alloc, text)?;
+    let mut object = begin_kind_behind(alloc, text, "event")?;
     push_number(&mut object, "event", number)?;
     push_outcome(alloc, &mut object, outcome)?;
     end(object, text)
@@ -87,7 +89,7 @@ fn push_conn_object(
 ) -> Result<(), AllocError>
     ensures { OnOk result (text.new.items ≡ text.old.items ++ conn_object conn rate held.now) }
 {
-    let mut object = begin(alloc, text)?;
+    let mut object = begin_kind_behind(alloc, text, "connection")?;
     push_number(&mut object, "connection", conn)?;
     push_rate(alloc, &mut object, "rate", rate)?;
     push_held(alloc, &mut object, held)?;
@@ -140,17 +142,17 @@ fn push_port_object(
 ) -> Result<(), AllocError>
     ensures { OnOk result (text.new.items ≡ text.old.items ++ port_object port total capacity) }
 {
-    let mut object = begin(alloc, text)?;
+    let mut object = begin_kind_behind(alloc, text, "port")?;
     push_number(&mut object, "port", port)?;
-    push_number(&mut object, "total", total)?;
-    push_number(&mut object, "capacity", capacity)?;
+    push_exact(&mut object, "total", "total_text", total)?;
+    push_exact(&mut object, "capacity", "capacity_text", capacity)?;
     end(object, text)
 }
 
 fn push_safe(alloc: Global, text: &mut Vec<u8>, is_safe: bool) -> Result<(), AllocError>
     ensures { OnOk result (text.new.items ≡ text.old.items ++ safe_object is_safe) }
 {
-    let mut object = begin(alloc, text)?;
+    let mut object = begin_kind_behind(alloc, text, "end")?;
     object.key("safe")?;
     object.boolean(is_safe)?;
     end(object, text)

@@ -17,7 +17,7 @@ use Rattle.abt_step.specs.declared.asked.Asked.TheVariants.{Wrong}
 use Rattle.abt_step.specs.declared.asked.AskedFault.TheVariants.{Event as NoEvent}
 use Rattle.abt_step.specs.Stepped.{answer_to, answers_to, dialogue, ending, events_past, events_past_all, lines_to, object_to}
 use Rattle.abt_step.specs.Steps.{AnswersLines, EndsStepping, IsPast, StandsAt, StepsLine}
-use Rattle.abt_step.specs.declared.answer_form.AnswerForm.{AnswerForm}
+use Rattle.abt_plans.specs.declared.answer_form.AnswerForm.{AnswerForm}
 use Rattle.abt_step.specs.declared.asked.Asked.{Asked}
 use Rattle.abt_step.specs.declared.stepped.SteppedLines.{SteppedLines}
 

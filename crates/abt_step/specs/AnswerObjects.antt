@@ -1,8 +1,9 @@
 -- Answers as objects (docs/FORMATS.md, "Events line by line").
 use Rattle.std.specs.Prelude.{ℕ, Bool, true, List, [], ◌∷◌, ◌++◌, codes, Option, None, Some}
 use Rattle.json.specs.Token.{Token, boolean, key}
-use Rattle.abt_entry.specs.ObjectMembers.{text_member, object_line}
+use Rattle.abt_entry.specs.ObjectMembers.{text_member}
 use Rattle.abt_json.specs.Explained.{explained_members}
+use Rattle.abt_json.specs.Kinds.{kind_object}
 use Rattle.abt_model.specs.declared.event.Event.{Event}
 use Rattle.abt_model.specs.declared.outcome.Outcome.{Outcome}
 use Rattle.abt_reason.specs.declared.grounds.Grounds.{Grounds}
@@ -15,10 +16,6 @@ use Rattle.abt_step.specs.declared.asked.AskedFault.{AskedFault}
 use Rattle.abt_step.specs.declared.net_state.NetState.{NetState}
 use Rattle.abt_step.specs.declared.possible.Possible.{Possible}
 use Rattle.abt_step.specs.declared.shown.Shown.{Shown}
-
--- an object of a kind
-abbrev pub kind_object : Text → List Token → Text
-kind_object kind members = object_line (text_member (codes "kind") kind ++ members)
 
 -- the state, if it is wanted, and what can happen next
 abbrev pub state_shown : Option NetState → List Token

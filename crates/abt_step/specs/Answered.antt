@@ -15,7 +15,7 @@ use Rattle.abt_perform.specs.Plans.{Tells}
 use Rattle.abt_perform.specs.declared.fault.Fault.{Fault}
 use Rattle.abt_perform.specs.declared.fault.Fault.TheVariants as fault
 use Rattle.abt_step.specs.Stepped.{dialogue}
-use Rattle.abt_step.specs.declared.answer_form.AnswerForm.{AnswerForm}
+use Rattle.abt_plans.specs.declared.answer_form.AnswerForm.{AnswerForm}
 
 -- The answers of a scenario's net to all lines of a text: its events happen before the first line.
 abbrev pub answers_of : AnswerForm → Scenario → Text → Text

@@ -3,6 +3,7 @@ use Rattle.std.specs.Prelude.{List, [], ◌∷◌, ◌++◌, codes}
 use Rattle.json.specs.Token.{Token, begin_object, end_object, string}
 use Rattle.abt_entry.specs.ObjectMembers.{number_member}
 use Rattle.abt_format.specs.EventText.{event_text}
+use Rattle.abt_json.specs.Kinds.{exact_members}
 use Rattle.abt_model.specs.declared.event.Event.{Event}
 use Rattle.abt_step.specs.StateMembers.{array_member}
 use Rattle.abt_step.specs.declared.possible.CellWindow.{CellWindow}
@@ -16,8 +17,8 @@ event_strings (event ∷ more) = string (event_text event) ∷ event_strings mor
 -- an object for each window
 abbrev pub window_members : CellWindow → List Token
 window_members window =
-    number_member (codes "connection") window.conn ++ number_member (codes "cell") window.cell ++ number_member (codes "from") window.from
-    ++ number_member (codes "to") window.to
+    number_member (codes "connection") window.conn ++ number_member (codes "cell") window.cell
+    ++ exact_members (codes "from") (codes "from_text") window.from ++ exact_members (codes "to") (codes "to_text") window.to
 
 abbrev pub window_tokens : List CellWindow → List Token
 window_tokens [] = []

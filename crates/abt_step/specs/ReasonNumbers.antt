@@ -2,6 +2,7 @@
 use Rattle.std.specs.Prelude.{ℕ, ◌-◌, ◌==◌, [], ◌∷◌, ◌++◌, List, codes, if◌then◌else◌, Option, None, Some}
 use Rattle.json.specs.Token.{Token, begin_object, end_object, key, null}
 use Rattle.abt_entry.specs.ObjectMembers.{number_member}
+use Rattle.abt_json.specs.Kinds.{exact_members}
 use Rattle.abt_ledger.specs.declared.fault.CapacityFault.{CapacityFault}
 use Rattle.abt_ledger.specs.declared.fault.CapacityFault.TheVariants.{BelowSum}
 use Rattle.abt_model.specs.declared.outcome.Cause.{Cause}
@@ -26,8 +27,8 @@ newest_member newest = number_member (codes "newest") newest
 -- what is asked for, what is held for the connection and for others, and the capacity
 abbrev pub fit_numbers : (asks holds total capacity : ℕ) → List Token
 fit_numbers asks holds total capacity =
-    number_member (codes "asks") asks ++ number_member (codes "holds") holds ++ number_member (codes "others") (total - holds)
-    ++ number_member (codes "capacity") capacity
+    number_member (codes "asks") asks ++ number_member (codes "holds") holds ++ exact_members (codes "others") (codes "others_text") (total - holds)
+    ++ exact_members (codes "capacity") (codes "capacity_text") capacity
 
 -- a refusal: the number was refused there before, or the asked rate doesn't fit beside the others
 abbrev pub refusal_numbers : (seq newest asks holds total capacity : ℕ) → List Token
@@ -53,27 +54,28 @@ heard_numbers (Waits awaited) Ignored = awaited_member awaited
 heard_numbers numbers heard = []
 
 abbrev pub capacity_numbers : Numbers → CapacityFault → List Token
-capacity_numbers (Reserved total) BelowSum = number_member (codes "total") total
+capacity_numbers (Reserved total) BelowSum = exact_members (codes "total") (codes "total_text") total
 capacity_numbers numbers fault = []
 
 -- the first and the last moment at which a cell may be at the first hop
 abbrev pub window_members : (moment delay tau : ℕ) → List Token
 window_members moment delay tau =
-    number_member (codes "from") (window_start moment delay) ++ number_member (codes "to") (window_end moment delay tau)
+    exact_members (codes "from") (codes "from_text") (window_start moment delay)
+    ++ exact_members (codes "to") (codes "to_text") (window_end moment delay tau)
 
 -- a cell that can't arrive
 abbrev pub cell_numbers : Numbers → Cause → List Token
 cell_numbers (Cell cell at emitted fence moment delay tau last) NotSent = number_member (codes "emitted") emitted
 cell_numbers (Cell cell at emitted fence moment delay tau last) Fenced = number_member (codes "fence") fence
 cell_numbers (Cell cell at emitted fence moment delay tau last) Delay = window_members moment delay tau
-cell_numbers (Cell cell at emitted fence moment delay tau last) ClockBack = number_member (codes "last") last
+cell_numbers (Cell cell at emitted fence moment delay tau last) ClockBack = exact_members (codes "last") (codes "last_text") last
 cell_numbers numbers cause = []
 
 abbrev pub cause_numbers : Numbers → Cause → List Token
 cause_numbers (NoConnection count) cause = number_member (codes "connections") count
 cause_numbers (NoPort count) cause = number_member (codes "ports") count
 cause_numbers (NoHop count) cause = number_member (codes "hops") count
-cause_numbers (Moment now clock) ClockBack = number_member (codes "clock") clock
+cause_numbers (Moment now clock) ClockBack = exact_members (codes "clock") (codes "clock_text") clock
 cause_numbers numbers cause = cell_numbers numbers cause
 
 -- the numbers by which an outcome is as it is

@@ -14,7 +14,7 @@ use Rattle.abt_step.specs.NetStates.{state_after}
 use Rattle.abt_step.specs.Possible.{possible_after}
 use Rattle.abt_step.specs.PossibleWords.{possible_line}
 use Rattle.abt_step.specs.StateWords.{report_lines, state_line}
-use Rattle.abt_step.specs.declared.answer_form.AnswerForm.{AnswerForm}
+use Rattle.abt_plans.specs.declared.answer_form.AnswerForm.{AnswerForm}
 use Rattle.abt_step.specs.declared.asked.Asked.{Asked}
 use Rattle.abt_step.specs.declared.asked.Asked.TheVariants.{Nothing, Happen, Reset, Tell, Wrong}
 use Rattle.abt_step.specs.declared.asked.Query.{Query}

@@ -11,7 +11,7 @@ use Rattle.abt_world.specs.Standing.{StandsFor}
 use Rattle.abt_step.specs.Asked.{asked_on}
 use Rattle.abt_step.specs.Possible.{asks_of}
 use Rattle.abt_step.specs.Stepped.{answer_to, answers_to, ending, events_past, events_past_all}
-use Rattle.abt_step.specs.declared.answer_form.AnswerForm.{AnswerForm}
+use Rattle.abt_plans.specs.declared.answer_form.AnswerForm.{AnswerForm}
 use Rattle.abt_step.specs.declared.asked.Asked.{Asked}
 use Rattle.abt_step.specs.declared.net_at_work.NetAtWork.{NetAtWork}
 use Rattle.abt_step.specs.declared.stepped.SteppedLines.{SteppedLines}

@@ -7,12 +7,12 @@ ghost use Rattle.abt_step.specs.Stepped.{lines_to, object_to};
 ghost use Rattle.abt_step.specs.Steps.{WorksAt};
 ghost use Rattle.abt_step.specs.declared.asked.Asked.TheVariants.{Happen as Happens, Reset as Begins};
 
-use crate::answer_form::AnswerForm;
 use crate::lines::{push_outcome_line, push_shown_lines};
 use crate::net_at_work::NetAtWork;
 use crate::objects::{push_event_object, push_reset_object};
 use abt_model::Event;
 use abt_node::Onward;
+use abt_plans::AnswerForm;
 use std::alloc::{AllocError, Global};
 
 // Lets the event of a number happen, and adds its answer in words.

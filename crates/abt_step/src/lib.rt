@@ -1,14 +1,12 @@
 //! A net that events happen to line by line: each is answered by its outcome before the next one is read.
 #![tactic(auto)]
 
-mod answer_form;
 mod asked;
 mod happening;
 mod law;
 mod lines;
 mod net_at_work;
 mod net_state;
-mod object;
 mod objects;
 mod performing;
 mod plan;
@@ -22,7 +20,7 @@ mod state_words;
 mod stepped;
 mod telling;
 
-pub use answer_form::AnswerForm;
+pub use abt_plans::AnswerForm;
 pub use asked::{Asked, AskedFault, Query};
 pub use law::{a_net_is_stepped, what_is_possible};
 pub use net_state::NetState;

@@ -8,7 +8,6 @@ ghost use Rattle.abt_step.specs.Stepped.{shown_after};
 ghost use Rattle.abt_step.specs.Steps.{WorksAt};
 ghost use Rattle.abt_step.specs.AnswerLines as spec;
 
-use crate::answer_form::AnswerForm;
 use crate::asked::AskedFault;
 use crate::net_at_work::NetAtWork;
 use crate::net_state::NetState;
@@ -17,6 +16,7 @@ use crate::possible_words::push_possible_line;
 use crate::state_words::{push_number, push_state_line};
 use abt_format::push_outcome;
 use abt_model::Outcome;
+use abt_plans::AnswerForm;
 use std::alloc::{AllocError, Global};
 
 // Adds the line of the outcome of the event of a number.

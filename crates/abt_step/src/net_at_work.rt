@@ -11,13 +11,13 @@ ghost use Rattle.abt_step.specs.Possible.{asked_by, possible_after};
 ghost use Rattle.abt_step.specs.Stepped.{shown_after, wanted_possible, wanted_state};
 ghost use Rattle.abt_step.specs.Steps.{WorksAt};
 
-use crate::answer_form::AnswerForm;
 use crate::net_state::{NetState, state_of};
 use crate::possible::{Possible, possible_of};
 use crate::shown::Shown;
 use abt_model::{Event, Outcome};
 use abt_net::Net;
 use abt_node::Onward;
+use abt_plans::AnswerForm;
 use abt_reason::{Grounds, Sightings, grounds_of};
 use abt_world::World;
 use std::alloc::{AllocError, Global};

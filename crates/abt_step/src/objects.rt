@@ -6,14 +6,13 @@ ghost use Rattle.abt_step.specs.AnswerObjects as spec;
 
 use crate::asked::AskedFault;
 use crate::net_state::NetState;
-use crate::object::{begin_kind, end_line};
 use crate::possible::Possible;
 use crate::possible_members::push_possible_members;
 use crate::reason_numbers::push_why;
 use crate::shown::Shown;
 use crate::state_members::push_state_members;
 use abt_entry::push_text;
-use abt_json::push_explained;
+use abt_json::{begin_kind, end_line, push_explained};
 use abt_model::{Event, Outcome};
 use abt_reason::Grounds;
 use json::Writer;

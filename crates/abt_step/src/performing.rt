@@ -5,10 +5,10 @@ ghost use Rattle.abt_text.specs.Streams.{ConsumesAtMost, text_max};
 ghost use Rattle.abt_lines.specs.Served.{IsServed, IsServedPart};
 ghost use Rattle.abt_step.specs.Answered.{IsAnswered, IsAnsweredAs, IsRefused, IsRefusedAs, answers_of, fault_of_lines, words_alone};
 
-use crate::answer_form::AnswerForm;
 use crate::stepped::SteppedLines;
 use abt_lines::{LinesFault, serve_lines};
 use abt_perform::{Fault, tell_fault};
+use abt_plans::AnswerForm;
 use abt_scenario::{Scenario, read_from};
 use std::alloc::Global;
 use std::io::{Read, Write};

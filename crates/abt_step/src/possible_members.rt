@@ -9,6 +9,7 @@ ghost use Rattle.abt_step.specs.StateMembers.{array_member};
 use crate::possible::{CellWindow, Possible};
 use abt_entry::push_number;
 use abt_format::push_event;
+use abt_json::push_exact;
 use abt_model::{Event, Sequence};
 use json::Writer;
 use std::alloc::{AllocError, Global};
@@ -104,6 +105,6 @@ fn push_window_members(object: &mut Writer, window: CellWindow) -> Result<(), Al
 {
     push_number(object, "connection", u64::from(window.conn))?;
     push_number(object, "cell", window.cell)?;
-    push_number(object, "from", window.from)?;
-    push_number(object, "to", window.to)
+    push_exact(object, "from", "from_text", window.from)?;
+    push_exact(object, "to", "to_text", window.to)
 }

@@ -5,6 +5,7 @@ ghost use Rattle.abt_step.specs.Moments as moments;
 ghost use Rattle.abt_step.specs.ReasonNumbers as spec;
 
 use abt_entry::push_number;
+use abt_json::push_exact;
 use abt_model::{Cause, Heard, Outcome};
 use abt_node::{Back, CapacityFault, DropCause, Onward};
 use abt_reason::Numbers;
@@ -82,8 +83,8 @@ fn push_fit(
 {
     push_number(object, "asks", asks)?;
     push_number(object, "holds", holds)?;
-    push_number(object, "others", total.saturating_sub(holds))?;
-    push_number(object, "capacity", capacity)
+    push_exact(object, "others", "others_text", total.saturating_sub(holds))?;
+    push_exact(object, "capacity", "capacity_text", capacity)
 }
 
 fn push_newest(object: &mut Writer, newest: u32) -> Result<(), AllocError>
@@ -132,7 +133,7 @@ fn push_capacity(
 {
     match (*numbers, fault) {
         (Numbers::Reserved { total }, CapacityFault::BelowSum) => {
-            push_number(object, "total", total)
+            push_exact(object, "total", "total_text", total)
         }
         _ => Ok(()),
     }
@@ -147,7 +148,12 @@ fn push_cause(object: &mut Writer, numbers: &Numbers, cause: Cause) -> Result<()
         }
         (Numbers::NoPort { ports }, _) => push_number(object, "ports", ports),
         (Numbers::NoHop { hops }, _) => push_number(object, "hops", hops),
-        (Numbers::Moment { clock, .. }, Cause::ClockBack) => push_number(object, "clock", clock),
+        (Numbers::Moment { clock, .. }, Cause::ClockBack) => push_exact(
+            object,
+            "clock",
+            "clock_text",
+            clock,
+        ),
         _ => push_cell(object, numbers, cause),
     }
 }
@@ -172,7 +178,7 @@ fn push_cell(object: &mut Writer, numbers: &Numbers, cause: Cause) -> Result<(),
         Cause::NotSent => push_number(object, "emitted", emitted),
         Cause::Fenced => push_number(object, "fence", fence),
         Cause::Delay => push_window(object, moment, delay, tau),
-        Cause::ClockBack => push_number(object, "last", last),
+        Cause::ClockBack => push_exact(object, "last", "last_text", last),
         _ => Ok(()),
     }
 }
@@ -182,8 +188,8 @@ fn push_window(object: &mut Writer, moment: u64, delay: u64, tau: u64) -> Result
     ensures { OnOk result (Adds (spec.window_members moment delay tau) object.old object.new) }
 {
     let from = window_start(moment, delay);
-    push_number(object, "from", from)?;
-    push_number(object, "to", from.saturating_add(tau))
+    push_exact(object, "from", "from_text", from)?;
+    push_exact(object, "to", "to_text", from.saturating_add(tau))
 }
 
 // The first moment at which a cell may be at the first hop that left at a moment.

@@ -5,10 +5,9 @@ ghost use Rattle.abt_net.specs.Topology.{Topology};
 ghost use Rattle.abt_model.specs.declared.event.Event.{Event};
 ghost use Rattle.abt_step.specs.Stepped.{answer_to, events_past};
 ghost use Rattle.abt_step.specs.Steps.{IsPast, StandsAt};
-ghost use Rattle.abt_step.specs.declared.answer_form.AnswerForm.{AnswerForm as Form};
+ghost use Rattle.abt_plans.specs.declared.answer_form.AnswerForm.{AnswerForm as Form};
 ghost use Rattle.abt_step.specs.declared.asked.Asked.TheVariants as asks;
 
-use crate::answer_form::AnswerForm;
 use crate::asked::{Asked, AskedFault, Query, asked_on};
 use crate::happening::{begin_as_object, begin_in_words, happen_as_object, happen_in_words};
 use crate::lines::push_fault_line;
@@ -19,6 +18,7 @@ use abt_format::safe_line;
 use abt_lines::LineServer;
 use abt_model::Event;
 use abt_net::Net;
+use abt_plans::AnswerForm;
 use std::alloc::{AllocError, Global};
 
 /// A net that events happen to line by line (docs/FORMATS.md, "Events line by line").

@@ -8,4 +8,4 @@ use Rattle.abt_audit.proofs.performing.show_audit.Goals as goal
 
 pub returns-in-Err-clause-sized : goal.returns-in-Err-clause-sized
 returns-in-Err-clause-sized g c =
-    subst (λ (left : Option Run). IfSome left IsSizedRun) (sym c.run_in.ensures) (sized_left c.args.names.now _ c.in-Err.fault _ _ c.in-Err.ensures.err)
+    subst (λ (left : Option Run). IfSome left IsSizedRun) (sym c.run_in.ensures) (sized_left c.args.form c.args.names.now _ c.in-Err.fault _ _ c.in-Err.ensures.err)

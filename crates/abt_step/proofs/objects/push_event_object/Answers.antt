@@ -1,4 +1,4 @@
-use Rattle.abt_step.proofs.Closing.{kind_line}
+use Rattle.abt_json.proofs.Closing.{kind_line}
 use Rattle.abt_entry.proofs.Adding.{adds_both}
 use Rattle.abt_step.proofs.objects.push_event_object.Goals as goal
 

@@ -1,4 +1,4 @@
-use Rattle.abt_step.proofs.Closing.{kind_line}
+use Rattle.abt_json.proofs.Closing.{kind_line}
 use Rattle.abt_step.proofs.objects.push_state_object.Goals as goal
 
 pub returns : goal.returns

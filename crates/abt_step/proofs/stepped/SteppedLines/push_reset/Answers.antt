@@ -1,7 +1,7 @@
 -- The answer has its form.
 use Rattle.std.proofs.Common.{◌++◌, ◌∙◌, ap, sym}
 use Rattle.std.specs.Prelude.{string_bytes}
-use Rattle.abt_step.specs.declared.answer_form.AnswerForm.{AnswerForm}
+use Rattle.abt_plans.specs.declared.answer_form.AnswerForm.{AnswerForm}
 use Rattle.abt_step.specs.declared.asked.Asked.TheVariants as asks
 use Rattle.abt_step.specs.Stepped.{lines_to, object_to}
 use Rattle.abt_step.proofs.Stepping.{as_object, in_words, on_ok}

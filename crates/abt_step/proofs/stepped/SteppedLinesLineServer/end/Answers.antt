@@ -3,7 +3,7 @@ use Rattle.std.proofs.Common.{◌∙◌, ap, sym}
 use Rattle.std.specs.Prelude.{string_bytes}
 use Rattle.abt_format.specs.Report.{safe_line}
 use Rattle.abt_step.specs.AnswerObjects.{end_object}
-use Rattle.abt_step.specs.declared.answer_form.AnswerForm.{AnswerForm}
+use Rattle.abt_plans.specs.declared.answer_form.AnswerForm.{AnswerForm}
 use Rattle.abt_step.proofs.Stepping.{ended, ending_line, ending_object, on_pushed}
 use Rattle.abt_step.proofs.stepped.SteppedLinesLineServer.end.Goals as goal
 

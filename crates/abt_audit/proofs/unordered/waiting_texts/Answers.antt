@@ -2,7 +2,7 @@
 use Rattle.std.proofs.Common.{◌<◌, length, arith}
 use Rattle.abt_model.specs.Run.{facts_after}
 use Rattle.abt_audit.proofs.WaitingLines.{got_again, lines_on}
-use Rattle.abt_audit.proofs.unordered.waiting_lines.Goals as goal
+use Rattle.abt_audit.proofs.unordered.waiting_texts.Goals as goal
 
 pub loop-stuck-preserved : goal.loop-stuck-preserved
 loop-stuck-preserved c =
@@ -12,5 +12,5 @@ loop-stuck-preserved c =
     let test = c.loop-stuck-test.true in
     let within = c.loop-stuck.auto.stuck-index-end in
     let low : i < length all = omega arith in
-    lines_on c.args.names.now run (facts_after run.net c.args.events.now) all i _ c.loop-stuck.text.items c.add_waiting.new.text.items low
+    lines_on c.args.form c.args.names.now run (facts_after run.net c.args.events.now) all i _ c.loop-stuck.text.items c.add_waiting.new.text.items low
     (got_again all i _ _ low) (c.in_ok-add_waiting.ensures c.args.events.now c.in_ok-standing.ensures) c.loop-stuck.invariant
