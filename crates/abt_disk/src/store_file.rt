@@ -1,5 +1,6 @@
 //! Stores in files.
-ghost use Rattle.std.specs.Prelude.{◌≡◌, IfOk};
+ghost use Rattle.std.specs.Prelude.{◌≡◌, IfOk, true};
+ghost use Rattle.std.specs.Fs.{asks_create_new, asks_write};
 ghost use Rattle.abt_disk.specs.Stores.{IsWhole};
 
 use crate::file_disk::FileDisk;
@@ -76,10 +77,17 @@ pub fn open_store(rt: &HostRuntime, path: &str) -> Result<FileStore, FileFault>
 }
 
 fn new_file(rt: &HostRuntime, path: &str) -> io::Result<File> {
-    OpenOptions::new()
-        .write(true)
-        .create_new(true)
-        .open(rt, path)
+    how_to_make().open(rt, path)
+}
+
+// How a file is opened that isn't there yet: with O_EXCL, so one that is there stays as it is.
+fn how_to_make() -> OpenOptions
+    ensures exclusive { asks_create_new result ≡ true }
+    ensures write { asks_write result ≡ true }
+{
+    let mut how = OpenOptions::new();
+    how.write(true).create_new(true);
+    how
 }
 
 // Locks a file, if no other opening of it holds the lock.

@@ -8,3 +8,4 @@ pub mod SourceDeeds
 pub mod ServedWithin
 pub mod RecordsWithin
 pub mod NotedLines
+pub mod ClockedSteps

@@ -12,7 +12,8 @@ use Rattle.abt_live.specs.declared.history.Tail.TheVariants.{Whole, Cut, Foreign
 use Rattle.abt_live.specs.declared.history.Mending.{Mending}
 use Rattle.abt_live.specs.declared.history.Mending.TheVariants as mending
 use Rattle.abt_live.specs.Past.{Follows, no_past}
-use Rattle.abt_live.specs.SourceJournal.{deed_line, failed_line}
+use Rattle.abt_live.specs.FailedLine.{failed_line}
+use Rattle.abt_live.specs.SourceJournal.{deed_line}
 
 -- a journal without a line
 abbrev pub no_history : (conn : ℕ) → History

@@ -11,9 +11,12 @@ pub mod Running
 pub mod Asking
 pub mod Source
 pub mod SourceAsked
+pub mod FailedLine
 pub mod SourceJournal
 pub mod Past
 pub mod History
 pub mod SourceSaid
 pub mod SourceSteps
 pub mod SourceRecords
+pub mod Clock
+pub mod Clocked

@@ -1,8 +1,9 @@
 -- What a source's journal says (docs/LIVE.md, "A source").
-use Rattle.std.specs.Prelude.{ℕ, Bool, true, false, [], if◌then◌else◌, codes}
+use Rattle.std.specs.Prelude.{ℕ, ◌&&◌, nat_lt, Bool, true, false, [], if◌then◌else◌, codes}
 use Rattle.json.specs.Print.{print}
 use Rattle.json.specs.Tree.{json_tokens}
 use Rattle.abt_rate.specs.Code.{code_of}
+use Rattle.abt_rate.specs.Limits.{number_max}
 use Rattle.abt_facts.specs.Source.{SourceState, Down, Idle, Asking}
 use Rattle.abt_keep.specs.declared.plan.StorePlan.TheVariants.{Works}
 use Rattle.abt_source.specs.SourceView.{SourceView}
@@ -16,6 +17,7 @@ use Rattle.abt_model.specs.declared.entry.SourceEntry.TheVariants.{Did}
 use Rattle.abt_entry.specs.EntryWritten.{entry_json}
 use Rattle.abt_actor.specs.Actor.{ActorView}
 use Rattle.abt_text.specs.Text.{Text, ◌⋅◌, newline, decimal, code_text}
+use Rattle.abt_live.specs.FailedLine.{failed_line}
 use Rattle.abt_live.specs.declared.source_asked.SourceAsked.{SourceAsked}
 use Rattle.abt_live.specs.declared.source_asked.SourceAsked.TheVariants.{Start, Ask, Again, Emit, Told, Wrong}
 
@@ -23,21 +25,19 @@ use Rattle.abt_live.specs.declared.source_asked.SourceAsked.TheVariants.{Start, 
 abbrev pub deed_line : (conn : ℕ) → Event → Outcome → Text
 deed_line conn deed outcome = print (json_tokens (entry_json conn (Did deed outcome))) ⋅ newline
 
--- the line of an ask whose record the store didn't keep: whether it is stored all the same is left open
-abbrev pub failed_line : (conn rate : ℕ) → Text
-failed_line conn rate =
-    codes "{\"source\":" ⋅ decimal conn ⋅ codes ",\"did\":{\"ask\":\"" ⋅ code_text (code_of rate) ⋅
-    codes "\",\"store\":\"failed\"},\"outcome\":{\"refused\":\"Keep\"}}\n"
-
 -- the line before an ask writes into the store
 abbrev pub about_line : (conn rate : ℕ) → Text
 about_line conn rate = codes "{\"about\":" ⋅ decimal conn ⋅ codes ",\"ask\":\"" ⋅ code_text (code_of rate) ⋅ codes "\"}\n"
 
--- whether an ask of a source has to write, which only one that is up has
+-- whether an ask of a source that is up writes: a number is left for it, and it has to write
+abbrev pub will_write : SourceView → (rate : ℕ) → Bool
+will_write source rate = nat_lt source.last number_max && has_to_write source rate
+
+-- whether an ask of a source writes, which only one that is up does
 abbrev pub writes_in : SourceState → SourceView → (rate : ℕ) → Bool
 writes_in Down source rate = false
-writes_in Idle source rate = has_to_write source rate
-writes_in (Asking seq) source rate = has_to_write source rate
+writes_in Idle source rate = will_write source rate
+writes_in (Asking seq) source rate = will_write source rate
 
 -- what is written before anything is done
 abbrev pub before_line : (conn : ℕ) → ActorView → SourceAsked → Text

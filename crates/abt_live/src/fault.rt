@@ -29,6 +29,12 @@ pub enum LiveFault {
     Request,
     /// The store didn't give its record.
     Store,
+    /// The clock can't be read.
+    Clock,
+    /// The clock stands before the beginning of the run.
+    ClockBack,
+    /// The moment of the clock has more than 64 bits.
+    TimeRange,
 }
 
 impl LiveFault {
@@ -46,6 +52,9 @@ impl LiveFault {
             LiveFault::UnknownVc => text.push_str("fault UnknownVc\n"),
             LiveFault::Request => text.push_str("fault request\n"),
             LiveFault::Store => text.push_str("fault store\n"),
+            LiveFault::Clock => text.push_str("fault clock\n"),
+            LiveFault::ClockBack => text.push_str("fault ClockBack\n"),
+            LiveFault::TimeRange => text.push_str("fault TimeRange\n"),
         }
     }
 }

@@ -1,15 +1,21 @@
 //! The controller as processes: the ports of a switch and the source of a connection, each a server of lines that keeps a journal.
 #![tactic(auto)]
 
+mod clocked;
+mod clocked_lines;
+mod clocked_records;
+mod failed_line;
 mod fault;
 mod history;
 mod live_port;
 mod live_source;
 mod marks;
+mod nano_clock;
 mod noted;
 mod past;
 mod record_serving;
 mod restarting;
+mod run_clock;
 mod running;
 mod said;
 mod serving;
@@ -25,13 +31,17 @@ mod switch_asked;
 mod switch_records;
 mod writing;
 
+pub use clocked_lines::ClockedLines;
+pub use clocked_records::ClockedRecords;
 pub use fault::{LiveFault, StopFault};
 pub use history::{History, Mending, read_history};
 pub use live_port::LivePort;
 pub use live_source::LiveSource;
+pub use nano_clock::NanoClock;
 pub use past::Past;
 pub use record_serving::{JournalRecords, serve_journal_records};
 pub use restarting::restart_text;
+pub use run_clock::RunClock;
 pub use serving::{JournalServer, ServeFault, serve_journal};
 pub use source_answer::SourceAnswer;
 pub use source_asked::SourceAsked;

@@ -65,11 +65,12 @@ impl<K: SeqStore> LiveSource<K> {
         self.clock
     }
 
-    /// Whether an ask for a rate has the store keep a record before its request goes out.
-    pub fn has_to_write(&self, rate: Rate) -> bool
+    /// Whether an ask for a rate has the store keep a record: the source is up, a number is left for it, and that or the need of the ask isn't
+    /// kept yet.
+    pub fn will_write(&self, rate: Rate) -> bool
         ensures { result ≡ writes_in self.now.state self.now.source rate }
     {
-        !self.running.is_down() && self.running.has_to_write(rate)
+        !self.running.is_down() && self.running.will_write(rate)
     }
 
     /// Starts, as the event of that name does, or does nothing if the store doesn't give its record.

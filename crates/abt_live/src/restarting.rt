@@ -2,8 +2,9 @@
 ghost use Rattle.std.specs.Prelude.{◌≡◌, IfOk};
 ghost use Rattle.abt_live.specs.History.{crash_text, open_text, restart_text};
 
+use crate::failed_line::failed_line;
 use crate::past::Past;
-use crate::source_journal::{deed_line, failed_line};
+use crate::source_journal::deed_line;
 use abt_model::{Event, Outcome};
 use abt_rate::Rate;
 use std::alloc::{AllocError, Global};

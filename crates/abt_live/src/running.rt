@@ -5,10 +5,11 @@ ghost use Rattle.abt_facts.specs.declared.fact.Fact.{Fact};
 ghost use Rattle.abt_facts.specs.declared.fact.Fact.TheVariants.{Asked, Emitted};
 ghost use Rattle.abt_rate.specs.Limits.{number_max};
 ghost use Rattle.abt_rate.specs.Rate.{IsRate, spacing_of};
-ghost use Rattle.abt_source.specs.Calls.{has_to_write, result_of_emission};
+ghost use Rattle.abt_source.specs.Calls.{result_of_emission};
 ghost use Rattle.abt_source.specs.SourceFacts.{StandsFor, stored_by};
 ghost use Rattle.abt_live.specs.Asking.{Goes, Stays};
 ghost use Rattle.abt_live.specs.Running.{source_in, state_in};
+ghost use Rattle.abt_live.specs.SourceJournal.{will_write};
 
 use abt_cell::Request;
 use abt_keep::SeqStore;
@@ -66,16 +67,17 @@ impl Running {
         }
     }
 
-    // Whether an ask has to write a record, if it is up.
-    pub(crate) fn has_to_write(&self, rate: Rate) -> bool
+    // Whether an ask writes a record, if it is up. Without a number left it is refused before that.
+    pub(crate) fn will_write(&self, rate: Rate) -> bool
         requires { state_in self.now ≢ state.Down }
-        ensures { result ≡ has_to_write (source_in self.now) rate }
+        ensures { result ≡ will_write (source_in self.now) rate }
     {
-        match self {
+        let record = match self {
             Running::Down(_) => unreachable!(),
-            Running::Idle(source) => source.record_to_write(rate).is_some(),
-            Running::Asking(source) => source.record_to_write(rate).is_some(),
-        }
+            Running::Idle(source) => source.record_to_write(rate),
+            Running::Asking(source) => source.record_to_write(rate),
+        };
+        self.last() < u32::MAX && record.is_some()
     }
 
     // Asks, if it is up.

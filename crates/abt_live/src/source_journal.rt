@@ -2,8 +2,9 @@
 ghost use Rattle.std.specs.Prelude.{◌≡◌, IfOk};
 ghost use Rattle.abt_rate.specs.Code.{code_of};
 ghost use Rattle.abt_text.specs.Text.{◌⋅◌, code_text, decimal};
-ghost use Rattle.abt_live.specs.SourceJournal.{about_line, ask_line, deed_line, done_line, failed_line, is_open};
+ghost use Rattle.abt_live.specs.SourceJournal.{about_line, ask_line, deed_line, done_line, is_open};
 
+use crate::failed_line::failed_line;
 use crate::source_asked::SourceAsked;
 use abt_entry::entry_line;
 use abt_keep::StorePlan;
@@ -84,21 +85,6 @@ pub(crate) fn deed_line(
     let mut line = entry_line(alloc, conn, &SourceEntry::Did(deed, *outcome))?;
     line.push(b'\n')?;
     Ok(line)
-}
-
-// The line of an ask whose record the store didn't keep.
-pub(crate) fn failed_line(alloc: Global, conn: u16, rate: Rate) -> Result<Vec<u8>, AllocError>
-    ensures { IfOk result (λ line. line.items ≡ failed_line conn rate) }
-{
-    let end = "\",\"store\":\"failed\"},\"outcome\":{\"refused\":\"Keep\"}}\n";
-    line_of(
-        alloc,
-        "{\"source\":",
-        conn,
-        ",\"did\":{\"ask\":\"",
-        rate,
-        end,
-    )
 }
 
 // The line before an ask writes into the store.

@@ -126,7 +126,7 @@ impl<K: SeqStore, J: Write> SourceLines<K, J> {
         let SourceAsked::Ask { rate } = *asked else {
             return Ok(());
         };
-        if !self.source.has_to_write(rate) {
+        if !self.source.will_write(rate) {
             return Ok(());
         }
         let line = about_line(alloc, self.conn, rate)?;

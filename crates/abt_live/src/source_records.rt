@@ -67,7 +67,7 @@ impl<K: SeqStore, J: Write> JournalRecords for SourceRecords<K, J> {
 }
 
 // What a line or a cell asks for, which is a line that is too long if there is `None`.
-fn record_asked(alloc: Global, seen: Option<&[u8]>) -> Result<SourceAsked, AllocError>
+pub(crate) fn record_asked(alloc: Global, seen: Option<&[u8]>) -> Result<SourceAsked, AllocError>
     ensures { IfOk result (λ asked. asked ≡ record_asked (option_map (λ octets. octets.now) seen.entry)) }
 {
     match seen {

@@ -11,7 +11,7 @@ use Rattle.abt_live_files.specs.declared.fault.LiveStop.{LiveStop}
 use Rattle.abt_live_files.specs.declared.fault.LiveStop.TheVariants.{Scenario, Port, Connection, Store, Journal, Serving}
 use Rattle.abt_live_files.specs.declared.journal_fault.JournalFault.{JournalFault}
 use Rattle.abt_live_files.specs.declared.journal_fault.JournalFault.TheVariants as journal
-use Rattle.abt_live_files.specs.declared.plan.SourcePlan.{SourcePlan}
+use Rattle.abt_plans.specs.declared.process.SourcePlan.{SourcePlan}
 use Rattle.abt_live_files.specs.Opened.{IsOfFile}
 use Rattle.abt_live_files.specs.Served.{IsUnopened, StopsSource}
 use Rattle.abt_live_files.specs.Words.{TellsEach, journal_pieces, store_pieces}

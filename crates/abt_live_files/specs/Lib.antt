@@ -1,3 +1,5 @@
 pub mod Words
 pub mod Opened
+pub mod Clock
+pub mod SourceServed
 pub mod Served

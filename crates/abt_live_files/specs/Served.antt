@@ -13,20 +13,19 @@ use Rattle.abt_scenario.specs.Scenarios.{Reads}
 use Rattle.abt_scenario.specs.declared.scenario.Scenario as scenario_of
 use Rattle.abt_live.specs.declared.past.Past.{Past}
 use Rattle.abt_live.specs.declared.source_lines.SourceLines.{SourceLines}
-use Rattle.abt_live.specs.declared.source_records.SourceRecords.{SourceRecords}
 use Rattle.abt_live.specs.declared.switch.SwitchLines.{SwitchLines}
 use Rattle.abt_live.specs.Ports.{opening_of}
 use Rattle.abt_live.specs.Serving.{EndsSilent}
 use Rattle.abt_live.specs.Source.{new_actor}
-use Rattle.abt_live.specs.SourceRecords.{SourcesRecord}
-use Rattle.abt_live.specs.SourceSteps.{SourcesLine}
 use Rattle.abt_live.specs.Switch.{SwitchesLine}
 use Rattle.abt_live.specs.SwitchRecords.{SwitchesRecord}
 use Rattle.abt_live_files.specs.declared.fault.LiveStop.{LiveStop}
 use Rattle.abt_live_files.specs.declared.fault.LiveStop.TheVariants.{Scenario, Port, Connection, Store, Journal, Serving}
-use Rattle.abt_live_files.specs.declared.plan.SourcePlan.{SourcePlan}
-use Rattle.abt_live_files.specs.declared.plan.SwitchPlan.{SwitchPlan}
+use Rattle.abt_plans.specs.declared.process.SourcePlan.{SourcePlan}
+use Rattle.abt_plans.specs.declared.process.SwitchPlan.{SwitchPlan}
+use Rattle.abt_live_files.specs.Clock.{KeepsReading, machine_clock}
 use Rattle.abt_live_files.specs.Opened.{BeginsBy}
+use Rattle.abt_live_files.specs.SourceServed.{BeginsClocked, BeginsHanded, ServesClocked, ServesHanded}
 use Rattle.abt_live_files.specs.Words.{TellsEach, stop_pieces}
 
 -- A switch has these ports of a net, which have done nothing yet.
@@ -114,20 +113,23 @@ abbrev pub first_hop : Option Conn → ℕ
 first_hop None = 0
 first_hop (Some conn) = first_of conn.path
 
--- the answers of a source to all that a reader had left went out, and nothing else: over lines, or over lines and cells
-abbrev pub ServesSource : {K J : Type 0} → (contents : J → Option Text) → (is_binary : Bool) → (first : SourceLines K J) → (first_port : ℕ)
-    → (left old new : Option Text) → Type 0
-ServesSource {K = K} {J = J} contents false first first_port left old new =
-    (last : SourceLines K J) × ServesAll (SourcesLine contents) EndsSilent first last left old new
-ServesSource {K = K} {J = J} contents true first first_port left old new =
-    (last : SourceRecords K J) × ServesRecords (SourcesRecord contents) (record { lines = first; first_port = first_port }) last left old new
+-- the answers of a source to all that a reader had left went out, and nothing else: over moments that are handed in, or those of the machine's clock
+abbrev pub ServesSource : {K J : Type 0} → (contents : J → Option Text) → (epoch : Option ℕ) → (is_binary : Bool) → (first : SourceLines K J)
+    → (first_port : ℕ) → (left old new : Option Text) → Type 0
+ServesSource contents None is_binary first first_port left old new =
+    ServesHanded contents is_binary (record { lines = first; first_port = first_port }) left old new
+ServesSource contents (Some epoch) is_binary first first_port left old new =
+    ServesClocked KeepsReading contents is_binary
+    (record { records = record { lines = first; first_port = first_port }; clock = machine_clock epoch }) left old new
 
 -- a beginning of them did
-abbrev pub BeginsSource : {K J : Type 0} → (contents : J → Option Text) → (is_binary : Bool) → (first : SourceLines K J) → (first_port : ℕ)
-    → (left old new : Option Text) → Type 0
-BeginsSource contents false first first_port left old new = ServesPart (SourcesLine contents) EndsSilent first left old new
-BeginsSource contents true first first_port left old new =
-    ServesSome (SourcesRecord contents) (record { lines = first; first_port = first_port }) left old new
+abbrev pub BeginsSource : {K J : Type 0} → (contents : J → Option Text) → (epoch : Option ℕ) → (is_binary : Bool) → (first : SourceLines K J)
+    → (first_port : ℕ) → (left old new : Option Text) → Type 0
+BeginsSource contents None is_binary first first_port left old new =
+    BeginsHanded contents is_binary (record { lines = first; first_port = first_port }) left old new
+BeginsSource contents (Some epoch) is_binary first first_port left old new =
+    BeginsClocked KeepsReading contents is_binary
+    (record { records = record { lines = first; first_port = first_port }; clock = machine_clock epoch }) left old new
 
 -- The answers of such a source to all that a reader had left went out, and nothing else.
 pub record IsSourceServed {K J : Type 0} (content : K → KeptRecord) (contents : J → Option Text) (text : Option Text) (plan : SourcePlan)
@@ -136,7 +138,7 @@ pub record IsSourceServed {K J : Type 0} (content : K → KeptRecord) (contents 
   pub has : HasConnection text plan.conn vc
   pub first : SourceLines K J
   pub begun : IsBegun content contents plan vc first
-  pub served : ServesSource contents plan.is_binary first (first_hop (slice_get has.scenario.net.conns plan.conn)) left old new
+  pub served : ServesSource contents plan.epoch plan.is_binary first (first_hop (slice_get has.scenario.net.conns plan.conn)) left old new
 
 -- A beginning of them did.
 pub record IsSourceCutOff {K J : Type 0} (content : K → KeptRecord) (contents : J → Option Text) (text : Option Text) (plan : SourcePlan)
@@ -145,7 +147,7 @@ pub record IsSourceCutOff {K J : Type 0} (content : K → KeptRecord) (contents 
   pub has : HasConnection text plan.conn vc
   pub first : SourceLines K J
   pub begun : IsBegun content contents plan vc first
-  pub part : BeginsSource contents plan.is_binary first (first_hop (slice_get has.scenario.net.conns plan.conn)) left old new
+  pub part : BeginsSource contents plan.epoch plan.is_binary first (first_hop (slice_get has.scenario.net.conns plan.conn)) left old new
 
 -- The net doesn't have the connection that is named.
 pub record LacksConnection (text : Option Text) (conn : ℕ) : Type 0 where

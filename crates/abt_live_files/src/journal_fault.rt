@@ -23,6 +23,9 @@ pub enum JournalFault {
     /// A journal that is to be that of a switch is there already: with the process that had it the reservations ended.
     #[error("the journal of a switch that ended")]
     Ended,
+    /// Another process uses it.
+    #[error("another process uses the journal")]
+    Busy,
     /// It may not be read or written.
     #[error("no permission")]
     Forbidden,
@@ -70,8 +73,10 @@ impl JournalFault {
             JournalFault::NoFolder => "there is no such folder",
             JournalFault::Used => "it has lines already, and a new source has none",
             JournalFault::Ended =>
-                "it is there already, and a switch that ended lost its reservations; begin with another",
-            JournalFault::Forbidden => "it may not be read and written",
+                "it is there already; a switch that ended lost its reservations: end its sources, and begin all with new journals",
+            JournalFault::Busy => "another process uses it",
+            JournalFault::Forbidden =>
+                "its rights, or those of its disk, don't let it be read and written",
             JournalFault::Folder => "it is a folder",
             JournalFault::Full => "the disk is full",
             JournalFault::Unread => "it can't be read",
@@ -89,6 +94,7 @@ impl From<io::Error> for JournalFault {
         match error.kind() {
             ErrorKind::NotFound => JournalFault::Missing,
             ErrorKind::AlreadyExists => JournalFault::Ended,
+            ErrorKind::WouldBlock => JournalFault::Busy,
             ErrorKind::PermissionDenied | ErrorKind::ReadOnlyFilesystem => JournalFault::Forbidden,
             ErrorKind::IsADirectory => JournalFault::Folder,
             ErrorKind::StorageFull | ErrorKind::QuotaExceeded => JournalFault::Full,

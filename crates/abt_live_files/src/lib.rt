@@ -2,18 +2,18 @@
 #![tactic(auto)]
 
 mod answering;
+mod clock;
 mod fault;
 mod journal_fault;
 mod opening;
-mod plan;
 mod source;
 mod stores;
 mod switch;
 mod telling;
 
+pub use abt_plans::{SourcePlan, SwitchPlan};
 pub use fault::LiveStop;
 pub use journal_fault::JournalFault;
-pub use plan::{SourcePlan, SwitchPlan};
 pub use source::perform_source;
 pub use stores::Stores;
 pub use switch::perform_switch;

@@ -8,12 +8,12 @@ ghost use Rattle.abt_live_files.specs.Opened.{BeginsBy, IsContinued, IsOfFile, I
 
 use crate::fault::LiveStop;
 use crate::journal_fault::JournalFault;
-use crate::plan::SourcePlan;
 use crate::stores::Stores;
 use abt_disk::FileFault;
 use abt_keep::Record;
 use abt_lines::LinesFault;
 use abt_live::{Mending, Past, read_history, restart_text};
+use abt_plans::SourcePlan;
 use abt_text::put;
 use std::alloc::{AllocGlobal, Global};
 use std::fs::{self, OpenFile, OpenOptions};
@@ -86,10 +86,11 @@ fn make_source<T: Files + Stores>(
     })
 }
 
-// Opens a journal that has no line, and makes it if it isn't there.
-fn empty_journal<T: Files>(rt: &T, name: &str) -> Result<T::File, JournalFault> {
+// Opens a journal that has no line, which no other process then has, and makes it if it isn't there.
+fn empty_journal<T: Files + Stores>(rt: &T, name: &str) -> Result<T::File, JournalFault> {
     let opened = OpenOptions::new().append(true).create(true).open(rt, name);
     let journal = opened.map_err(JournalFault::of_making)?;
+    rt.lock_journal(&journal)?;
     let about = journal.metadata()?;
     if !about.is_file() {
         return Err(JournalFault::Other);
@@ -100,8 +101,8 @@ fn empty_journal<T: Files>(rt: &T, name: &str) -> Result<T::File, JournalFault> 
     Ok(journal)
 }
 
-// Opens the journal of a source, reads what it did before, and writes what became of it.
-fn continued<T: Files + AllocGlobal>(
+// Opens the journal of a source, which no other process then has, reads what it did before, and writes what became of it.
+fn continued<T: Files + AllocGlobal + Stores>(
     rt: &T,
     conn: u16,
     name: &str,
@@ -110,6 +111,7 @@ fn continued<T: Files + AllocGlobal>(
     ensures continued { IfOk result (λ found. IsContinued T.File.contents conn found.1 found.0) }
 {
     let mut journal = OpenOptions::new().read(true).append(true).open(rt, name)?;
+    rt.lock_journal(&journal)?;
     let about = journal.metadata()?;
     if !about.is_file() {
         return Err(JournalFault::Other);

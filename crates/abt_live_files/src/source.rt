@@ -7,23 +7,23 @@ ghost use Rattle.abt_live_files.specs.Served.{IsSourceServed, IsSourceUnserved, 
 use crate::answering::serve_source;
 use crate::fault::LiveStop;
 use crate::opening::{Begun, open_source};
-use crate::plan::SourcePlan;
 use crate::stores::Stores;
 use crate::telling::tell_stop;
 use abt_cell::Vc;
 use abt_live::SourceLines;
 use abt_net::Net;
+use abt_plans::SourcePlan;
 use abt_scenario::read_from;
 use std::alloc::AllocGlobal;
 use std::io::{Read, Write};
-use std::rt::Files;
+use std::rt::{Clock, Files};
 
 /// Reads the scenario that has a net, opens the store and the journal, or makes them, answers all lines of a reader by the source of the
 /// connection that a plan names, and gives the exit status: 0 if all answers went out to `writer`, and 1 if what is told on `errors` says
 /// why not. What can't be written there changes no status.
 ///
 /// What a read of the lines ends is in the journal, and answered, before the next read.
-pub fn perform_source<T: Files + AllocGlobal + Stores, N: Read, R: Read, W: Write, E: Write>(
+pub fn perform_source<T, N: Read, R: Read, W: Write, E: Write>(
     rt: &T,
     net: &mut N,
     plan: &SourcePlan,
@@ -31,6 +31,8 @@ pub fn perform_source<T: Files + AllocGlobal + Stores, N: Read, R: Read, W: Writ
     writer: &mut W,
     errors: &mut E,
 ) -> u8
+where
+    T: Files + AllocGlobal + Clock + Stores,
     ensures status { (result ≡ 0) ⊎ (result ≡ 1) }
     ensures end { result ≡ 0 → IsAtEnd (R.remaining reader.new) }
     ensures ok { result ≡ 0 → IsSourceServed T.Store.content T.File.contents (N.remaining net.old) plan.now
@@ -50,7 +52,7 @@ pub fn perform_source<T: Files + AllocGlobal + Stores, N: Read, R: Read, W: Writ
 }
 
 // Answers all lines of a reader by a source of the net of the scenario that another has left.
-fn source<T: Files + AllocGlobal + Stores, N: Read, R: Read, W: Write>(
+fn source<T: Files + AllocGlobal + Clock + Stores, N: Read, R: Read, W: Write>(
     rt: &T,
     net: &mut N,
     plan: &SourcePlan,
@@ -82,14 +84,7 @@ fn source<T: Files + AllocGlobal + Stores, N: Read, R: Read, W: Write>(
     };
     let lines = SourceLines::new(conn, vc, past.cells, past.clock, store, journal);
     let first_port = first_port_of(&scenario.net, conn);
-    match serve_source(
-        rt.alloc(),
-        lines,
-        first_port,
-        plan.is_binary,
-        reader,
-        writer,
-    ) {
+    match serve_source(rt, lines, first_port, plan, reader, writer) {
         Ok(()) => Ok(()),
         Err(fault) => Err(LiveStop::Serving(fault)),
     }

@@ -6,11 +6,11 @@ ghost use Rattle.abt_live_files.specs.Served.{IsSwitchServed, IsSwitchUnserved, 
 use crate::answering::serve_switch;
 use crate::fault::LiveStop;
 use crate::opening::new_journal;
-use crate::plan::SwitchPlan;
 use crate::telling::tell_stop;
 use abt_lines::LinesFault;
 use abt_live::{ServeFault, SwitchLines};
 use abt_net::Net;
+use abt_plans::SwitchPlan;
 use abt_scenario::read_from;
 use std::alloc::AllocGlobal;
 use std::io::{Read, Write};

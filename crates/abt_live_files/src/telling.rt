@@ -99,7 +99,8 @@ fn store_words(fault: FileFault) -> &'static str
         FileFault::NotAFile => "it is no regular file",
         FileFault::Length(_) => "it hasn't the 16384 octets of a store",
         FileFault::Busy => "another process uses it",
-        FileFault::Denied => "it may not be read and written in its folder",
+        FileFault::Denied =>
+            "its rights, or those of its folder or its disk, don't let it be read and written",
         FileFault::Full => "the disk is full",
         FileFault::Device => "the disk failed",
         FileFault::Blocks(fault) => block_words(fault),

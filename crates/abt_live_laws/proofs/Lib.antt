@@ -3,3 +3,4 @@ pub mod JournalDeeds
 pub mod SourceMoves
 pub mod PortMoves
 pub mod ToldPasts
+pub mod OctetsRead

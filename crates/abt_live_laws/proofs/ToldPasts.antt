@@ -13,7 +13,8 @@ use Rattle.std.proofs.lemmas.List.{append-nil}
 use Rattle.abt_processes.specs.Journals.{Told, crash_lines, nothing_told, open_lines, told_by, with_deed, with_line}
 use Rattle.abt_live.specs.History.{crash_text, open_text}
 use Rattle.abt_live.specs.Source.{new_actor}
-use Rattle.abt_live.specs.SourceJournal.{deed_line, failed_line}
+use Rattle.abt_live.specs.FailedLine.{failed_line}
+use Rattle.abt_live.specs.SourceJournal.{deed_line}
 use Rattle.abt_live_laws.specs.Machine.{lines_text}
 use Rattle.abt_live_laws.proofs.SourceMoves.{lines_text-append}
 use Rattle.abt_live.specs.declared.past.Past.{Past}

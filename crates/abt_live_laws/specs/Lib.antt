@@ -3,3 +3,4 @@ pub mod Deeds
 pub mod Machine
 pub mod Ports
 pub mod Pasts
+pub mod Octets

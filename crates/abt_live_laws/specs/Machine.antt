@@ -13,7 +13,8 @@ use Rattle.abt_processes.specs.Processes.{Alive, JournalLine, About, Open, Deed,
 use Rattle.abt_live.specs.declared.source_asked.SourceAsked.{SourceAsked}
 use Rattle.abt_live.specs.declared.source_asked.SourceAsked.TheVariants as asked
 use Rattle.abt_live.specs.declared.source_lines.SourceLines.{SourceLines}
-use Rattle.abt_live.specs.SourceJournal.{about_line, deed_line, failed_line}
+use Rattle.abt_live.specs.FailedLine.{failed_line}
+use Rattle.abt_live.specs.SourceJournal.{about_line, deed_line}
 use Rattle.abt_live.specs.SourceSaid.{outcome_said}
 use Rattle.abt_live.specs.SourceSteps.{Does}
 

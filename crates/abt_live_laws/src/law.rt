@@ -1,11 +1,13 @@
 //! What journals say over any lines.
-ghost use Rattle.abt_live_laws.specs.Deeds.{JournalsAreDeeds};
+ghost use Rattle.abt_live_laws.specs.Deeds.{ClockedJournalsAreDeeds, JournalsAreDeeds};
 ghost use Rattle.abt_live_laws.specs.Journals.{JournalsAreSteps};
 ghost use Rattle.abt_live_laws.specs.Machine.{SourcesMove};
+ghost use Rattle.abt_live_laws.specs.Octets.{DeedsAreRead, StepsAreRead};
 ghost use Rattle.abt_live_laws.specs.Pasts.{BeginsSo, PastsAreTold};
 ghost use Rattle.abt_live_laws.specs.Ports.{SwitchesServe};
 
 use abt_keep::SeqStore;
+use abt_live::NanoClock;
 use std::io::Write;
 
 /// Whatever lines a switch answers, its journal gets the lines of the steps that its ports did, and nothing else. Those of each port are its
@@ -18,6 +20,11 @@ pub fn journals_are_steps<J: Write>()
 /// the outcome that the event of its name has there.
 pub fn journals_are_deeds<K: SeqStore, J: Write>()
     ensures { JournalsAreDeeds K J.contents }
+{}
+
+/// So does the journal of a source that has its moments of a clock, whatever the clock reads.
+pub fn clocked_journals_are_deeds<K: SeqStore, J: Write, N: NanoClock>()
+    ensures { ClockedJournalsAreDeeds K N.reads J.contents }
 {}
 
 /// What a source does with a line, if it is one of live processes and what is handed in was sent, is a move of theirs by which it goes on, or
@@ -38,4 +45,12 @@ pub fn switch_steps_are_moves<J: Write>()
 pub fn pasts_are_told()
     ensures told { PastsAreTold }
     ensures begins { BeginsSo }
+{}
+
+/// What a switch or a source wrote into its journal, of steps and deeds whose numbers fit their fields, is read by the reader of journals as
+/// just these, one after the other; of a source without the lines of what was about to be done, which that reader doesn't take. A step of a
+/// data cell is read without the cell's number, and an ask whose record wasn't kept leaves open whether it is stored.
+pub fn octets_are_read()
+    ensures steps { StepsAreRead }
+    ensures deeds { DeedsAreRead }
 {}

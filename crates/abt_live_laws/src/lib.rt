@@ -4,6 +4,6 @@
 mod law;
 
 pub use law::{
-    journals_are_deeds, journals_are_steps, pasts_are_told, source_steps_are_moves,
-    switch_steps_are_moves,
+    clocked_journals_are_deeds, journals_are_deeds, journals_are_steps, octets_are_read,
+    pasts_are_told, source_steps_are_moves, switch_steps_are_moves,
 };

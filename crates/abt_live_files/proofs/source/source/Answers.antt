@@ -27,7 +27,7 @@ returns-in-Ok-serve_source-clause-ok g c = record {
     store = c.in-Ok-open_source.begun.store;
     source_is = c.new-lines.ensures.source;
   };
-  served = subst (λ p. ServesSource g.T.File.Write.contents c.args.plan.now.is_binary c.new-lines.result p
+  served = subst (λ p. ServesSource g.T.File.Write.contents c.args.plan.now.epoch c.args.plan.now.is_binary c.new-lines.result p
       (g.R.Read.remaining c.args.reader.now) (g.W.Write.contents c.args.writer.now) (g.W.Write.contents c.serve_source.new.writer)) c.first_port_of-first_port.ensures c.in-Ok-serve_source.ensures.ok;
 }
 
@@ -45,6 +45,6 @@ returns-clause-err g c = record {
     store = c.in-Ok-open_source.begun.store;
     source_is = c.new-lines.ensures.source;
   };
-  part = subst (λ p. BeginsSource g.T.File.Write.contents c.args.plan.now.is_binary c.new-lines.result p
+  part = subst (λ p. BeginsSource g.T.File.Write.contents c.args.plan.now.epoch c.args.plan.now.is_binary c.new-lines.result p
       (g.R.Read.remaining c.args.reader.now) (g.W.Write.contents c.args.writer.now) (g.W.Write.contents c.serve_source.new.writer)) c.first_port_of-first_port.ensures c.in-Err-serve_source.ensures.err;
 }
