@@ -2,11 +2,15 @@
 //! scenario, and what is shown of a run of it in threads.
 #![tactic(auto)]
 
-use abt_cli::{answer_words, given_command};
+mod piped;
+
+use crate::piped::{Beside, Piped, status_of};
+use abt_cli::{answer_words, given_command, on_terminal, rate_note, shows_progress};
 use abt_commands::carry_out_command;
 use abt_files::fill_streams;
 use abt_perform::{OPEN_LINE, tell_text};
 use abt_progress::{Cleared, Progress, Watched, draws_line};
+use std::cell::Cell;
 use std::env;
 use std::io::IsTerminal;
 use std::process::ExitCode;
@@ -23,30 +27,36 @@ fn main(rt: HostRuntime) -> ExitCode {
             return ExitCode::from(status);
         }
     };
+    let command = if rt.stdout().is_terminal() {
+        on_terminal(command)
+    } else {
+        command
+    };
     let is_terminal = rt.stderr().is_terminal();
     let kind = kind_of_terminal(&rt);
     let kind = match &kind {
         Some(kind) => Some(kind.as_str()),
         None => None,
     };
-    let terminal = if draws_line(command.shows_progress(), is_terminal, kind) {
+    let terminal = if draws_line(shows_progress(&command), is_terminal, kind) {
         Some(rt.stderr())
     } else {
         None
     };
+    let is_left = Cell::new(false);
     let progress = Progress::new(rt.alloc(), terminal);
     let mut input = Watched::new(rt.stdin(), &progress);
-    let mut out = Cleared::new(rt.stdout(), &progress);
-    let mut told = Cleared::new(rt.stderr(), &progress);
+    let mut out = Cleared::new(Piped::new(rt.stdout(), &is_left), &progress);
+    let mut told = Cleared::new(Beside::new(rt.stderr(), &is_left), &progress);
     let hints = is_terminal;
-    if let Ok(Some(line)) = command.rounding(rt.alloc()) {
+    if let Ok(Some(line)) = rate_note(rt.alloc(), &command) {
         tell_text(&mut told, line.as_str());
     }
     let status = carry_out_command(
         &rt, &progress, command, hints, &mut input, &mut out, &mut told,
     );
     progress.clear();
-    ExitCode::from(status)
+    ExitCode::from(status_of(status, is_left.get()))
 }
 
 // The kind of terminal that the environment names, if it names one.

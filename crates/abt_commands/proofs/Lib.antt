@@ -1,3 +1,4 @@
+mod Elsewhere
 mod FilesTold
 mod MayPrint
 mod Results

@@ -4,7 +4,7 @@ use Rattle.std.specs.Io.KnownBytes.{Appends, Keeps}
 use Rattle.std.specs.Str.{bytes_eq}
 use Rattle.abt_text.specs.Streams.{AppendsPrefix}
 use Rattle.abt_text.specs.Text.{Text}
-use Rattle.abt_draw.specs.declared.plan.PicturePlan.{PicturePlan}
+use Rattle.abt_plans.specs.declared.picture.PicturePlan.{PicturePlan}
 use Rattle.abt_commands.specs.Saved.{IsFiled}
 
 -- `-` is the standard output

@@ -17,6 +17,7 @@ pub mod Runs
 pub mod Saved
 pub mod Single
 pub mod Steps
+pub mod Strict
 pub mod Threads
 pub mod ThreadsEvents
 pub mod ThreadsJournals

@@ -1,5 +1,5 @@
 -- What `abt play` leaves.
-use Rattle.std.specs.Prelude.{◌≡◌, ◌⊎◌, ⊤, ℕ, List, [], Option, MatchOption, string_bytes}
+use Rattle.std.specs.Prelude.{◌≡◌, ◌⊎◌, ⊤, ℕ, Bool, MatchBool, List, [], Option, MatchOption, string_bytes}
 use Rattle.std.specs.Option.{option_map}
 use Rattle.std.specs.Io.KnownBytes.{Keeps}
 use Rattle.abt_text.specs.Text.{Text}
@@ -7,16 +7,19 @@ use Rattle.abt_net.specs.Topology.{Topology}
 use Rattle.abt_model.specs.declared.event.Event.{Event}
 use Rattle.abt_draw.specs.Drawn.{TellsSome}
 use Rattle.abt_draw.specs.Pictures.{IsPicture}
-use Rattle.abt_draw.specs.declared.plan.PicturePlan.{PicturePlan}
+use Rattle.abt_plans.specs.declared.picture.PicturePlan.{PicturePlan}
 use Rattle.abt_draw.specs.declared.scene.Scene.{Scene}
 use Rattle.abt_perform.specs.Plans.{Tells}
 use Rattle.abt_play.specs.Performing.{EndsBy, IsPlayShown, show_line}
 use Rattle.abt_play.specs.declared.fault.ShowFault.{ShowFault}
 use Rattle.abt_play.specs.declared.performing.ScenarioPlay.{ScenarioPlay}
-use Rattle.abt_play.specs.declared.plan.PlayPlan.{PlayPlan}
+use Rattle.abt_plans.specs.declared.play.PlayPlan.{PlayPlan}
+use Rattle.abt_commands.specs.Advice.{TellsAdvice}
+use Rattle.abt_commands.specs.Besides.{IsDone, IsUndone}
 use Rattle.abt_commands.specs.Ends.{Ends, EndsOver, TakesText}
 use Rattle.abt_commands.specs.Opening.{TellsUnopened}
 use Rattle.abt_commands.specs.Saved.{IsFiled, IsSavedIfNamed, IsUnsavedIfNamed}
+use Rattle.abt_commands.specs.declared.advice.Runs.TheVariants.{Scripts}
 
 -- the file for the events
 abbrev pub events_file_of : PlayPlan → Option Text
@@ -93,5 +96,24 @@ IsUnplayed plan left old new told_old told_new =
 abbrev pub EndsPlayedOver : PlayPlan → (status : ℕ) → (left_old left_new old new told_old told_new : Option Text) → Type 0
 EndsPlayedOver plan = Ends TakesText (IsPlayed plan) (IsUnplayed plan)
 
-abbrev pub Plays : PlayPlan → (status : ℕ) → (left_old left_new old new told_old told_new : Option Text) → Type 0
-Plays plan = EndsOver (option_map string_bytes plan.file) TellsUnopened TakesText (IsPlayed plan) (IsUnplayed plan)
+abbrev pub PlaysPlain : PlayPlan → (status : ℕ) → (left_old left_new old new told_old told_new : Option Text) → Type 0
+PlaysPlain plan = EndsOver (option_map string_bytes plan.file) TellsUnopened TakesText (IsPlayed plan) (IsUnplayed plan)
+
+-- the same, and behind that advice is told
+abbrev pub IsPlayedAdvised : PlayPlan → (left old new told_old told_new : Option Text) → Type 0
+IsPlayedAdvised plan = IsDone (IsPlayed plan) (TellsAdvice Scripts (option_map string_bytes plan.file))
+
+abbrev pub IsUnplayedAdvised : PlayPlan → (left old new told_old told_new : Option Text) → Type 0
+IsUnplayedAdvised plan = IsUndone (IsUnplayed plan) (TellsAdvice Scripts (option_map string_bytes plan.file))
+
+abbrev pub EndsPlayedAdvised : PlayPlan → (status : ℕ) → (left_old left_new old new told_old told_new : Option Text) → Type 0
+EndsPlayedAdvised plan = Ends TakesText (IsPlayedAdvised plan) (IsUnplayedAdvised plan)
+
+abbrev pub PlaysAdvised : PlayPlan → (status : ℕ) → (left_old left_new old new told_old told_new : Option Text) → Type 0
+PlaysAdvised plan =
+    EndsOver (option_map string_bytes plan.file) TellsUnopened TakesText (IsPlayedAdvised plan) (IsUnplayedAdvised plan)
+
+abbrev pub Plays : (advised : Bool) → PlayPlan → (status : ℕ) → (left_old left_new old new told_old told_new : Option Text) → Type 0
+Plays advised plan status left_old left_new old new told_old told_new = MatchBool advised
+    (PlaysAdvised plan status left_old left_new old new told_old told_new)
+    (PlaysPlain plan status left_old left_new old new told_old told_new)

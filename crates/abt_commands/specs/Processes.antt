@@ -4,8 +4,8 @@ use Rattle.std.specs.Io.KnownBytes.{IsAtEnd, Keeps}
 use Rattle.abt_text.specs.Text.{Text}
 use Rattle.abt_keep.specs.Record.{KeptRecord}
 use Rattle.abt_live_files.specs.Served.{IsSourceServed, IsSourceUnserved, IsSwitchServed, IsSwitchUnserved}
-use Rattle.abt_live_files.specs.declared.plan.SourcePlan.{SourcePlan}
-use Rattle.abt_live_files.specs.declared.plan.SwitchPlan.{SwitchPlan}
+use Rattle.abt_plans.specs.declared.process.SourcePlan.{SourcePlan}
+use Rattle.abt_plans.specs.declared.process.SwitchPlan.{SwitchPlan}
 use Rattle.abt_commands.specs.Ends.{Ends, TakesAny}
 use Rattle.abt_commands.specs.Steps.{IsNetUnopened}
 

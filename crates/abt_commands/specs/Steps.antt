@@ -3,7 +3,7 @@ use Rattle.std.specs.Prelude.{◌⊎◌, ℕ, Option}
 use Rattle.std.specs.Io.KnownBytes.{Keeps}
 use Rattle.abt_text.specs.Text.{Text}
 use Rattle.abt_step.specs.Answered.{IsAnsweredAs, IsRefusedAs}
-use Rattle.abt_step.specs.declared.answer_form.AnswerForm.{AnswerForm}
+use Rattle.abt_plans.specs.declared.answer_form.AnswerForm.{AnswerForm}
 use Rattle.abt_commands.specs.Ends.{Ends, TakesAny}
 use Rattle.abt_commands.specs.Opening.{TellsUnopened}
 

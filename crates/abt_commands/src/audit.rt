@@ -2,13 +2,13 @@
 ghost use Rattle.std.specs.Prelude.{◌≡◌, ◌⊎◌, true, Any, IfErr, IfOk, IfSome, IsErr, IsOk, length, string_bytes};
 ghost use Rattle.std.specs.Io.KnownBytes.{Keeps};
 ghost use Rattle.abt_audit.specs.Parts.{IsSizedRun};
-ghost use Rattle.abt_commands.specs.Audits.{Audits, AuditsJournals, IsAuditedAs, IsUnaudited, TakesToAudit, are_none, events_file_of};
+ghost use Rattle.abt_commands.specs.Audits.{Audits, AuditsJournals, IsAuditedAs, IsPartSavedIfNamed, IsUnaudited, TakesToAudit, TellsUnsaved, are_none, events_file_of, form_of};
 ghost use Rattle.abt_commands.specs.Saved.{IsSavedIfNamed, IsUnsavedIfNamed};
 
 use crate::audit_picture::draw_audit;
 use crate::opening::{Unopened, Why, open_named};
 use crate::saving::save_if_named;
-use abt_audit::{AuditedRun, show_audit};
+use abt_audit::{AuditedRun, Form, show_audit, weave_part};
 use abt_cli::AuditCommand;
 use abt_journal_text::Run;
 use abt_perform::{MEMORY_LINE, tell_text};
@@ -36,7 +36,8 @@ pub(crate) fn audit<T: Files + AllocGlobal, R: Read, W: Write, E: Write, P: Writ
     }
 }
 
-// Audits journals, and writes the events to the file for them once all is shown. If it isn't shown that file is left as it was.
+// Audits journals, and writes the events to the file for them: all once they are shown, or those before the journals got stuck. If there are
+// none that file is left as it was.
 fn audit_journals<T: Files + AllocGlobal, R: Read, W: Write, E: Write, P: Write + Drop>(
     rt: &T,
     progress: &Progress<P>,
@@ -51,7 +52,34 @@ fn audit_journals<T: Files + AllocGlobal, R: Read, W: Write, E: Write, P: Write 
     match show_texts(rt, progress, command, input, out, errors) {
         Ok(run) => save_audited(rt, command, &run, errors),
         Err(left) => {
-            drop(left);
+            let _status = save_left(rt, command, &left, errors);
+            1
+        }
+    }
+}
+
+// Writes the events before journals got stuck to the file for them, if there is to be one and they did, or tells why not.
+pub(crate) fn save_left<T: Files + AllocGlobal, E: Write>(
+    rt: &T,
+    command: &AuditCommand,
+    left: &Option<Run>,
+    errors: &mut E,
+) -> u8
+    requires { IfSome left.now IsSizedRun }
+    ensures status { (result ≡ 0) ⊎ (result ≡ 1) }
+    ensures saved { result ≡ 0 → IfSome left.now (IsPartSavedIfNamed (events_file_of command.now)) }
+    ensures told { TellsUnsaved (events_file_of command.now) (E.contents errors.old) (E.contents errors.new) }
+{
+    let (Some(run), Some(_)) = (left, &command.events) else {
+        return 0;
+    };
+    match weave_part(rt.alloc(), run) {
+        Ok(part) => {
+            let events = part.events.as_slice();
+            save_if_named(rt, &command.events, &run.net, events, errors)
+        }
+        Err(_) => {
+            tell_text(errors, MEMORY_LINE);
             1
         }
     }
@@ -74,7 +102,7 @@ fn save_audited<T: Files + AllocGlobal, E: Write>(
     save_if_named(rt, &command.events, &run.net, events, errors)
 }
 
-// Audits journals and hands out the net and the events. `Err`: a line on `errors` tells why there are none; it has
+// Audits journals and hands out the net and the events. `Err`: it is told why there are none, in the form that the command names; it has
 // the run whose journals are stuck, if they are.
 pub(crate) fn show_texts<T: Files + AllocGlobal, R: Read, W: Write, E: Write, P: Write + Drop>(
     rt: &T,
@@ -85,20 +113,21 @@ pub(crate) fn show_texts<T: Files + AllocGlobal, R: Read, W: Write, E: Write, P:
     errors: &mut E,
 ) -> Result<AuditedRun, Option<Run>>
     ensures reads { TakesToAudit command.now.files.items (R.remaining input.old) (R.remaining input.new) }
-    ensures ok { IfOk result (IsAuditedAs command.now.files.items (R.remaining input.old)
-        (W.contents out.old) (W.contents out.new)) }
+    ensures ok { IfOk result (IsAuditedAs (form_of command.now.json) command.now.files.items
+        (R.remaining input.old) (W.contents out.old) (W.contents out.new)) }
     ensures quiet { IsOk result → Keeps (E.contents errors.old) (E.contents errors.new) }
     ensures sized { IfErr result (λ left. IfSome left IsSizedRun) }
     ensures err { IsErr result →
-        IsUnaudited command.now.files.items (R.remaining input.old) (W.contents out.old) (W.contents out.new)
-        (E.contents errors.old) (E.contents errors.new) }
+        IsUnaudited (form_of command.now.json) command.now.files.items (R.remaining input.old)
+        (W.contents out.old) (W.contents out.new) (E.contents errors.old) (E.contents errors.new) }
 {
+    let form = form_of(command.json);
     let names = command.files.as_slice();
     if names.is_empty() {
-        return show_input(rt.alloc(), names, input, out, errors);
+        return show_input(rt.alloc(), form, names, input, out, errors);
     }
     match open_all(rt, progress, names) {
-        Ok(files) => show_audit(rt.alloc(), names, files, out, errors),
+        Ok(files) => show_audit(rt.alloc(), form, names, files, out, errors),
         Err(unopened) => {
             let _status = unopened.tell(errors);
             Err(None)
@@ -106,21 +135,29 @@ pub(crate) fn show_texts<T: Files + AllocGlobal, R: Read, W: Write, E: Write, P:
     }
 }
 
+// The form in which it is told what an audit finds.
+pub(crate) fn form_of(json: bool) -> Form
+    ensures { result ≡ form_of json }
+{
+    if json { Form::Json } else { Form::Words }
+}
+
 // Audits the journals of the input that is there, where no file is named, and hands out the net and the events.
 fn show_input<R: Read, W: Write, E: Write>(
     alloc: Global,
+    form: Form,
     names: &[String],
     input: &mut R,
     out: &mut W,
     errors: &mut E,
 ) -> Result<AuditedRun, Option<Run>>
     requires { are_none names.now ≡ true }
-    ensures ok { IfOk result (IsAuditedAs names.now (R.remaining input.old) (W.contents out.old)
+    ensures ok { IfOk result (IsAuditedAs form names.now (R.remaining input.old) (W.contents out.old)
         (W.contents out.new)) }
     ensures quiet { IsOk result → Keeps (E.contents errors.old) (E.contents errors.new) }
     ensures sized { IfErr result (λ left. IfSome left IsSizedRun) }
     ensures err { IsErr result →
-        IsUnaudited names.now (R.remaining input.old) (W.contents out.old) (W.contents out.new)
+        IsUnaudited form names.now (R.remaining input.old) (W.contents out.old) (W.contents out.new)
         (E.contents errors.old) (E.contents errors.new) }
 {
     let mut readers = Vec::new(alloc);
@@ -128,7 +165,7 @@ fn show_input<R: Read, W: Write, E: Write>(
         tell_text(errors, MEMORY_LINE);
         return Err(None);
     }
-    show_audit(alloc, names, readers, out, errors)
+    show_audit(alloc, form, names, readers, out, errors)
 }
 
 // The files of these names, in their order, counted as they are read; or the first that can't be read.

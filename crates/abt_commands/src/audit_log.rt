@@ -4,7 +4,7 @@ ghost use Rattle.std.specs.Io.KnownBytes.{Keeps};
 ghost use Rattle.abt_commands.specs.Audits.{TakesToAudit, are_none};
 ghost use Rattle.abt_commands.specs.AuditsLog.{AuditsLog, IsLogAudited, IsLogRefused};
 
-use crate::audit::open_all;
+use crate::audit::{form_of, open_all};
 use abt_audit::perform_log_audit;
 use abt_cli::LogCommand;
 use abt_perform::{MEMORY_LINE, tell_text};
@@ -49,7 +49,10 @@ fn judge_texts<T: Files + AllocGlobal, R: Read, W: Write, E: Write, P: Write + D
         return judge_input(rt.alloc(), command, input, out, errors);
     }
     match open_all(rt, progress, names) {
-        Ok(files) => perform_log_audit(rt.alloc(), names, files, command.actor, out, errors),
+        Ok(files) => {
+            let form = form_of(command.json);
+            perform_log_audit(rt.alloc(), form, names, files, command.actor, out, errors)
+        }
         Err(unopened) => unopened.tell(errors),
     }
 }
@@ -76,5 +79,6 @@ fn judge_input<R: Read, W: Write, E: Write>(
         return 1;
     }
     let names = command.files.as_slice();
-    perform_log_audit(alloc, names, readers, command.actor, out, errors)
+    let form = form_of(command.json);
+    perform_log_audit(alloc, form, names, readers, command.actor, out, errors)
 }

@@ -1,12 +1,12 @@
 //! `abt audit --draw`.
-ghost use Rattle.std.specs.Prelude.{◌≡◌, ◌⊎◌, IfOk};
+ghost use Rattle.std.specs.Prelude.{◌≡◌, ◌⊎◌, IfOk, IfSome};
 ghost use Rattle.std.specs.Io.KnownBytes.{Keeps};
 ghost use Rattle.abt_audit.specs.Parts.{IsSizedRun};
 ghost use Rattle.abt_draw.specs.Drawn.{TellsSome};
 ghost use Rattle.abt_commands.specs.Audits.{DrawsAudit, IsPartDrawn, events_file_of};
 ghost use Rattle.abt_commands.specs.Saved.{IsSavedIfNamed};
 
-use crate::audit::show_texts;
+use crate::audit::{save_left, show_texts};
 use crate::draw_threads::keep_events;
 use crate::picture_file::keep_picture;
 use abt_audit::{AuditedRun, Mark, marks_of, weave_part};
@@ -20,8 +20,8 @@ use std::alloc::{AllocError, AllocGlobal, Global};
 use std::io::{Read, Write};
 use std::rt::Files;
 
-// Audits journals as without a picture, and gives the exit status. Once all is shown it writes the events
-// and draws them; if journals got stuck, it draws the events before that.
+// Audits journals, and gives the exit status. Once all is shown it writes the events and draws them; if journals got stuck, it does so with
+// the events before that.
 pub(crate) fn draw_audit<T: Files + AllocGlobal, R: Read, W: Write, E: Write, P: Write + Drop>(
     rt: &T,
     progress: &Progress<P>,
@@ -36,11 +36,11 @@ pub(crate) fn draw_audit<T: Files + AllocGlobal, R: Read, W: Write, E: Write, P:
 {
     match show_texts(rt, progress, command, input, out, errors) {
         Ok(run) => keep_audited(rt, command, picture, &run, errors),
-        Err(Some(run)) => {
-            let _status = draw_part(rt, picture, command.files.as_slice(), &run, errors);
+        Err(left) => {
+            let _saved = save_left(rt, command, &left, errors);
+            let _drawn = draw_left(rt, picture, command.files.as_slice(), &left, errors);
             1
         }
-        Err(None) => 1,
     }
 }
 
@@ -58,6 +58,25 @@ fn keep_audited<T: Files + AllocGlobal, E: Write>(
 {
     let events = run.audited.events.as_slice();
     keep_events(rt, &command.events, picture, &run.net, events, errors)
+}
+
+// Draws the events before journals got stuck, if they did, or tells why not.
+fn draw_left<T: Files + AllocGlobal, E: Write>(
+    rt: &T,
+    picture: &PicturePlan,
+    names: &[String],
+    left: &Option<Run>,
+    errors: &mut E,
+) -> u8
+    requires { IfSome left.now IsSizedRun }
+    ensures status { (result ≡ 0) ⊎ (result ≡ 1) }
+    ensures quiet { result ≡ 0 → Keeps (E.contents errors.old) (E.contents errors.new) }
+    ensures told { result ≡ 1 → TellsSome (E.contents errors.old) (E.contents errors.new) }
+{
+    match left {
+        Some(run) => draw_part(rt, picture, names, run, errors),
+        None => 0,
+    }
 }
 
 // Draws the events before a run's journals got stuck, or tells why not.

@@ -25,7 +25,7 @@ use abt_parts::PartsPlan;
 use abt_progress::Progress;
 use std::alloc::AllocGlobal;
 use std::io::{Read, Write};
-use std::rt::Files;
+use std::rt::{Clock, Files};
 use std::sync::Wait;
 use std::thread::Threads;
 
@@ -43,7 +43,7 @@ pub fn carry_out_command<T, R: Read, W: Write, E: Write, P: Write + Drop>(
     errors: &mut E,
 ) -> u8
 where
-    T: Files + AllocGlobal + Stores + Threads + Wait + Sync,
+    T: Files + AllocGlobal + Clock + Stores + Threads + Wait + Sync,
     requires { IsAllowed command }
     ensures { IsCarriedOut T.Store.content T.File.contents advised command result
         (R.remaining input.old) (R.remaining input.new) (W.contents out.old) (W.contents out.new)
@@ -62,9 +62,10 @@ where
             file,
             json,
             explain,
+            strict,
             quiet: _,
         } => run(
-            rt, progress, &file, json, explain, advised, input, out, errors,
+            rt, progress, &file, strict, json, explain, advised, input, out, errors,
         ),
         Command::Threads(command) => {
             threads(rt, progress, &command, advised, input, out, errors)
@@ -73,7 +74,7 @@ where
             file,
             json,
             quiet: _,
-        } => explain(rt, progress, &file, json, input, out, errors),
+        } => explain(rt, progress, &file, json, advised, input, out, errors),
         Command::Check(command) => check(rt, progress, &command, input, out, errors),
         Command::Audit(command) => audit(rt, progress, &command, input, out, errors),
         Command::AuditLog(command) => audit_log(rt, progress, &command, input, out, errors),
@@ -97,14 +98,14 @@ where
             errors,
         ),
         Command::Step { file, form } => step(rt, file.as_str(), form, input, out, errors),
-        Command::Play(plan) => play(rt, progress, &plan, input, out, errors),
+        Command::Play(plan) => play(rt, progress, &plan, advised, input, out, errors),
         Command::Code { rate, json } => {
             say_codes(alloc, CodesPlan::Code(rate), json, input, out, errors)
         }
         Command::Write { words, json } => {
             say_codes(alloc, CodesPlan::Write(words), json, input, out, errors)
         }
-        Command::Draw(command) => draw(rt, progress, &command, input, out, errors),
+        Command::Draw(command) => draw(rt, progress, &command, advised, input, out, errors),
         Command::Switch(plan) => switch(rt, &plan, input, out, errors),
         Command::Source(plan) => source(rt, &plan, input, out, errors),
     }

@@ -1,12 +1,13 @@
 //! `abt play`.
 ghost use Rattle.std.specs.Prelude.{◌≡◌, ◌⊎◌};
 ghost use Rattle.std.specs.Io.KnownBytes.{Keeps};
-ghost use Rattle.abt_commands.specs.Plays.{EndsPlayedOver, IsKept, IsNotBoth, IsPictured, IsUnkept, IsUnsaved, Plays, events_file_of};
+ghost use Rattle.abt_commands.specs.Plays.{EndsPlayedOver, IsKept, IsNotBoth, IsPictured, IsUnkept, IsUnsaved, Plays, PlaysPlain, events_file_of};
 ghost use Rattle.abt_commands.specs.Saved.{IsSavedIfNamed};
 ghost use Rattle.abt_draw.specs.Drawn.{TellsSome};
 
 use crate::input::{Input, opened};
 use crate::picture_file::keep_picture;
+use crate::play_advised::play_advised;
 use crate::saving::save_if_named;
 use abt_draw::{PicturePlan, Scene, picture_of};
 use abt_play::{PlayPlan, ScenarioPlay, show_play, tell_show_fault};
@@ -15,9 +16,28 @@ use std::alloc::AllocGlobal;
 use std::io::{Read, Write};
 use std::rt::Files;
 
-// Plays the scenario of the file that a plan names, or else of the input that is there, writes and draws its events as the plan says, and
-// gives the exit status.
+// Plays the scenario of the file that a plan names, or else of the input that is there, writes and draws its events as the plan says, gives
+// advice besides, and gives the exit status.
 pub(crate) fn play<T: Files + AllocGlobal, R: Read, W: Write, E: Write, P: Write + Drop>(
+    rt: &T,
+    progress: &Progress<P>,
+    plan: &PlayPlan,
+    advised: bool,
+    input: &mut R,
+    out: &mut W,
+    errors: &mut E,
+) -> u8
+    ensures { Plays advised plan.now result (R.remaining input.old) (R.remaining input.new)
+        (W.contents out.old) (W.contents out.new) (E.contents errors.old) (E.contents errors.new) }
+{
+    if advised {
+        return play_advised(rt, progress, plan, input, out, errors);
+    }
+    play_plain(rt, progress, plan, input, out, errors)
+}
+
+// Plays it, and gives no advice.
+fn play_plain<T: Files + AllocGlobal, R: Read, W: Write, E: Write, P: Write + Drop>(
     rt: &T,
     progress: &Progress<P>,
     plan: &PlayPlan,
@@ -25,18 +45,18 @@ pub(crate) fn play<T: Files + AllocGlobal, R: Read, W: Write, E: Write, P: Write
     out: &mut W,
     errors: &mut E,
 ) -> u8
-    ensures { Plays plan.now result (R.remaining input.old) (R.remaining input.new)
+    ensures { PlaysPlain plan.now result (R.remaining input.old) (R.remaining input.new)
         (W.contents out.old) (W.contents out.new) (E.contents errors.old) (E.contents errors.new) }
 {
     match opened(rt, progress, &plan.file) {
-        Ok(Input::Here) => over_reader(rt, plan, input, out, errors),
-        Ok(Input::File(mut file)) => over_reader(rt, plan, &mut file, out, errors),
+        Ok(Input::Here) => play_from(rt, plan, input, out, errors),
+        Ok(Input::File(mut file)) => play_from(rt, plan, &mut file, out, errors),
         Err(unopened) => unopened.tell(errors),
     }
 }
 
 // Plays the scenario that a reader has left, and writes and draws its events as the plan says.
-fn over_reader<T: Files + AllocGlobal, R: Read, W: Write, E: Write>(
+pub(crate) fn play_from<T: Files + AllocGlobal, R: Read, W: Write, E: Write>(
     rt: &T,
     plan: &PlayPlan,
     reader: &mut R,

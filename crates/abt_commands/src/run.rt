@@ -3,6 +3,7 @@ ghost use Rattle.abt_commands.specs.Runs.{Runs, RunsAsJson, RunsPlain};
 
 use crate::input::{Input, opened};
 use crate::run_besides::{run_advised, run_checked};
+use crate::run_strict::run_strict;
 use abt_json::{JsonPlan, perform_json};
 use abt_perform::{Plan, perform};
 use abt_progress::Progress;
@@ -10,12 +11,13 @@ use std::alloc::AllocGlobal;
 use std::io::{Read, Write};
 use std::rt::Files;
 
-// Runs the scenario of a file, or else of the input that is there, reports on it in lines or as JSON, or checks it or gives advice
+// Runs the scenario of a file, or else of the input that is there, reports on it in lines or as JSON, checks it, gives advice or is strict
 // besides, and gives the exit status.
 pub(crate) fn run<T: Files + AllocGlobal, R: Read, W: Write, E: Write, P: Write + Drop>(
     rt: &T,
     progress: &Progress<P>,
     file: &Option<String>,
+    strict: bool,
     json: bool,
     explain: bool,
     advised: bool,
@@ -23,9 +25,12 @@ pub(crate) fn run<T: Files + AllocGlobal, R: Read, W: Write, E: Write, P: Write 
     out: &mut W,
     errors: &mut E,
 ) -> u8
-    ensures { Runs json explain advised file.now result (R.remaining input.old) (R.remaining input.new)
+    ensures { Runs strict json explain advised file.now result (R.remaining input.old) (R.remaining input.new)
         (W.contents out.old) (W.contents out.new) (E.contents errors.old) (E.contents errors.new) }
 {
+    if strict {
+        return run_strict(rt, progress, file, json, input, out, errors);
+    }
     if json {
         return run_as_json(rt, progress, file, input, out, errors);
     }

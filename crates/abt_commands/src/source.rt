@@ -5,10 +5,10 @@ use crate::opening::open_named;
 use abt_live_files::{SourcePlan, Stores, perform_source};
 use std::alloc::AllocGlobal;
 use std::io::{Read, Write};
-use std::rt::Files;
+use std::rt::{Clock, Files};
 
 // Answers the lines of the input by the source of a connection of the net of a file, over a store and a journal, and gives the exit status.
-pub(crate) fn source<T: Files + AllocGlobal + Stores, R: Read, W: Write, E: Write>(
+pub(crate) fn source<T: Files + AllocGlobal + Clock + Stores, R: Read, W: Write, E: Write>(
     rt: &T,
     plan: &SourcePlan,
     input: &mut R,

@@ -12,12 +12,20 @@ use Rattle.abt_perform.specs.declared.fault.Fault.{Fault}
 use Rattle.abt_places.specs.Placed.{IsPlacedIn}
 use Rattle.abt_places.specs.declared.placed.Placed.{Placed}
 use Rattle.abt_reason.specs.Explanation.{IsExplanation}
+use Rattle.abt_explain.specs.Written.{AddsWritten}
 
--- The text explains the scenario that was read, with the lines of its events.
+-- The text explains a scenario's run, with the lines of its events, and tells behind that which asks for rate 0 the source writes by another
+-- code.
+pub record IsWrittenBehind (placed : Placed) (source text : Text) : Type 0 where
+  pub explanation : Text
+  pub explained : IsExplanation placed.scenario.net placed.lines.items placed.scenario.events explanation
+  pub written : AddsWritten source placed.scenario.events explanation text
+
+-- So the text explains the scenario that was read.
 pub record IsExplanationOf (left : Option Text) (text : Text) : Type 0 where
   pub placed : Placed
   pub read : IfSome left (IsPlacedIn placed)
-  pub explained : IsExplanation placed.scenario.net placed.lines.items placed.scenario.events text
+  pub explained : IfSome left (λ source. IsWrittenBehind placed source text)
 
 -- That explanation went out, and nothing else.
 pub record IsExplained (left old new : Option Text) : Type 0 where

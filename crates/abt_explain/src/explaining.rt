@@ -1,16 +1,17 @@
 //! Scenarios from any reader, explanations to any writer.
-ghost use Rattle.std.specs.Prelude.{◌≡◌, ◌≢◌, ◌⊎◌, ◌+◌, IfOk, IfErr, IfSome, OnOk, string_bytes};
+ghost use Rattle.std.specs.Prelude.{◌≡◌, ◌≢◌, ◌⊎◌, ◌+◌, Some, IfOk, IfErr, IfSome, OnOk, string_bytes};
 ghost use Rattle.std.specs.Io.KnownBytes.{Keeps};
 ghost use Rattle.abt_reason.specs.Explanation.{IsExplanation};
 ghost use Rattle.abt_text.specs.Streams.{ConsumesAtMost, text_max};
-ghost use Rattle.abt_scenario.specs.Engine.{Explains};
-ghost use Rattle.abt_explain.specs.Explained.{IsExplanationOf, IsExplained, IsRefused, Leaves};
+ghost use Rattle.abt_scenario.specs.Engine.{Explains, IsOfLength};
+ghost use Rattle.abt_explain.specs.Explained.{IsExplanationOf, IsExplained, IsRefused, IsWrittenBehind, Leaves};
 
+use crate::written::push_written;
 use abt_perform::{Fault, tell_fault};
 use abt_places::{Placed, read_placed};
 use abt_reason::explanation_of;
 use abt_scenario::EngineFault;
-use abt_text::put;
+use abt_text::{TextFault, octets_of, put};
 use std::alloc::{AllocError, Global};
 use std::io::{Read, Write};
 
@@ -41,11 +42,40 @@ fn explained_from<R: Read>(alloc: Global, reader: &mut R) -> Result<String, Engi
     ensures reads { IfErr result (λ fault. fault ≢ EngineFault.Write) }
     ensures stops { ConsumesAtMost (R.remaining reader.old) (R.remaining reader.new) (text_max + 1) }
 {
-    let placed = read_placed(alloc, reader)?;
-    match explanation_in(alloc, &placed) {
+    match octets_of(alloc, reader) {
+        Ok(octets) => explained_in(alloc, octets.as_slice()),
+        Err(TextFault::Read) => Err(EngineFault::Read),
+        Err(TextFault::TooLong) => Err(EngineFault::TooLong),
+        Err(TextFault::Memory) => Err(EngineFault::Memory),
+    }
+}
+
+// The explanation of the scenario of a text.
+fn explained_in(alloc: Global, octets: &[u8]) -> Result<String, EngineFault>
+    requires { IsOfLength octets.now }
+    ensures ok { IfOk result (λ text. IsExplanationOf (Some octets.now) (string_bytes text)) }
+    ensures err { IfErr result (λ fault. Explains fault octets.now) }
+    ensures reads { IfErr result (λ fault. fault ≢ EngineFault.Write) }
+{
+    let Ok(source) = std::str::from_utf8(octets) else {
+        return Err(EngineFault::NotUtf8);
+    };
+    let mut left = octets;
+    let placed = read_placed(alloc, &mut left)?;
+    match written_in(alloc, &placed, source) {
         Ok(text) => Ok(text),
         Err(_) => Err(EngineFault::Memory),
     }
+}
+
+// The explanation of a scenario's run, and behind it the asks that its text writes by another code.
+fn written_in(alloc: Global, placed: &Placed, source: &str) -> Result<String, AllocError>
+    ensures { IfOk result (λ text. IsWrittenBehind placed.now source.now (string_bytes text)) }
+{
+    let mut text = explanation_in(alloc, placed)?;
+    let events = placed.scenario.events.as_slice();
+    push_written(alloc, &mut text, source, events)?;
+    Ok(text)
 }
 
 // The explanation of a scenario's run, with the lines of its events.

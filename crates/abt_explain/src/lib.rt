@@ -4,6 +4,7 @@
 mod answers;
 mod explaining;
 mod telling;
+mod written;
 
 pub use explaining::{explain_text, perform_explain};
 pub use telling::{tell_events, told_text};

@@ -2,7 +2,7 @@
 ghost use Rattle.std.specs.Prelude.{◌≡◌, true, map};
 ghost use Rattle.abt_audit.specs.Performing.{IsShownWhole};
 
-use abt_audit::perform_audit;
+use abt_audit::{Form, perform_audit};
 use std::alloc::Global;
 use std::io::{Read, Write};
 
@@ -14,9 +14,9 @@ pub fn is_one_run<R: Read + Drop, W: Write, E: Write>(
     writer: &mut W,
     errors: &mut E,
 ) -> bool
-    ensures { result ≡ true → IsShownWhole (map R.remaining readers.items) (W.contents writer.old)
+    ensures { result ≡ true → IsShownWhole Form.Words (map R.remaining readers.items) (W.contents writer.old)
         (W.contents writer.new) }
 {
-    let status = perform_audit(alloc, names, readers, writer, errors);
+    let status = perform_audit(alloc, Form::Words, names, readers, writer, errors);
     status == 0
 }

@@ -1,7 +1,7 @@
 //! Commands in words.
 use abt_cli::{AuditCommand, CheckCommand, Command, DrawCommand, LogCommand, ThreadsCommand};
 use abt_codes::{Kind, MessageWords};
-use abt_draw::PicturePlan;
+use abt_draw::{PictureForm, PicturePlan};
 use abt_play::PlayPlan;
 use abt_weave::Actor;
 use std::alloc::Global;
@@ -32,11 +32,17 @@ pub(super) fn told(alloc: Global, command: &Command) -> Result<String, Fail> {
             file,
             json,
             explain,
+            strict,
             quiet,
         } => flagged(
             alloc,
             &["run", named(file)],
-            &[("json", *json), ("explain", *explain), ("quiet", *quiet)],
+            &[
+                ("json", *json),
+                ("explain", *explain),
+                ("strict", *strict),
+                ("quiet", *quiet),
+            ],
         ),
         Command::Threads(command) => threads_told(alloc, command),
         Command::Explain { file, json, quiet } => flagged(
@@ -127,7 +133,11 @@ fn audit_told(alloc: Global, command: &AuditCommand) -> Result<String, Fail> {
         }
         None => format!(in alloc; "audit {files} {events}")?,
     };
-    flagged(alloc, &[text.as_str()], &[("quiet", command.quiet)])
+    flagged(
+        alloc,
+        &[text.as_str()],
+        &[("json", command.json), ("quiet", command.quiet)],
+    )
 }
 
 fn log_told(alloc: Global, command: &LogCommand) -> Result<String, Fail> {
@@ -137,7 +147,11 @@ fn log_told(alloc: Global, command: &LogCommand) -> Result<String, Fail> {
         Actor::Source(source) => ("source", source),
     };
     let text = format!(in alloc; "audit {kind} {number} {files}")?;
-    flagged(alloc, &[text.as_str()], &[("quiet", command.quiet)])
+    flagged(
+        alloc,
+        &[text.as_str()],
+        &[("json", command.json), ("quiet", command.quiet)],
+    )
 }
 
 fn draw_told(alloc: Global, command: &DrawCommand) -> Result<String, Fail> {
@@ -189,7 +203,11 @@ fn message_told(alloc: Global, words: &MessageWords) -> Result<String, Fail> {
 
 // What a picture shows: its kind, its file, its connections, and its events, 0 where none is named.
 fn picture_told(alloc: Global, picture: &PicturePlan) -> Result<String, Fail> {
-    let kind = if picture.page { "page" } else { "picture" };
+    let kind = match picture.form {
+        PictureForm::Svg => "picture",
+        PictureForm::Page => "page",
+        PictureForm::Text => "text",
+    };
     let out = picture.out.as_str();
     let from = picture.from.unwrap_or(0);
     let to = picture.to.unwrap_or(0);

@@ -7,7 +7,7 @@ use std::process::Abort;
 use std::test::Fail;
 
 // Words behind the program's name, and the command that they ask for, as `told` says it. A field that is empty is told as `-`.
-const ROWS: [(&str, &str); 47] = [
+const ROWS: [(&str, &str); 51] = [
     ("rate 53e8", "rate 53e8"),
     ("rate 53e8 --json", "rate 53e8 json"),
     ("rate --json 53e8", "rate 53e8 json"),
@@ -25,6 +25,8 @@ const ROWS: [(&str, &str); 47] = [
     ("run a.toml", "run a.toml"),
     ("run a.toml --json", "run a.toml json"),
     ("run a.toml --explain", "run a.toml explain"),
+    ("run a.toml --strict", "run a.toml strict"),
+    ("run --strict --json a.toml", "run a.toml json strict"),
     ("run --quiet", "run - quiet"),
     ("run --explain --quiet a.toml", "run a.toml explain quiet"),
     ("threads --workers 4", "threads - 4 - -"),
@@ -71,6 +73,7 @@ const ROWS: [(&str, &str); 47] = [
     ("audit a.jsonl b.jsonl", "audit a.jsonl,b.jsonl -"),
     ("audit a.jsonl --events e.toml", "audit a.jsonl e.toml"),
     ("audit --quiet a.jsonl", "audit a.jsonl - quiet"),
+    ("audit --json a.jsonl", "audit a.jsonl - json"),
     (
         "audit a.jsonl --draw d.svg",
         "audit a.jsonl - picture d.svg - 0 0",
@@ -88,10 +91,11 @@ const ROWS: [(&str, &str); 47] = [
         "audit --quiet a.jsonl --source 007",
         "audit source 7 a.jsonl quiet",
     ),
+    ("audit --json a.jsonl --port 1", "audit port 1 a.jsonl json"),
 ];
 
 // The same of parts by hand, nets that are asked line by line, plays, pictures and processes.
-const OTHER_ROWS: [(&str, &str); 37] = [
+const OTHER_ROWS: [(&str, &str); 38] = [
     ("police --tau 200 --rate 53e8", "police 200 512000"),
     ("police --rate 1000cps --tau 0", "police 0 512000"),
     ("police --rate 1000.5cps --tau 2ns", "police 2000 512000"),
@@ -156,6 +160,10 @@ const OTHER_ROWS: [(&str, &str); 37] = [
         "draw a.toml - - page d.html - 0 0",
     ),
     (
+        "draw a.toml --output d.txt",
+        "draw a.toml - - text d.txt - 0 0",
+    ),
+    (
         "draw a.toml -o d.svg --only 7",
         "draw a.toml - - picture d.svg 7 0 0",
     ),
@@ -190,6 +198,7 @@ const REFUSED: [&str; 62] = [
     "port 7 00 --stdin",
     "code 1.3Mbps --quiet",
     "run --json --explain",
+    "run --strict --explain",
     "run --journals j.jsonl",
     "threads --workers 4 --json --explain",
     "threads --workers 4 --json --events e.toml",
@@ -210,7 +219,7 @@ const REFUSED: [&str; 62] = [
     "audit --events d.svg --draw d.svg",
     "audit --events -",
     "audit --draw -",
-    "audit --draw d.txt",
+    "audit --draw d.png",
     "audit --only 0",
     "audit --draw d.svg --from 0",
     "audit --draw d.svg --only 0,",
@@ -222,7 +231,6 @@ const REFUSED: [&str; 62] = [
     "audit --port 0 --source 0",
     "audit --port 0 --events e.toml",
     "audit --source 0 --draw d.svg",
-    "audit --source 0 --json",
     "police --tau 1000000000001 --rate 53e8",
     "police --tau 200",
     "shape --rate 53e",
@@ -236,7 +244,7 @@ const REFUSED: [&str; 62] = [
     "play d.svg --seed 1 --draw d.svg",
     "play --seed 1 --events d.svg --draw d.svg",
     "play --seed 1 --draw -",
-    "play --seed 1 --draw d.txt",
+    "play --seed 1 --draw d.png",
     "play --seed 1 --only 0",
     "play --seed 1 --draw d.svg --from 0",
     "write maybe 1 2 3 0000 5258",

@@ -9,7 +9,7 @@ use std::process::Abort;
 use std::test::Fail;
 
 // Words behind the program's name, and the command that they ask for, as `told` says it.
-const ROWS: [(&str, &str); 7] = [
+const ROWS: [(&str, &str); 9] = [
     (
         "switch a.toml --port 0 --journal j.jsonl",
         "switch a.toml 0 j.jsonl",
@@ -38,10 +38,18 @@ const ROWS: [(&str, &str); 7] = [
         "source a.toml 0 --store s --journal ./s",
         "source a.toml 0 s ./s",
     ),
+    (
+        "source a.toml 0 --store s --journal j.jsonl --clock 0",
+        "source a.toml 0 s j.jsonl from 0",
+    ),
+    (
+        "source --clock 9999999999999999999 a.toml 0 --store s --journal j.jsonl",
+        "source a.toml 0 s j.jsonl from 9999999999999999999",
+    ),
 ];
 
 // Words that are refused.
-const REFUSED: [&str; 18] = [
+const REFUSED: [&str; 21] = [
     "switch a.toml --journal j.jsonl",
     "switch a.toml --port 0",
     "switch --port 0 --journal j.jsonl",
@@ -60,6 +68,9 @@ const REFUSED: [&str; 18] = [
     "source a.toml 0 --store s --journal s --new",
     "source a.toml 0 --store - --journal j.jsonl",
     "source a.toml 0 --store s --journal -",
+    "source a.toml 0 --store s --journal j.jsonl --clock",
+    "source a.toml 0 --store s --journal j.jsonl --clock 1s",
+    "source a.toml 0 --store s --journal j.jsonl --clock 10000000000000000000",
 ];
 
 #[test]
@@ -121,6 +132,7 @@ fn switch_told(alloc: Global, plan: &SwitchPlan) -> Result<String, Fail> {
 fn source_told(alloc: Global, plan: &SourcePlan) -> Result<String, Fail> {
     let conn = plan.conn;
     let conn = format!(in alloc; "{conn}")?;
+    let epoch = epoch_told(alloc, plan.epoch)?;
     flagged(
         alloc,
         &[
@@ -130,6 +142,17 @@ fn source_told(alloc: Global, plan: &SourcePlan) -> Result<String, Fail> {
             plan.store.as_str(),
             plan.journal.as_str(),
         ],
-        &[("new", plan.is_new), ("binary", plan.is_binary)],
+        &[
+            ("new", plan.is_new),
+            ("binary", plan.is_binary),
+            (epoch.as_str(), plan.epoch.is_some()),
+        ],
     )
+}
+
+fn epoch_told(alloc: Global, epoch: Option<u64>) -> Result<String, Fail> {
+    match epoch {
+        Some(epoch) => Ok(format!(in alloc; "from {epoch}")?),
+        None => Ok(String::new(alloc)),
+    }
 }

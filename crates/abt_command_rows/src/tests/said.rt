@@ -22,17 +22,46 @@ const AGAIN: &str = "ports = [512000]\n\
     tau = 200\n";
 
 /// What its run answers.
-const AGAIN_SAID: &str = "{\"event\":1,\"outcome\":\"started\"}\n\
-    {\"event\":2,\"outcome\":\"asked\",\"seq\":1,\"floor\":\"0000\",\"ask\":\"5120\"}\n\
-    {\"event\":3,\"outcome\":\"passed\"}\n\
-    {\"event\":4,\"outcome\":\"turned\"}\n\
-    {\"event\":5,\"outcome\":\"passed\"}\n\
-    {\"event\":6,\"outcome\":\"asked\",\"seq\":2,\"floor\":\"0000\",\"ask\":\"5258\"}\n\
-    {\"event\":7,\"outcome\":\"told\",\"heard\":\"Ignored\"}\n\
-    {\"event\":8,\"outcome\":\"refused\",\"fault\":\"Zero\"}\n\
-    {\"connection\":0,\"rate\":\"0000\",\"held\":[\"5120\"]}\n\
-    {\"port\":0,\"total\":204800,\"capacity\":512000}\n\
-    {\"safe\":true}\n";
+const AGAIN_SAID: &str = "{\"kind\":\"event\",\"event\":1,\"outcome\":\"started\"}\n\
+    {\"kind\":\"event\",\"event\":2,\"outcome\":\"asked\",\"seq\":1,\"floor\":\"0000\",\"ask\":\"5120\"}\n\
+    {\"kind\":\"event\",\"event\":3,\"outcome\":\"passed\"}\n\
+    {\"kind\":\"event\",\"event\":4,\"outcome\":\"turned\"}\n\
+    {\"kind\":\"event\",\"event\":5,\"outcome\":\"passed\"}\n\
+    {\"kind\":\"event\",\"event\":6,\"outcome\":\"asked\",\"seq\":2,\"floor\":\"0000\",\"ask\":\"5258\"}\n\
+    {\"kind\":\"event\",\"event\":7,\"outcome\":\"told\",\"heard\":\"Ignored\"}\n\
+    {\"kind\":\"event\",\"event\":8,\"outcome\":\"refused\",\"fault\":\"Zero\"}\n\
+    {\"kind\":\"connection\",\"connection\":0,\"rate\":\"0000\",\"held\":[\"5120\"]}\n\
+    {\"kind\":\"port\",\"port\":0,\"total\":204800,\"capacity\":512000}\n\
+    {\"kind\":\"end\",\"safe\":true}\n";
+
+/// A cell that is sent at 2^53 + 1, over a link of the greatest capacity.
+const LATE: &str = "ports = [1152921504606846976]\n\
+    events = [\n\
+      \"start 0 0\", \"ask 0 53e8\", \"request 0 1 1\", \"turn 0 1\", \"yes 0 1 1\", \"told-yes 0 1\",\n\
+      \"emit 0 9007199254740993\", \"emit 0 9007199254740993\",\n\
+    ]\n\
+    [[connection]]\n\
+    vpi = 1\n\
+    vci = 100\n\
+    path = [0]\n\
+    delay = 1000\n\
+    tau = 200\n";
+
+/// What is said of it: a number above 2^53 stands behind itself as a text.
+const LATE_SAID: &str = "{\"kind\":\"event\",\"event\":1,\"outcome\":\"started\"}\n\
+    {\"kind\":\"event\",\"event\":2,\"outcome\":\"asked\",\"seq\":1,\"floor\":\"0000\",\"ask\":\"53e8\"}\n\
+    {\"kind\":\"event\",\"event\":3,\"outcome\":\"passed\"}\n\
+    {\"kind\":\"event\",\"event\":4,\"outcome\":\"turned\"}\n\
+    {\"kind\":\"event\",\"event\":5,\"outcome\":\"passed\"}\n\
+    {\"kind\":\"event\",\"event\":6,\"outcome\":\"told\",\"heard\":\"Raised\"}\n\
+    {\"kind\":\"event\",\"event\":7,\"outcome\":\"emitted\",\"cell\":0,\"next\":9007200254740993,\
+    \"next_text\":\"9007200254740993\"}\n\
+    {\"kind\":\"event\",\"event\":8,\"outcome\":\"refused\",\"fault\":\"TooSoon\",\"next\":9007200254740993,\
+    \"next_text\":\"9007200254740993\"}\n\
+    {\"kind\":\"connection\",\"connection\":0,\"rate\":\"53e8\",\"held\":[\"53e8\"]}\n\
+    {\"kind\":\"port\",\"port\":0,\"total\":512000,\"capacity\":1152921504606846976,\
+    \"capacity_text\":\"1152921504606846976\"}\n\
+    {\"kind\":\"end\",\"safe\":true}\n";
 
 // Demands that a plan prints just this, and ends with status 0. If memory is refused nothing went out, and it is tried again.
 fn says(
@@ -76,9 +105,9 @@ fn text(alloc: Global, words: &str) -> Result<String, Fail> {
 #[test]
 fn rates_are_said(rt: HostRuntime) -> Result<(), Fail> {
     let alloc = rt.alloc();
-    let said = "{\"code\":\"53e8\",\"units\":512000,\"spacing\":1000000000}\n";
+    let said = "{\"kind\":\"rate\",\"code\":\"53e8\",\"units\":512000,\"spacing\":1000000000}\n";
     says(&rt, alloc, &JsonPlan::Rate(text(alloc, "53e8")?), "", said)?;
-    let said = "{\"code\":\"0000\",\"units\":0,\"spacing\":null}\n";
+    let said = "{\"kind\":\"rate\",\"code\":\"0000\",\"units\":0,\"spacing\":null}\n";
     says(&rt, alloc, &JsonPlan::Rate(text(alloc, "0000")?), "", said)?;
     is_refused(
         &rt,
@@ -94,7 +123,7 @@ fn rates_are_said(rt: HostRuntime) -> Result<(), Fail> {
 fn a_message_is_said(rt: HostRuntime) -> Result<(), Fail> {
     let alloc = rt.alloc();
     let said =
-        "{\"message\":\"no\",\"vpi\":1,\"vci\":101,\"seq\":1,\"floor\":\"0000\",\"ask\":\"5258\"}\n";
+        "{\"kind\":\"message\",\"message\":\"no\",\"vpi\":1,\"vci\":101,\"seq\":1,\"floor\":\"0000\",\"ask\":\"5258\"}\n";
     says(&rt, alloc, &JsonPlan::Cell(text(alloc, NB)?), "", said)?;
     is_refused(
         &rt,
@@ -118,4 +147,10 @@ fn a_run_is_said(rt: HostRuntime) -> Result<(), Fail> {
         "fault: WrongType ports\n",
     );
     Ok(())
+}
+
+#[test]
+fn great_numbers_are_said_as_texts_too(rt: HostRuntime) -> Result<(), Fail> {
+    let alloc = rt.alloc();
+    says(&rt, alloc, &JsonPlan::Run(None), LATE, LATE_SAID)
 }

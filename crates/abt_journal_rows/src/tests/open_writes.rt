@@ -1,6 +1,6 @@
 //! Logs that leave open whether a write that failed was stored. They are worked by hand from docs/RULES.md, "Source".
 use super::{joined, line_of, same};
-use abt_audit::show_audit;
+use abt_audit::{Form, show_audit};
 use abt_entry::{Line, entry_line};
 use abt_journal_text::{Book, OpenWrite, read_text};
 use abt_keep::StorePlan;
@@ -69,7 +69,7 @@ fn audited(alloc: Global, pieces: &[&str]) -> Result<(Vec<StorePlan>, Vec<u8>), 
     readers.push(text.as_bytes())?;
     let mut shown = Vec::new(alloc);
     let mut told = Vec::new(alloc);
-    let run = show_audit(alloc, &[], readers, &mut shown, &mut told);
+    let run = show_audit(alloc, Form::Words, &[], readers, &mut shown, &mut told);
     let mut plans = Vec::new(alloc);
     let Ok(run) = run else {
         if told.as_slice() == b"fault: memory\n".as_slice() {

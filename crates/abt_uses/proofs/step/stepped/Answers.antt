@@ -9,7 +9,7 @@ use Rattle.abt_lines.specs.Runs.{AnswersAll}
 use Rattle.abt_lines.specs.Served.{IsServed, ServesAll}
 use Rattle.abt_step.specs.Stepped.{answers_to, dialogue, events_past_all}
 use Rattle.abt_step.specs.Steps.{AnswersLines, EndsStepping, StandsAt, StepsLine}
-use Rattle.abt_step.specs.declared.answer_form.AnswerForm.{AnswerForm}
+use Rattle.abt_plans.specs.declared.answer_form.AnswerForm.{AnswerForm}
 use Rattle.abt_step.specs.declared.stepped.SteppedLines.{SteppedLines}
 use Rattle.abt_uses.proofs.step.stepped.Goals as goal
 

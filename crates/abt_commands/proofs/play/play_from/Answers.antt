@@ -1,6 +1,6 @@
 -- The play that was shown is the one whose events are written and drawn.
 use Rattle.std.proofs.Common.{inr}
-use Rattle.abt_commands.proofs.play.over_reader.Goals as goal
+use Rattle.abt_commands.proofs.play.play_from.Goals as goal
 
 pub returns-in-Ok : goal.returns-in-Ok
 returns-in-Ok g c = record {
