@@ -9,6 +9,9 @@
  *   copied, stored and moved. What is in it is no part of this interface.
  * - A call answers an outcome. Below ABT_FAULTS the call was carried out; from there on it was refused, and then nothing that the program
  *   handed in has changed, unless the call says otherwise. Where several faults apply, the first in the order of the call's list is answered.
+ * - A length is just the number of octets that its call names: any other, also a greater one, is ABT_LENGTH.
+ * - Compare an outcome, don't test it: ABT_TOO_EARLY and each fault are true, too. `if (abt_policer_arrive(..) == ABT_CONFORMING)` forwards
+ *   what may be forwarded, and nothing else. An outcome that matters isn't to be left alone: compilers warn of that (ABT_MUST_USE).
  * - Nothing is allocated, nothing printed, and no state is shared: calls on different states may run at once.
  *
  * What is undefined: a pointer that is neither NULL nor one to memory of the named type and size, which is aligned for the type; memory that
@@ -34,6 +37,16 @@ const char *abt_version(void);
 /* ---- outcomes and faults ---- */
 
 typedef uint32_t abt_outcome;
+
+/* On each call whose outcome says what is to be done, or whether anything is: a compiler warns where it is left alone. A program that defines
+ * it as nothing isn't warned. */
+#ifndef ABT_MUST_USE
+#if defined(__GNUC__) || defined(__clang__)
+#define ABT_MUST_USE __attribute__((warn_unused_result))
+#else
+#define ABT_MUST_USE
+#endif
+#endif
 
 enum {
     /* carried out */
@@ -94,6 +107,12 @@ enum {
     ABT_NOT_INGRESS = 78     /* the connection's cells aren't policed here */
 };
 
+/* ---- units ---- */
+
+/* Units in one cell per second, and picoseconds in a second: 400 cells per second are 400 * ABT_UNITS_PER_CELL_PER_SECOND units. */
+#define ABT_UNITS_PER_CELL_PER_SECOND UINT64_C(512)
+#define ABT_PICOSECONDS_PER_SECOND UINT64_C(1000000000000)
+
 /* ---- limits ---- */
 
 #define ABT_TAU_MAX UINT64_C(1000000000000)             /* the greatest tolerance */
@@ -119,7 +138,7 @@ uint16_t abt_rate_at_most(uint64_t units);
 
 /* Gives the canonical code of the least rate that isn't below so many units.
  * Answers ABT_OK, or ABT_NULL, ABT_UNITS_RANGE. */
-static inline abt_outcome abt_rate_at_least(uint64_t units, uint16_t *code);
+ABT_MUST_USE static inline abt_outcome abt_rate_at_least(uint64_t units, uint16_t *code);
 
 /* ---- RM cells ---- */
 
@@ -139,23 +158,24 @@ typedef struct abt_rm {
     uint16_t ask;   /* the rate that is asked for, a code */
 } abt_rm;
 
-/* The CRC-10 of a payload: of its first 374 bits. The last ten bits aren't read.
+/* The CRC-10 of a payload, of ABT_PAYLOAD_LENGTH octets: of its first 374 bits. The last ten bits aren't read.
  * Answers ABT_OK, or ABT_NULL, ABT_LENGTH. */
-static inline abt_outcome abt_crc10(const uint8_t *payload, size_t length, uint16_t *check);
+ABT_MUST_USE static inline abt_outcome abt_crc10(const uint8_t *payload, size_t length, uint16_t *check);
 
 /* Reads an RM cell, of ABT_CELL_LENGTH octets. Rate codes come out canonical.
  * Answers ABT_OK, or ABT_NULL, ABT_LENGTH, ABT_NOT_RM, ABT_CRC, ABT_PROTOCOL, ABT_MAINTENANCE, ABT_ELASTIC, ABT_DIRECTION, ABT_SEQ_ZERO,
  * ABT_RATE_ORDER. */
-static inline abt_outcome abt_rm_read(const uint8_t *cell, size_t length, abt_rm *rm);
+ABT_MUST_USE static inline abt_outcome abt_rm_read(const uint8_t *cell, size_t length, abt_rm *rm);
 
-/* Writes the one cell of a request or an answer.
+/* Writes the one cell of a request or an answer, of ABT_CELL_LENGTH octets: length is just that, and a greater one is ABT_LENGTH, too. Rate
+ * codes are written canonically. After a fault the octets are as they were.
  * Answers ABT_OK, or ABT_NULL, ABT_LENGTH, ABT_KIND, ABT_VPI_RANGE, ABT_SEQ_ZERO, ABT_RATE_ORDER. */
-static inline abt_outcome abt_rm_write(const abt_rm *rm, uint8_t *cell, size_t length);
+ABT_MUST_USE static inline abt_outcome abt_rm_write(const abt_rm *rm, uint8_t *cell, size_t length);
 
-/* Gives the yes to a request, which goes back from the end of its path: to be called of a request that the last port passed. Yes and rm may
- * not be the same memory.
+/* Gives the yes to a request, which goes back from the end of its path: to be called of a request that the last port passed. That port takes
+ * the yes first (abt_table_answer, abt_port_answer), and what it passes goes back. Yes and rm may not be the same memory.
  * Answers ABT_OK, or ABT_NULL, ABT_KIND (no request), ABT_VPI_RANGE, ABT_SEQ_ZERO, ABT_RATE_ORDER. */
-static inline abt_outcome abt_rm_turn(const abt_rm *rm, abt_rm *yes);
+ABT_MUST_USE static inline abt_outcome abt_rm_turn(const abt_rm *rm, abt_rm *yes);
 
 /* ---- the generic cell rate algorithm (I.371) ---- */
 
@@ -170,8 +190,8 @@ static inline abt_outcome abt_bucket_init(abt_bucket *bucket, uint64_t tau);
 
 /* The verdict on a cell that arrives at a moment, with the spacing from it to the next one.
  * Answers ABT_CONFORMING, ABT_TOO_EARLY, or ABT_NULL, ABT_NO_STATE, ABT_SPACING_RANGE, ABT_CLOCK_BACK, ABT_TIME_RANGE. */
-static inline abt_outcome abt_gcra_check(abt_gcra *gcra, uint64_t at, uint64_t spacing);
-static inline abt_outcome abt_bucket_check(abt_bucket *bucket, uint64_t at, uint64_t spacing);
+ABT_MUST_USE static inline abt_outcome abt_gcra_check(abt_gcra *gcra, uint64_t at, uint64_t spacing);
+ABT_MUST_USE static inline abt_outcome abt_bucket_check(abt_bucket *bucket, uint64_t at, uint64_t spacing);
 
 /* ---- the policer, which follows a rate as it changes ---- */
 
@@ -183,14 +203,14 @@ static inline abt_outcome abt_policer_init(abt_policer *policer, uint64_t tau);
 
 /* The verdict on a cell that arrives at a moment, where a rate of this code is held.
  * Answers ABT_CONFORMING, ABT_TOO_EARLY, ABT_NO_RATE, or ABT_NULL, ABT_NO_STATE, ABT_CLOCK_BACK, ABT_TIME_RANGE. */
-static inline abt_outcome abt_policer_arrive(abt_policer *policer, uint64_t at, uint16_t held);
+ABT_MUST_USE static inline abt_outcome abt_policer_arrive(abt_policer *policer, uint64_t at, uint16_t held);
 
 /* The same for a burst of cells of one connection, at so many moments: just what as many calls of abt_policer_arrive do, in this order. Each
  * verdict, ABT_CONFORMING, ABT_TOO_EARLY or ABT_NO_RATE, goes to the place of its cell. The first cell for which a single call is refused ends
  * the burst with that fault: judged is its place, the cells before it have their verdicts, and the policer is as after these. Otherwise judged
  * is the count. It is 0 after ABT_NO_STATE. Policer, at, verdicts and judged have to be different memory.
  * Answers ABT_OK, or ABT_NULL, ABT_NO_STATE, ABT_CLOCK_BACK, ABT_TIME_RANGE. */
-static inline abt_outcome abt_policer_arrive_burst(abt_policer *policer, uint16_t held, const uint64_t *at, uint8_t *verdicts, size_t count,
+ABT_MUST_USE static inline abt_outcome abt_policer_arrive_burst(abt_policer *policer, uint16_t held, const uint64_t *at, uint8_t *verdicts, size_t count,
                                                    size_t *judged);
 
 /* ---- the shaper ---- */
@@ -203,7 +223,7 @@ static inline abt_outcome abt_shaper_init(abt_shaper *shaper, uint64_t not_befor
 
 /* Lets a cell leave now, at a rate of this code, and gives the earliest moment of the next cell, also after ABT_TOO_SOON.
  * Answers ABT_OK, or ABT_NULL, ABT_NO_STATE, ABT_CLOCK_BACK, ABT_TIME_RANGE, ABT_ZERO, ABT_TOO_SOON. */
-static inline abt_outcome abt_shaper_emit(abt_shaper *shaper, uint64_t now, uint16_t rate, uint64_t *next);
+ABT_MUST_USE static inline abt_outcome abt_shaper_emit(abt_shaper *shaper, uint64_t now, uint16_t rate, uint64_t *next);
 
 /* Gives the earliest moment at which the next cell may leave.
  * Answers ABT_OK, or ABT_NULL, ABT_NO_STATE. */
@@ -229,32 +249,37 @@ enum { ABT_WRITTEN = 1, ABT_FAILED_BEFORE = 2, ABT_FAILED_AFTER = 3 };
  * Answers ABT_OK, or ABT_NULL, ABT_VPI_RANGE. */
 static inline abt_outcome abt_source_init(abt_source *source, uint16_t vpi, uint16_t vci);
 
-/* Starts now, from the record that the program read from its store. The rate is 0, and no cell leaves during the record's spacing.
+/* Starts now, from the record that the program read from its store: length is ABT_RECORD_LENGTH, or 4 of a number alone. The rate is 0, and no
+ * cell leaves during the record's spacing.
  * Answers ABT_OK, or ABT_NULL, ABT_NO_STATE, ABT_RUNNING, ABT_LENGTH, ABT_RECORD_SPACING, ABT_TIME_RANGE. */
-static inline abt_outcome abt_source_start(abt_source *source, const uint8_t *record, size_t length, uint64_t now);
+ABT_MUST_USE static inline abt_outcome abt_source_start(abt_source *source, const uint8_t *record, size_t length, uint64_t now);
 
-/* Asks for a rate. After ABT_ASKED the request is in rm, and goes out. After ABT_WRITE_FIRST the program has to write the twelve octets of
- * record to its store, and to call abt_source_wrote: until then the source neither asks nor emits nor hears.
+/* Asks for a rate. Length is that of record, ABT_RECORD_LENGTH: any other, also a greater one, is ABT_LENGTH. After ABT_ASKED the request is
+ * in rm, and goes out; record is as it was. After ABT_WRITE_FIRST the program has to write the twelve octets of record to its store, and to
+ * call abt_source_wrote, which gives the request: until then the source neither asks nor emits nor hears, and rm is as it was. After
+ * ABT_SEQ_EXHAUSTED the source emits and hears as before, but the number 2^32 - 1 is used up, so it never asks again.
  * Answers ABT_ASKED, ABT_WRITE_FIRST, or ABT_NULL, ABT_LENGTH, ABT_NO_STATE, ABT_DOWN, ABT_WRITING, ABT_SEQ_EXHAUSTED. */
-static inline abt_outcome abt_source_ask(abt_source *source, uint16_t rate, uint8_t *record, size_t length, abt_rm *rm);
+ABT_MUST_USE static inline abt_outcome abt_source_ask(abt_source *source, uint16_t rate, uint8_t *record, size_t length, abt_rm *rm);
 
-/* Takes what became of the write. After ABT_ASKED the request is in rm, and goes out. After ABT_NOT_KEPT the source is as it was before the
- * ask.
+/* Takes what became of the write. After ABT_ASKED the request is in rm, and goes out; after any other outcome rm is as it was. After
+ * ABT_NOT_KEPT the source is as it was before the ask; after ABT_KIND one that waits for what became of a write still does.
+ * ABT_SEQ_EXHAUSTED comes only of a state that something else has written, as abt_source_ask says it before there is a write. The source is
+ * as it was then, and still waits: ABT_FAILED_BEFORE, ABT_FAILED_AFTER or abt_source_crash ends that.
  * Answers ABT_ASKED, or ABT_NULL, ABT_NO_STATE, ABT_KIND (neither of the three), ABT_NOT_WRITING, ABT_NOT_KEPT, ABT_SEQ_EXHAUSTED. */
-static inline abt_outcome abt_source_wrote(abt_source *source, uint32_t became, abt_rm *rm);
+ABT_MUST_USE static inline abt_outcome abt_source_wrote(abt_source *source, uint32_t became, abt_rm *rm);
 
 /* Gives the newest request, to be sent again.
  * Answers ABT_OK, or ABT_NULL, ABT_NO_STATE, ABT_NOT_ASKING. */
-static inline abt_outcome abt_source_again(const abt_source *source, abt_rm *rm);
+ABT_MUST_USE static inline abt_outcome abt_source_again(const abt_source *source, abt_rm *rm);
 
 /* Takes an answer. It counts only if connection, number, floor and asked rate are those of the newest request.
  * Answers ABT_RAISED, ABT_REFUSED, ABT_IGNORED, or ABT_NULL, ABT_NO_STATE, ABT_KIND, ABT_VPI_RANGE, ABT_SEQ_ZERO, ABT_RATE_ORDER,
  * ABT_WRITING. */
-static inline abt_outcome abt_source_answer(abt_source *source, const abt_rm *rm);
+ABT_MUST_USE static inline abt_outcome abt_source_answer(abt_source *source, const abt_rm *rm);
 
 /* Emits a cell now, at the present rate, and gives the earliest moment of the next cell, also after ABT_TOO_SOON.
  * Answers ABT_OK, or ABT_NULL, ABT_NO_STATE, ABT_DOWN, ABT_WRITING, ABT_CLOCK_BACK, ABT_TIME_RANGE, ABT_ZERO, ABT_TOO_SOON. */
-static inline abt_outcome abt_source_emit(abt_source *source, uint64_t now, uint64_t *next);
+ABT_MUST_USE static inline abt_outcome abt_source_emit(abt_source *source, uint64_t now, uint64_t *next);
 
 /* Loses the rate, the newest request and a write that was to be made. The next start reads the record anew.
  * Answers ABT_OK, or ABT_NULL, ABT_NO_STATE, ABT_DOWN. */
@@ -277,7 +302,7 @@ static inline abt_outcome abt_source_last(const abt_source *source, uint32_t *nu
 
 /* Gives the earliest moment at which abt_source_emit lets a cell leave, at the present rate, without trying: just from then on it does.
  * Answers ABT_OK, or ABT_NULL, ABT_NO_STATE, ABT_DOWN, ABT_WRITING, ABT_ZERO, ABT_TIME_RANGE (it is above ABT_EMIT_MAX, so there is none). */
-static inline abt_outcome abt_source_next(const abt_source *source, uint64_t *next);
+ABT_MUST_USE static inline abt_outcome abt_source_next(const abt_source *source, uint64_t *next);
 
 /* ---- a port ----
  *
@@ -297,21 +322,21 @@ static inline abt_outcome abt_port_init(abt_port *port, uint64_t capacity);
  * Answers ABT_OK, or ABT_NULL, ABT_VPI_RANGE. */
 static inline abt_outcome abt_connection_init(abt_connection *connection, uint16_t vpi, uint16_t vci);
 
-/* Decides a request, which goes on after ABT_PASS. After ABT_REFUSE the no to it is in answer, and goes back; answer and rm have to be
- * different memory. A repeat of the newest request isn't decided anew. Where the connection holds more than the port's sum, this and the
- * next call answer ABT_NO_STATE: it isn't one of this port.
+/* Decides a request, which goes on after ABT_PASS. After ABT_REFUSE the no to it is in answer, and goes back; after any other outcome, also
+ * ABT_PASS, answer is as it was. Answer and rm have to be different memory. A repeat of the newest request isn't decided anew. Where the
+ * connection holds more than the port's sum, this and the next call answer ABT_NO_STATE: it isn't one of this port.
  * Answers ABT_PASS, ABT_REFUSE, ABT_UNKNOWN_VC, ABT_STALE, ABT_CONFLICT, ABT_FLOOR_ABOVE, or ABT_NULL, ABT_NO_STATE, ABT_KIND (no request),
  * ABT_VPI_RANGE, ABT_SEQ_ZERO, ABT_RATE_ORDER. */
-static inline abt_outcome abt_port_request(abt_port *port, abt_connection *connection, const abt_rm *rm, abt_rm *answer);
+ABT_MUST_USE static inline abt_outcome abt_port_request(abt_port *port, abt_connection *connection, const abt_rm *rm, abt_rm *answer);
 
 /* Takes an answer, which goes on after ABT_PASS. A no to the newest request gives back what was held above its floor.
  * Answers ABT_PASS, ABT_UNKNOWN_VC, ABT_STALE, ABT_CONFLICT, or ABT_NULL, ABT_NO_STATE, ABT_KIND (no answer), ABT_VPI_RANGE, ABT_SEQ_ZERO,
  * ABT_RATE_ORDER. */
-static inline abt_outcome abt_port_answer(abt_port *port, abt_connection *connection, const abt_rm *rm);
+ABT_MUST_USE static inline abt_outcome abt_port_answer(abt_port *port, abt_connection *connection, const abt_rm *rm);
 
 /* Gives the link another capacity. What was granted stays.
  * Answers ABT_OK, or ABT_NULL, ABT_NO_STATE, ABT_BELOW_SUM, ABT_CAPACITY_RANGE. */
-static inline abt_outcome abt_port_set_capacity(abt_port *port, uint64_t capacity);
+ABT_MUST_USE static inline abt_outcome abt_port_set_capacity(abt_port *port, uint64_t capacity);
 
 /* Gives the sum of what the port's connections hold, in units.
  * Answers ABT_OK, or ABT_NULL, ABT_NO_STATE. */
@@ -356,26 +381,26 @@ static inline abt_outcome abt_table_init(abt_table *table, uint64_t capacity);
 
 /* Takes a connection in, which has asked for nothing.
  * Answers ABT_OK, or ABT_NULL, ABT_NO_STATE, ABT_VPI_RANGE, ABT_KNOWN, ABT_FULL, ABT_DAMAGED. */
-static inline abt_outcome abt_table_add(abt_table *table, uint16_t vpi, uint16_t vci);
+ABT_MUST_USE static inline abt_outcome abt_table_add(abt_table *table, uint16_t vpi, uint16_t vci);
 
 /* The same for a connection whose ingress the port is: with a policer of this tolerance, which has met no cell.
  * Answers ABT_OK, or ABT_NULL, ABT_TAU_RANGE, ABT_NO_STATE, ABT_VPI_RANGE, ABT_KNOWN, ABT_FULL, ABT_DAMAGED. */
-static inline abt_outcome abt_table_add_ingress(abt_table *table, uint16_t vpi, uint16_t vci, uint64_t tau);
+ABT_MUST_USE static inline abt_outcome abt_table_add_ingress(abt_table *table, uint16_t vpi, uint16_t vci, uint64_t tau);
 
 /* Takes a connection away, with its policer. One that holds a rate stays, with ABT_HELD: what was granted is given back by messages alone, as
  * a request for the rate 0. So the sum is the same before and after. All others are linked anew, in some 1,024 steps at most.
  * Answers ABT_OK, ABT_UNKNOWN_VC, or ABT_NULL, ABT_NO_STATE, ABT_VPI_RANGE, ABT_HELD, ABT_DAMAGED. */
-static inline abt_outcome abt_table_remove(abt_table *table, uint16_t vpi, uint16_t vci);
+ABT_MUST_USE static inline abt_outcome abt_table_remove(abt_table *table, uint16_t vpi, uint16_t vci);
 
 /* Decides a request, as abt_port_request does, of the connection that has its VPI and VCI.
  * Answers ABT_PASS, ABT_REFUSE, ABT_UNKNOWN_VC, ABT_STALE, ABT_CONFLICT, ABT_FLOOR_ABOVE, or ABT_NULL, ABT_NO_STATE, ABT_KIND (no request),
  * ABT_VPI_RANGE, ABT_SEQ_ZERO, ABT_RATE_ORDER, ABT_DAMAGED. */
-static inline abt_outcome abt_table_request(abt_table *table, const abt_rm *rm, abt_rm *answer);
+ABT_MUST_USE static inline abt_outcome abt_table_request(abt_table *table, const abt_rm *rm, abt_rm *answer);
 
 /* Takes an answer, as abt_port_answer does, of the connection that has its VPI and VCI.
  * Answers ABT_PASS, ABT_UNKNOWN_VC, ABT_STALE, ABT_CONFLICT, or ABT_NULL, ABT_NO_STATE, ABT_KIND (no answer), ABT_VPI_RANGE, ABT_SEQ_ZERO,
  * ABT_RATE_ORDER, ABT_DAMAGED. */
-static inline abt_outcome abt_table_answer(abt_table *table, const abt_rm *rm);
+ABT_MUST_USE static inline abt_outcome abt_table_answer(abt_table *table, const abt_rm *rm);
 
 /* Takes an RM cell that came to the port, of ABT_CELL_LENGTH octets: a request that came forward, or an answer that came backward. After
  * ABT_PASS the cell that goes on is in sent, and after ABT_REFUSE the no that goes back, of as many octets; after any other outcome nothing
@@ -383,11 +408,11 @@ static inline abt_outcome abt_table_answer(abt_table *table, const abt_rm *rm);
  * a greater room, is ABT_LENGTH.
  * Answers as abt_table_request and abt_table_answer do, or ABT_NULL, ABT_NO_STATE, ABT_LENGTH, ABT_NOT_RM, ABT_CRC, ABT_PROTOCOL,
  * ABT_MAINTENANCE, ABT_ELASTIC, ABT_DIRECTION, ABT_SEQ_ZERO, ABT_RATE_ORDER, ABT_DAMAGED. */
-static inline abt_outcome abt_table_cell(abt_table *table, const uint8_t *cell, size_t length, uint8_t *sent, size_t room);
+ABT_MUST_USE static inline abt_outcome abt_table_cell(abt_table *table, const uint8_t *cell, size_t length, uint8_t *sent, size_t room);
 
 /* Gives the link another capacity. What was granted stays.
  * Answers ABT_OK, or ABT_NULL, ABT_NO_STATE, ABT_BELOW_SUM, ABT_CAPACITY_RANGE. */
-static inline abt_outcome abt_table_set_capacity(abt_table *table, uint64_t capacity);
+ABT_MUST_USE static inline abt_outcome abt_table_set_capacity(abt_table *table, uint64_t capacity);
 
 /* Gives the sum of what the connections hold, in units.
  * Answers ABT_OK, or ABT_NULL, ABT_NO_STATE. */
@@ -395,11 +420,11 @@ static inline abt_outcome abt_table_total(const abt_table *table, uint64_t *tota
 
 /* Gives the canonical code of the rate that a connection holds, at which a policer holds its cells.
  * Answers ABT_OK, ABT_UNKNOWN_VC, or ABT_NULL, ABT_NO_STATE, ABT_VPI_RANGE, ABT_DAMAGED. */
-static inline abt_outcome abt_table_held(const abt_table *table, uint16_t vpi, uint16_t vci, uint16_t *held);
+ABT_MUST_USE static inline abt_outcome abt_table_held(const abt_table *table, uint16_t vpi, uint16_t vci, uint16_t *held);
 
 /* Gives what the port keeps of a connection.
  * Answers ABT_OK, ABT_UNKNOWN_VC, or ABT_NULL, ABT_NO_STATE, ABT_VPI_RANGE, ABT_DAMAGED. */
-static inline abt_outcome abt_table_reservation(const abt_table *table, uint16_t vpi, uint16_t vci, abt_reservation *reservation);
+ABT_MUST_USE static inline abt_outcome abt_table_reservation(const abt_table *table, uint16_t vpi, uint16_t vci, abt_reservation *reservation);
 
 /* Gives the capacity of the link, in units.
  * Answers ABT_OK, or ABT_NULL, ABT_NO_STATE. */
@@ -412,7 +437,7 @@ static inline abt_outcome abt_table_count(const abt_table *table, uint64_t *coun
 /* The verdict on a cell of a connection that arrives at a moment at the port, its ingress, at the rate that the connection holds.
  * Answers ABT_CONFORMING, ABT_TOO_EARLY, ABT_NO_RATE, ABT_UNKNOWN_VC, or ABT_NULL, ABT_NO_STATE, ABT_VPI_RANGE, ABT_NOT_INGRESS,
  * ABT_CLOCK_BACK (the connection's last cell came later), ABT_TIME_RANGE, ABT_DAMAGED. */
-static inline abt_outcome abt_table_arrive(abt_table *table, uint16_t vpi, uint16_t vci, uint64_t at);
+ABT_MUST_USE static inline abt_outcome abt_table_arrive(abt_table *table, uint16_t vpi, uint16_t vci, uint64_t at);
 
 /* A cell of a connection that arrives at a moment. */
 typedef struct abt_arrival {
@@ -426,7 +451,7 @@ typedef struct abt_arrival {
  * place, the cells before it have their outcomes, and the table is as after these. Otherwise judged is the count. It is 0 after ABT_NO_STATE.
  * Table, cells, outcomes and judged have to be different memory.
  * Answers ABT_OK, or ABT_NULL, ABT_NO_STATE, ABT_VPI_RANGE, ABT_NOT_INGRESS, ABT_CLOCK_BACK, ABT_TIME_RANGE, ABT_DAMAGED. */
-static inline abt_outcome abt_table_arrive_burst(abt_table *table, const abt_arrival *cells, uint8_t *outcomes, size_t count, size_t *judged);
+ABT_MUST_USE static inline abt_outcome abt_table_arrive_burst(abt_table *table, const abt_arrival *cells, uint8_t *outcomes, size_t count, size_t *judged);
 
 /* ---- names ---- */
 

@@ -43,6 +43,11 @@ enum class units : std::uint64_t {};
 /* A rate as RM cells carry it. */
 enum class code : std::uint16_t {};
 
+/* ABT_UNITS_PER_CELL_PER_SECOND: 400 cells per second are units(400 * units_per_cell_per_second) */
+inline constexpr std::uint64_t units_per_cell_per_second = ABT_UNITS_PER_CELL_PER_SECOND;
+/* ABT_PICOSECONDS_PER_SECOND */
+inline constexpr std::uint64_t picoseconds_per_second = ABT_PICOSECONDS_PER_SECOND;
+
 /* abt_rate_units */
 inline units units_of(code it) noexcept { return static_cast<units>(abt_rate_units(static_cast<std::uint16_t>(it))); }
 /* abt_rate_canonical */
@@ -139,7 +144,8 @@ inline result<answer> turn(const request &it) noexcept
 
 /* ---- GCRA, policer, shaper ---- */
 
-enum class verdict : abt_outcome { conforming = ABT_CONFORMING, too_early = ABT_TOO_EARLY, no_rate = ABT_NO_RATE };
+enum class [[nodiscard]] verdict : abt_outcome { conforming = ABT_CONFORMING, too_early = ABT_TOO_EARLY, no_rate = ABT_NO_RATE };
+template <> inline constexpr bool is_compared<verdict> = true;
 
 /* A burst: how many cells got a verdict, and why the one after them got none, if there is one. */
 struct burst {

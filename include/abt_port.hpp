@@ -7,7 +7,7 @@
 namespace abt {
 
 /* What becomes of a message at a port: it goes on, it is refused (of a request alone), or it is dropped. */
-enum class decision : abt_outcome {
+enum class [[nodiscard]] decision : abt_outcome {
     pass = ABT_PASS,
     refuse = ABT_REFUSE,
     unknown_vc = ABT_UNKNOWN_VC,
@@ -15,18 +15,21 @@ enum class decision : abt_outcome {
     conflict = ABT_CONFLICT,
     floor_above = ABT_FLOOR_ABOVE
 };
+template <> inline constexpr bool is_compared<decision> = true;
 
 /* What becomes of a request: with the no that goes back, if it is refused. */
-struct decided {
+struct [[nodiscard]] decided {
     decision what;
     std::optional<answer> back;
 };
+template <> inline constexpr bool is_compared<decided> = true;
 
 /* What becomes of a cell: with the octets that go on or back. */
-struct served {
+struct [[nodiscard]] served {
     decision what;
     std::optional<cell> sent;
 };
+template <> inline constexpr bool is_compared<served> = true;
 
 /* What a port keeps of a connection: the newest request that it decided. While it is open, the connection holds ask, and else floor. */
 struct reservation {
@@ -40,12 +43,13 @@ struct reservation {
 };
 
 /* What becomes of a cell at its ingress. */
-enum class policed : abt_outcome {
+enum class [[nodiscard]] policed : abt_outcome {
     conforming = ABT_CONFORMING,
     too_early = ABT_TOO_EARLY,
     no_rate = ABT_NO_RATE,
     unknown_vc = ABT_UNKNOWN_VC
 };
+template <> inline constexpr bool is_compared<policed> = true;
 
 namespace detail {
 inline reservation reservation_of(const abt_reservation &raw) noexcept

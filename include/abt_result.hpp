@@ -66,29 +66,48 @@ private:
 };
 #endif
 
+/* What is to be compared: `if (policer.arrive(at, held))` would be true of a cell that comes too early, and `if (table.remove(vpi, vci))`
+   of a connection that isn't there, so they don't compile. */
+template <class T> inline constexpr bool is_compared = false;
+template <> inline constexpr bool is_compared<bool> = true;
+template <class T> inline constexpr bool is_compared<std::optional<T>> = true;
+
 /* A value, or why there is none. */
 template <class T> class [[nodiscard]] result {
 public:
     result(T value) noexcept : it_(std::in_place_index<0>, std::move(value)) {}
     result(fault why) noexcept : it_(std::in_place_index<1>, why) {}
 
-    explicit operator bool() const noexcept { return it_.index() == 0; }
+    bool has_value() const noexcept { return it_.index() == 0; }
+    /* The same, but of what is to be compared. */
+    explicit operator bool() const noexcept
+    {
+        static_assert(!is_compared<T>, "compare what it has, don't test it; has_value() says whether there is a value");
+        return has_value();
+    }
     /* Whether it is this value, or this fault. */
-    bool operator==(const T &value) const { return *this && *std::get_if<0>(&it_) == value; }
+    bool operator==(const T &value) const { return has_value() && *std::get_if<0>(&it_) == value; }
     bool operator!=(const T &value) const { return !(*this == value); }
-    bool is(fault why) const noexcept { return !*this && *std::get_if<1>(&it_) == why; }
+    bool is(fault why) const noexcept { return !has_value() && *std::get_if<1>(&it_) == why; }
     /* The value; of a fault its exception, or the end of the program where none are compiled. */
     T &value() &
     {
-        if (!*this) refuse();
+        if (!has_value()) refuse();
+        return *std::get_if<0>(&it_);
+    }
+    const T &value() const &
+    {
+        if (!has_value()) refuse();
         return *std::get_if<0>(&it_);
     }
     T &&value() && { return std::move(value()); }
     T &operator*() & { return value(); }
+    const T &operator*() const & { return value(); }
     T &&operator*() && { return std::move(value()); }
     T *operator->() { return &value(); }
+    const T *operator->() const { return &value(); }
     /* Why there is no value, if there is none. */
-    std::optional<fault> why() const noexcept { return *this ? std::nullopt : std::optional<fault>(*std::get_if<1>(&it_)); }
+    std::optional<fault> why() const noexcept { return has_value() ? std::nullopt : std::optional<fault>(*std::get_if<1>(&it_)); }
 
 private:
     [[noreturn]] void refuse() const

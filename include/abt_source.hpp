@@ -4,7 +4,8 @@
  *                                   writing (the record is to be written first) --wrote--> asking
  *
  * A call that changes the state is made of a source that is given away (std::move), and gives the next one. If it is refused, it gives the
- * source back as the call leaves it. */
+ * source back as the call leaves it. So a result that is left alone loses the source, and compilers warn of that. A source that was given
+ * away can still be called, but it is no state of any kind: its calls give fault::no_state. */
 #ifndef ABT_SOURCE_HPP
 #define ABT_SOURCE_HPP
 
@@ -78,9 +79,9 @@ public:
         return detail::checked(outcome, std::move(it));
     }
     /* abt_source_start, from the twelve octets, or the four, that the store holds */
-    std::variant<idle, refused<down>> start(const std::uint8_t *record, std::size_t length, picoseconds now) && noexcept;
+    [[nodiscard]] std::variant<idle, refused<down>> start(const std::uint8_t *record, std::size_t length, picoseconds now) && noexcept;
 #if defined(__cpp_lib_span)
-    std::variant<idle, refused<down>> start(std::span<const std::uint8_t> record, picoseconds now) && noexcept;
+    [[nodiscard]] std::variant<idle, refused<down>> start(std::span<const std::uint8_t> record, picoseconds now) && noexcept;
 #endif
 
 private:
@@ -96,7 +97,7 @@ private:
 template <class Self> class running : public source_state {
 public:
     /* abt_source_ask */
-    ask_outcome<Self> ask(code rate) && noexcept;
+    [[nodiscard]] ask_outcome<Self> ask(code rate) && noexcept;
     /* abt_source_emit */
     [[nodiscard]] emission emit(picoseconds now) noexcept
     {
@@ -112,7 +113,7 @@ public:
         return detail::checked(outcome, picoseconds(next));
     }
     /* abt_source_crash */
-    std::variant<down, refused<Self>> crash() && noexcept
+    [[nodiscard]] std::variant<down, refused<Self>> crash() && noexcept
     {
         abt_outcome outcome = abt_source_crash(&this->state_.raw);
         if (detail::refused(outcome)) return refused<Self>{Self(std::move(this->state_)), detail::why(outcome)};
@@ -153,7 +154,7 @@ public:
         return detail::checked(outcome, detail::request_of(raw));
     }
     /* abt_source_answer */
-    std::variant<raised, lowered, ignored, refused<asking>> hear(const answer &it) && noexcept;
+    [[nodiscard]] std::variant<raised, lowered, ignored, refused<asking>> hear(const answer &it) && noexcept;
 
 private:
     template <class> friend class running;
@@ -175,7 +176,7 @@ public:
     /* The octets that the program has to write. */
     const record &to_write() const noexcept { return record_; }
     /* abt_source_wrote: after fault::not_kept the source is as before the ask */
-    std::variant<asked, refused<Before>> wrote(became what) && noexcept
+    [[nodiscard]] std::variant<asked, refused<Before>> wrote(became what) && noexcept
     {
         abt_rm raw{};
         abt_outcome outcome = abt_source_wrote(&this->state_.raw, static_cast<std::uint32_t>(what), &raw);
@@ -183,7 +184,7 @@ public:
         return asked{asking(std::move(this->state_)), detail::request_of(raw)};
     }
     /* abt_source_crash */
-    std::variant<down, refused<writing>> crash() && noexcept
+    [[nodiscard]] std::variant<down, refused<writing>> crash() && noexcept
     {
         abt_outcome outcome = abt_source_crash(&this->state_.raw);
         if (detail::refused(outcome)) return refused<writing>{writing(std::move(this->state_), record_), detail::why(outcome)};

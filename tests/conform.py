@@ -2,13 +2,15 @@
 holds it up.
 
 The implementation is tests/devices/device.py, in which one fault at a time can be planted. Each has to be found within 10,000 events at
-each seed, and the smallest events of one of each role have to differ again. Bad programs (one that isn't there, ends, prints nothing,
-prints too much or never ends) have to give a named fault, and nothing of them and no FIFO may be left.
+each seed, and the smallest events of one of each role have to differ again. A program that breaks (that ends, prints nothing, prints too
+much or never ends) has to be told as a difference, and made small like any other; one that isn't there is a fault. Nothing of them and no
+FIFO may be left.
 
 usage: conform.py PROGRAM.. [--seeds N]      (N: at how many seeds each fault has to be found; without it, 1)
 """
 import os
 import re
+import shutil
 import signal
 import subprocess
 import sys
@@ -21,16 +23,30 @@ from harness import ROOT, End, case_file, main, run, worked
 
 TOOL = ROOT / "tools" / "conform.py"
 CASES = case_file("conform")
-FAULTS, SMALL, BAD = CASES["faults"], CASES["small"], CASES["bad"]
+FAULTS, SMALL, BAD, BREAKS = CASES["faults"], CASES["small"], CASES["bad"], CASES["breaks"]
+# For how many seconds events may be made fewer: on a loaded machine as few have to be left.
+LONGEST = 600
 NEVER_ENDS = """import sys, time
 for line in sys.stdin: print('started' if line.startswith('start') else '?', flush=True)
 time.sleep(1000)"""
 UNSTARTED = "can't be started: No such file or directory\n"
+# A port that breaks behind its answer to a stale cell.
+BREAKING = """import sys, time
+from device import Port
+port = Port(int(sys.argv[1]))
+for number, line in enumerate(sys.stdin, 1):
+    answer = port.serve(line.strip())
+    if answer == "drop Stale":
+        BREAK
+    print(number, answer, flush=True)
+print("total", port.total())"""
+# How the least story of a port that takes less for at most ends: its last cell just fits.
+JUST_FITS = r"^  \d+ request \d+ of \S+, floor \d+, ask (\d+): pass: asks \1, holds 0, others hold (\d+) of (\d+)$"
 
 
 def adapters():
-    """The adapters that docs/ORACLE.md shows, one for each role, by their names."""
-    return dict(worked("ORACLE.md", r"^```python\n# (\w+\.py)\n(.*?)^```$", len(FAULTS)))
+    """The adapters that docs/ORACLE.md shows, one for each role, and its driver, by their names."""
+    return dict(worked("ORACLE.md", r"^```python\n# (\w+\.py)\n(.*?)^```$", len(FAULTS) + 1))
 
 
 def alive(mark):
@@ -62,8 +78,8 @@ class Conforms:
     def conform(self, *words, fault="", command=()):
         self.trial.runs += 1
         environment = {**os.environ, "FAULT": fault, "TMPDIR": str(self.trial.folder)}
-        words = ["-B", TOOL, "--abt", self.trial.program, *words, "--", *command]
-        return run(sys.executable, words, folder=self.trial.folder, env=environment, timeout=600)
+        words = ["-B", TOOL, "--abt", self.trial.program, "--shrink", LONGEST, *words, "--", *command]
+        return run(sys.executable, words, folder=self.trial.folder, env=environment, timeout=900)
 
     def adapter(self, role):
         return [sys.executable, "-B", f"{role}.py"]
@@ -91,24 +107,70 @@ class Conforms:
         left = to.read_text().splitlines() if role == "port" else tomllib.loads(to.read_text())["events"]
         assert len(left) == count, "the file has others"
         assert role == "port" or self.trial.run("run", to).status == 0, "it isn't run"
+        if fault == "less_for_at_most":
+            ask, others, capacity = map(int, re.findall(JUST_FITS, output, re.M)[-1])
+            assert others + ask == capacity, "the reason isn't that it just fits"
+            assert f"; total {capacity} of {capacity}\n" in output, "what is held then isn't told"
+
+    def drives(self, name, fault=""):
+        """What the driver tells of a sample, over port 0."""
+        self.trial.runs += 1
+        path = f"{self.trial.folder}/bin:{os.environ['PATH']}"
+        words = ["-B", "drive.py", ROOT / "scenarios" / name, 0]
+        given = run(sys.executable, words, folder=self.trial.folder, env={**os.environ, "FAULT": fault, "PATH": path})
+        assert given.status == 0 and not given.told, given.told
+        return given.output
+
+    def driver(self):
+        """By the driver of docs/ORACLE.md a right port differs at no sample, and one that releases nothing by a refusal where the page
+        shows it."""
+        (self.trial.folder / "bin").mkdir()
+        (self.trial.folder / "bin" / "abt").symlink_to(self.trial.program)
+        for name in ("refusal_releases.toml", "reordered.toml", "shrinking_link.toml"):
+            told = self.trial.checks(name, self.drives, name) or ""
+            self.trial.wants(f"a right port over {name}", (True, False), (": pass\n" in told, "differs" in told))
+        shown = worked("ORACLE.md", r"^\$ python3 drive\.py scenarios/refusal_releases\.toml 0\n(.*?)^\.\.$")[0]
+        told = self.drives("refusal_releases.toml", "refusal_releases_nothing")
+        self.trial.wants("a port that releases nothing", (shown, 2), (told[: len(shown)], told.count("differs: passed")))
+        shutil.rmtree(self.trial.folder / "bin")
 
     def bad(self, name):
-        body, told = BAD[name]
-        mark = f"{self.mark}-{name.replace(' ', '-')}"
+        body, how = BAD[name]
+        mark, to = f"{self.mark}-{name.replace(' ', '-')}", self.trial.folder / f"{name}.toml"
         seconds = "0.5" if name == "prints nothing" else "60"
-        given = self.conform("--role", "net", "--timeout", seconds, command=[sys.executable, "-c", body, mark])
-        told = given.told if given.status == 1 and told in given.told and given.told.startswith("fault: ") and not given.output else told
-        self.trial.wants(f"a program that {name}", End(1, "", told), given)
+        given = self.conform("--role", "net", "--timeout", seconds, "--to", to, command=[sys.executable, "-c", body, mark])
+        told = f"  yours {how}\n"
+        is_told = given.output.startswith("differs, seed 1: `") and given.output.count(told) == 2 and ", 1 event; " in given.output
+        self.trial.wants(f"a program that {name}", (1, "", True), (given.status, given.told, is_told))
+        if name == "tells":
+            self.trial.wants("its standard error", (True,), ("\n        ValueError: lost its table\n" in given.output,))
         self.trial.wants(f"what is left of a program that {name}", (), alive(mark))
+
+    def breaks(self, name):
+        """A port that breaks only at a stale cell: that cell, and the one before it which makes it stale, are left."""
+        body, how = BREAKS[name]
+        mark, to = f"{self.mark}-{name.replace(' ', '-')}", self.trial.folder / f"{name}.cells"
+        (self.trial.folder / f"{mark}.py").write_text(BREAKING.replace("BREAK", body))
+        given = self.conform("--role", "port", "--timeout", "3", "--to", to, command=[sys.executable, "-B", f"{mark}.py"])
+        cells = to.read_text().split() if to.exists() else []
+        lines = re.sub(r"\d+ late", "{number} late", re.sub(r"for [\d.]+ s$", "for {limit} s", given.output, flags=re.M)).splitlines()
+        is_told = lines.count(f"  yours {how}") == 2 and any(re.search(r"^  2 .*: drop Stale: \d+ is the newest here$", it) for it in lines)
+        if (given.status, given.told, len(cells), is_told) != (1, "", 2, True):
+            self.trial.fail(f"a port that {name}: {given}")
+        self.trial.wants(f"what is left of a port that {name}", (), alive(mark))
 
     def never_ends(self):
         words, mark = ["--role", "source", "--timeout", "15", "--events", "1"], f"{self.mark}-never-ends"
+        words += ["--whole", "--to", self.trial.folder / "never-ends.toml"]
         given = self.conform(*words, command=[sys.executable, "-c", NEVER_ENDS, mark])
-        is_told = "hasn't ended 15 s after its input did" in given.told
-        self.trial.wants("one that never ends", (1, "", True), (given.status, given.output, is_told))
+        wanted = "differs, seed 1: `the end of the input`\n  abt   ends\n  yours hasn't ended 15 s after its input did\n"
+        self.trial.wants("one that never ends", (1, "", wanted), (given.status, given.told, given.output[: len(wanted)]))
         self.trial.wants("what is left of one that never ends", (), alive(mark))
-        given = self.conform("--role", "net", command=["./no-such-program"])
+        old = self.trial.folder / "old.toml"
+        old.touch()
+        given = self.conform("--role", "net", "--to", old, command=["./no-such-program"])
         self.trial.wants("one that isn't there", End(1, "", f"fault: ./no-such-program {UNSTARTED}"), given)
+        self.trial.wants("a file of the run before", (False,), (old.exists(),))
 
     def stopped(self):
         """A signal ends the tool, the program that it tests and what that started."""
@@ -125,6 +187,14 @@ class Conforms:
         self.trial.wants("the status of one that is stopped", (128 + signal.SIGTERM,), (started.wait(60),))
         self.trial.wants("what is left of one that is stopped", (), alive(mark))
 
+    def cut(self):
+        """Where the time to make events fewer ran out, that is told."""
+        for role in ("port", "net"):
+            to = self.trial.folder / f"{role}-cut"
+            given = self.conform("--role", role, "--seed", "1", "--shrink", "0", "--to", to, fault=FAULTS[role][0], command=self.adapter(role))
+            told = re.findall(r"^smallest within 0 s: \S+, \d+ (?:cell|event)s?; abt ", given.output, re.M)
+            self.trial.wants(f"no time for a smaller {role}", (1, 1), (given.status, len(told)))
+
     def words(self):
         for words in ([], ["--role", "net"], ["--role", "switch", "--", "true"], ["--role", "net", "--events", "0", "--", "true"]):
             given = run(sys.executable, ["-B", TOOL, *words])
@@ -139,13 +209,13 @@ def look(trial, seeds):
     over = Conforms(trial, seeds)
     faults = [(role, fault, seed) for seed in range(1, seeds + 1) for role in FAULTS for fault in FAULTS[role]]
     parts = [*((over.right, role) for role in FAULTS), *((over.bad, name) for name in BAD)]
-    parts += [(over.never_ends,), (over.stopped,), (over.words,)]
+    parts += [*((over.breaks, name) for name in BREAKS), (over.driver,), (over.never_ends,), (over.stopped,), (over.cut,), (over.words,)]
     with ThreadPoolExecutor(max(2, os.cpu_count() or 2)) as pool:
         done = [pool.submit(*part) for part in parts + [(over.found, *fault) for fault in faults]]
         for one in done:
             one.result()
     trial.wants("folders that are left", (), sorted(it.name for it in trial.folder.iterdir() if it.is_dir()))
-    return f"{len(FAULTS)} adapters, {len(faults)} faults, {len(BAD) + 2} bad programs"
+    return f"{len(FAULTS)} adapters, {len(faults)} faults, {len(BAD) + len(BREAKS) + 2} bad programs"
 
 
 if __name__ == "__main__":

@@ -95,7 +95,7 @@ class Drawer(Trial):
 
 
 def check_documents(drawer):
-    """The logs of docs/JOURNALS.md in which something is wrong, as pages too."""
+    """The logs of docs/AUDITS.md in which something is wrong, as pages too."""
     for name, text, told in worked_faults():
         drawer.check_stuck(text.decode().splitlines(), text)
         status, out, errors = drawer.audit(text, "--draw", "page.html")
@@ -129,6 +129,10 @@ def check_refusals(drawer, lines):
     assert (drawer.folder / "kept.svg").read_text().endswith("</svg>\n"), "the picture where its events can't be written"
     done = drawer.run("audit", "--draw", "kept.svg", text=wrong)
     assert done.status == 1 and "stuck: -:4: " in (drawer.folder / "kept.svg").read_text(), done
+    drawer.run("audit", "--events", "alone.toml", text=wrong)
+    both = drawer.run("audit", "--events", "both.toml", "--draw", "both.svg", text=wrong)
+    assert both == done and (drawer.folder / "both.svg").read_bytes() == (drawer.folder / "kept.svg").read_bytes(), both
+    assert (drawer.folder / "both.toml").read_bytes() == (drawer.folder / "alone.toml").read_bytes(), "the events beside a picture"
 
 
 def check_run(drawer, name, lines):
@@ -140,7 +144,7 @@ def check_run(drawer, name, lines):
 def look(drawer):
     for name, lines in [("docs/JOURNALS.md", worked_run()), *sample_journals()]:
         drawer.checks(name, check_run, drawer, name, lines)
-    drawer.checks("the logs of docs/JOURNALS.md", check_documents, drawer)
+    drawer.checks("the logs of docs/AUDITS.md", check_documents, drawer)
     drawer.checks("no picture", check_refusals, drawer, worked_run())
     return f"{drawer.whole} pictures of woven journals, {drawer.stuck} of stuck ones, {drawer.events} events"
 

@@ -20,6 +20,8 @@ LINES = ("", "gathered\n", "gathered\nwoven\n")
 # The events of a run in threads that are told: how many, a line for each, and more lines that are no fault's and not a check's last one.
 EVENTS = re.compile(r"events: (\d+), granted: \d+, refused: \d+\n((?:\d+ .*\n)*)(?:(?!faults?:).*\n)*")
 TOLD = "events\n"
+# An audit that couldn't read its input, as JSON.
+OBJECT = re.compile(r'\{"kind":"text","file":"[^"]+","line":[1-9]\d*,"fault":"read"\}\n')
 
 
 class End(NamedTuple):
@@ -60,6 +62,8 @@ def is_of_memory(command, plain, end, descriptor):
 
 def is_unread(command, plain, end, descriptor):
     """An audit names the text and the line (docs/JOURNALS.md, "Faults")."""
+    if command.words[:1] == ("audit",) and "--json" in command.words:
+        return OBJECT.fullmatch(end.output) is not None and end[1:] == ("", 1, {})
     told = re.sub(r"^fault: \S+:[1-9]\d*: read$", "fault: read", end.told) if command.words[:1] == ("audit",) else end.told
     return may_be_out(command, plain, end) and (told, *end[2:]) == (READ, 1, {})
 

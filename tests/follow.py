@@ -20,7 +20,7 @@ import time
 from concurrent.futures import ThreadPoolExecutor
 from pathlib import Path
 
-from harness import ROOT, End, case_file, files_in, main, run
+from harness import ROOT, End, case_file, files_in, main, run, scenario, section, worked
 from network import CONNECTIONS, PORTS, Run
 
 TOOL = ROOT / "tools" / "follow.py"
@@ -81,7 +81,9 @@ class Followed:
         (first, line, told), *steps = case["steps"]
         self.put(folder, first, line)
         follow = self.begin(folder, *([] if "--idle" in words else ["--idle", IDLE]), *words)
-        absent = [f"{name}: it isn't there yet\n" for name in words if name.endswith(".jsonl") and name != first]
+        absent = [name for name in words if name.endswith(".jsonl") and name != first]
+        note = '{"kind":"note","note":"absent","file":"%s"}\n' if "--json" in words else "%s: it isn't there yet\n"
+        absent = [note % name for name in absent]
         self.trial.wants(f"{case['what']}, {line}", [True], [follow.hears("".join(absent) + told)])
         for name, line, told in steps:
             self.put(folder, name, line)
@@ -154,6 +156,30 @@ class Followed:
         fake.chmod(0o755)
         self.put(folder, "log.jsonl", "net")
         return fake
+
+    def scenario(self):
+        """A scenario stands in place of the net's line, whatever else it has; what is none is a fault. And the net's line of a scenario
+        is had as the pages say."""
+        folder = self.room()
+        text = scenario([512000], ["start 0 0"], [section(100, script=["start 0"])])
+        (folder / "net.toml").write_text(text)
+        for line in ("start", "about", "ask", "request"):
+            self.put(folder, "log.jsonl", line)
+        follow = self.begin(folder, "--idle", IDLE, "net.toml", "log.jsonl")
+        self.trial.wants("a scenario's net", [True], [follow.hears("woven 3 events\n")])
+        self.trial.wants("a scenario's net, at the end", End(0, "woven\nsafe\n"), follow.end())
+        for what, why in self.cases["scenarios"].items():
+            (folder / "net.toml").write_text(what)
+            given = self.begin(folder, "--idle", 600, "net.toml", "log.jsonl").end()
+            self.trial.wants(f"a net of {what!r}", End(1, "", f"fault: {why}\n"), given)
+        (folder / "NET.toml").write_text(text)
+        for page in ("ORACLE.md", "LIVE.md", "JOURNALS.md"):
+            [words] = worked(page, r"^\$ (?:\./)?abt (threads NET\.toml .*? && head -n 1 run\.jsonl >net\.jsonl)$")
+            self.trial.runs += 1
+            done = subprocess.run(["sh", "-c", f'"$0" {words}', self.trial.program], cwd=folder, capture_output=True, timeout=LIMIT)
+            given = (folder / "net.jsonl").read_text() if done.returncode == 0 else done.stderr
+            self.trial.wants(f"the net's line as {page} has it", [f"{self.lines['net']}\n"], [given])
+            (folder / "net.jsonl").unlink()
 
     def dies(self):
         for body, told in {"os.kill(os.getpid(), 9)": "fault: abt audit was ended by SIGKILL\n", "sys.exit('lost')": "lost\n"}.items():
@@ -237,7 +263,7 @@ def waited(holds):
 def look(trial):
     over = Followed(trial)
     parts = [*((over.case, case) for case in over.cases["case"]), (over.ends,), (over.changed,), (over.no_file,), (over.taken_back,)]
-    parts += [(over.dies,), (over.killed,), (over.words,), (over.live_wrong,)]
+    parts += [(over.scenario,), (over.dies,), (over.killed,), (over.words,), (over.live_wrong,)]
     with ThreadPoolExecutor(4) as pool:
         live = pool.submit(over.live_right)
         for part in [pool.submit(*part) for part in parts]:

@@ -102,6 +102,18 @@ def kind_of(command, value):
     return found[0]
 
 
+def says_great_numbers(value):
+    """Demands that each member above 2^53 has its digits as a text in a member of its own, and no other has; lists have numbers alone."""
+    if isinstance(value, list):
+        for each in value:
+            says_great_numbers(each)
+    if isinstance(value, dict):
+        wanted = {f"{name}_text": str(number) for name, number in value.items() if isinstance(number, int) and number > 2**53}
+        wants(wanted == {name: text for name, text in value.items() if name.endswith("_text")}, f"{value} isn't to have {wanted}")
+        for each in value.values():
+            says_great_numbers(each)
+
+
 def spoilt(value):
     """An object with a member more, or with a member of another type, each in its turn: none is of a kind."""
     yield {**value, "other": 1}
@@ -119,6 +131,9 @@ class Kinds:
     def look(self, command, objects):
         for each in objects:
             kind = kind_of(command, each)
+            # Entries of journals have the members that journals have.
+            if command != "audit":
+                says_great_numbers(each)
             if kind not in self.met:
                 self.met.add(kind)
                 for other in spoilt(each):

@@ -49,10 +49,20 @@ def pairs(members):
         yield from map(str, value if isinstance(value, list) else [value])
 
 
+def without_texts(each):
+    """An object without the texts of its numbers."""
+    return {name: value for name, value in each.items() if not name.endswith("_text")}
+
+
+def members_of(each):
+    """What an object says beside its kind."""
+    return {name: value for name, value in without_texts(each).items() if name != "kind"}
+
+
 def report_of(found):
     """The report that the objects of a run say."""
     lines = []
-    for each in found:
+    for each in map(members_of, found):
         if "event" in each:
             lines.append(" ".join(map(str, each.values())))
         elif "safe" in each:
@@ -64,11 +74,11 @@ def report_of(found):
 
 
 def rate_of(found):
-    return "".join(f"{' '.join(pairs(each))}\n".removeprefix("code ").replace("spacing None", "spacing none") for each in found)
+    return "".join(f"{' '.join(pairs(each))}\n".removeprefix("code ").replace("spacing None", "spacing none") for each in map(members_of, found))
 
 
 def cell_of(found):
-    texts = [" ".join(pairs(each)).removeprefix("message ") for each in found]
+    texts = [" ".join(pairs(members_of(each))).removeprefix("message ") for each in found]
     return "".join(re.sub("^(yes|no)", r"answer \1", text) + "\n" for text in texts)
 
 
@@ -85,18 +95,9 @@ def written_of(found):
     return "".join(f"{each['cell']}\n" for each in found)
 
 
-def exact(each):
-    """An object without the texts of its numbers; each has to be there just if its number is above 2^53, and to say it."""
-    numbers = {name: value for name, value in each.items() if not name.endswith("_text")}
-    texts = {f"{name}_text": str(value) for name, value in numbers.items() if name != "line" and isinstance(value, int) and value > 2**53}
-    if texts != {name: value for name, value in each.items() if name.endswith("_text")}:
-        raise ValueError(f"numbers as texts: {each}")
-    return numbers
-
-
 def answers_of(found):
     """The lines that the objects of answers to lines say."""
-    return "".join(f"{answer_of(exact(each))}\n" for each in found)
+    return "".join(f"{answer_of(without_texts(each))}\n" for each in found)
 
 
 def answer_of(each):

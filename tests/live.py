@@ -24,7 +24,6 @@ import time
 from collections import Counter
 from pathlib import Path
 
-from harness import worked
 from network import CONNECTIONS, PORTS, Live, Run, lines_of, played
 
 ROOT = Path(__file__).resolve().parent.parent
@@ -111,8 +110,16 @@ def file_faults(program, folder):
     source, net, other = run.sources[0], run.net, folder / "other"
     store, journal, whole = source.store, source.journal, source.oldest
     source.live.ask("start 5")
-    cases = [("store", store, "another process uses it", sourced(net, 0, store, other))]
+    (folder / "copy").write_bytes(whole)
+    cases = [
+        ("store", store, "another process uses it", sourced(net, 0, store, other)),
+        ("journal", journal, "another process uses it", sourced(net, 0, folder / "copy", journal)),
+        ("journal", journal, "another process uses it", sourced(net, 0, folder / "none", journal, "--new")),
+    ]
+    alive = journal.read_bytes()
     found = [(case, told(program, case[3])) for case in cases]
+    if journal.read_bytes() != alive:
+        return "FAILED: a process wrote into the journal of another one"
     run.end()
     lines = journal.read_bytes()
     spoiled = {
@@ -145,7 +152,7 @@ def file_faults(program, folder):
         (
             "journal",
             run.ports[0],
-            "it is there already, and a switch that ended lost its reservations; begin with another",
+            "it is there already; a switch that ended lost its reservations: end its sources, and begin all with new journals",
             ["switch", net, "--journal", run.ports[0], "--port", 0],
         ),
         ("journal", other / "j", "there is no such folder", ["switch", net, "--journal", other / "j", "--port", 0]),
@@ -197,28 +204,45 @@ def limit_files():
     signal.signal(signal.SIGXFSZ, signal.SIG_IGN)
 
 
+def moments_of(journal):
+    """The moments of the starts and the emissions that a journal has."""
+    deeds = [entry["did"] for entry in lines_of(journal) if isinstance(entry.get("did"), dict)]
+    return [deed[kind] for deed in deeds for kind in ("start", "emit") if kind in deed]
+
+
 def clocked(program, folder):
-    """The adapter of docs/LIVE.md hands in the moments of a clock, over a restart too: a cell leaves a second after the start, and not
-    before."""
+    """Moments are those of the machine's clock, over a restart too, in lines and in cells: they rise, lie between two readings of it, and a
+    cell leaves a second after the start, and not before. Before its epoch a source does nothing, and what is no epoch is refused."""
     run = Run(program, folder, 1)
     run.end()
-    ((name, text),) = worked("LIVE.md", r"^```python\n# (\w+\.py)\n(.*?)^```$")
-    (folder / name).write_text(text)
-    (folder / "run.sh").write_text('python3 "$1" "$2" | { shift 2; exec "$@"; }\n')
-    words = [program, *sourced(run.net, 0, run.sources[0].store, run.sources[0].journal)]
+    journal, ahead = run.sources[0].journal, folder / "ahead.jsonl"
+    words = [program, *sourced(run.net, 0, run.sources[0].store, journal), "--clock"]
     yes = subprocess.run([program, "write", "yes", "1", "100", "1", "0000", "5258"], capture_output=True, text=True, timeout=60)
-    epoch, said = time.monotonic_ns(), []
-    for lines, pause in [(("start", "emit", "ask 5258", yes.stdout.strip(), "emit"), 1.2), (("start", "emit"), 0)]:
-        live = Live(["sh", folder / "run.sh", folder / name, epoch, *words])
+    epoch, said = time.monotonic_ns() - 10**9, []
+    began = (time.monotonic_ns() - epoch) * 1000
+    first = ("start", "emit 5", "start 5", " start", "emit", "ask 5258", yes.stdout.strip(), "emit")
+    for lines, pause, binary in [(first, 1.2, True), (("start", "emit"), 0, False)]:
+        live = Live([*words, epoch], binary)
         said += [live.ask(line) for line in lines]
         time.sleep(pause)
         said += [live.ask("emit")]
         live.end()
-    elapsed = (time.monotonic_ns() - epoch) * 1000
+    elapsed, moments = (time.monotonic_ns() - epoch) * 1000, moments_of(journal)
     kinds = [" ".join(it[:1] if it[:1] != ["fault"] else it) for it in said]
-    wanted = ["started", "fault Zero", "rm", "heard", "toosoon", "cell", "started", "fault Zero", "fault Zero"]
-    if kinds != wanted or not 10**12 <= int(said[5][2]) <= elapsed:
-        return f"FAILED: the clock of docs/LIVE.md gave {said}"
+    wanted = ["started", *["fault words"] * 3, "fault Zero", "rm", "heard", "toosoon", "cell", "started", "fault Zero", "fault Zero"]
+    if kinds != wanted or int(said[8][2]) not in moments or int(said[8][2]) < moments[0] + 10**12:
+        return f"FAILED: the clock gave {said}"
+    if moments != sorted(moments) or len(moments) != 7 or not began <= moments[0] <= moments[-1] <= elapsed:
+        return f"FAILED: between {began} and {elapsed} the clock left the moments {moments} in the journal"
+    live = Live([program, *sourced(run.net, 0, folder / "ahead", ahead, "--new", "--clock"), time.monotonic_ns() + 10**15])
+    said = [live.ask(line) for line in ("start", "emit", "emit 5")]
+    live.end()
+    if said != [["fault", "ClockBack"], ["fault", "ClockBack"], ["fault", "words"]] or ahead.read_bytes():
+        return f"FAILED: before its epoch a source gave {said}, and {ahead.read_bytes()} in the journal"
+    kept = journal.read_bytes()
+    status = [told(program, [*words[1:], word])[0] for word in ("", "x", "1s", "-1", "0.5", "1" * 20)]
+    if set(status) != {2} or journal.read_bytes() != kept:
+        return f"FAILED: what is no epoch gave {status}"
     return None
 
 

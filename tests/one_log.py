@@ -1,4 +1,4 @@
-"""Judges the log of one port, and of one source, alone (docs/JOURNALS.md, "One log"): those of the run of docs/JOURNALS.md and of each
+"""Judges the log of one port, and of one source, alone (docs/AUDITS.md, "One log"): those of the run of docs/JOURNALS.md and of each
 sample of scenarios/, as the slow model writes them, alone and among the others, with and without what a device can't know.
 
 With one entry changed, missing, there twice or elsewhere, the first entry has to be told that isn't what a port or a source by itself
@@ -177,7 +177,7 @@ def try_alike(judge, what, lines):
 
 
 def try_words(judge, lines, faults):
-    """The words, the faults of texts, and logs of docs/JOURNALS.md in which something is wrong."""
+    """The words, the faults of texts, and logs of docs/AUDITS.md in which something is wrong."""
     net, *entries, end = (one + "\n" for one in lines)
     texts = {name.removesuffix(".jsonl"): text.decode() for name, text, _ in faults}
     judge.cases("one_log", run="".join([net, *entries, end]), net=net, end=end, **texts)

@@ -22,7 +22,7 @@ from pathlib import Path
 from harness import SCENARIOS, End, Trial, case_file, files_in, main, put
 from preload import Faults
 
-REFUSAL = "error: a file that is read or written already can't be written to\n\nFor more information, try '--help'.\n"
+REFUSAL = "error: an output can't be a file that is read or written already, nor - where lines are printed\n\nFor more information, try '--help'.\n"
 SCENARIO, OTHER = ((SCENARIOS / f"{name}.toml").read_text() for name in ("threads_one_source", "two_ports"))
 JOURNALS = '{"net":{"ports":[1],"connections":[]}}\n{"port":0,"place":0,"input":{"capacity":2},"reply":"set"}\n{"end":true}\n'
 # A port has served a request that nobody sent.
@@ -258,6 +258,24 @@ def try_closed(files):
     files.wants("what closed streams leave", ["j.svg", "o.svg", "s.svg"], sorted(files_in(room)))
 
 
+def try_left(files):
+    """A command whose reader goes away ends quietly, also one whose input never ends, and what goes to OUT is whole."""
+    for words in ("run s.svg", "run s.svg --json", "explain s.svg", "audit j.svg", f"threads s.svg --workers 1 --journals {OUT}"):
+        room, (reading, writing) = files.room(), os.pipe()
+        os.close(reading)
+        running = files.start(words, room, stdout=writing, stderr=subprocess.PIPE)
+        os.close(writing)
+        told = running.communicate(timeout=SECONDS)[1].decode()
+        files.wants(f"{words}, whose reader is gone", (141, ""), (running.returncode, told))
+        is_left = OUT not in words or is_whole(RUN, files_in(room).get(OUT, b"").decode())
+        files.wants(f"{words}, whose reader is gone, OUT", (True,), (is_left,))
+    for words, line in (("shape --rate 53e8", "0"), ("cell --stdin", "no cell"), ("port 512000 --stdin", "no cell")):
+        shell = f"yes '{line}' | {shlex.quote(str(files.program))} {words} | head -1; echo ${{PIPESTATUS[1]}}"
+        done = subprocess.run(["bash", "-c", shell], cwd=files.room(), capture_output=True, timeout=SECONDS)
+        lines = done.stdout.decode().splitlines()
+        files.wants(f"{words} | head -1", (2, "141", b""), (len(lines), lines[-1], done.stderr))
+
+
 def is_seen(text):
     """Whether a text has no character, but line feeds, that Unicode calls a control or formatting one, a separator of lines, or none."""
     return not [it for it in text if it != "\n" and unicodedata.category(it) in ("Cc", "Cf", "Zl", "Zp", "Cn")]
@@ -286,7 +304,7 @@ def try_names(files):
 
 
 def look(files):
-    for test in (try_cases, try_places, try_rights, try_streams, try_faults, try_together, try_killed, try_closed, try_names):
+    for test in (try_cases, try_places, try_rights, try_streams, try_faults, try_together, try_killed, try_closed, try_left, try_names):
         files.checks(test.__name__, test, files)
     return f"{len(WRITING)} kinds of OUT, {len(UNSEEN)} characters in names"
 

@@ -23,6 +23,8 @@ PORT = ["port", "512000", "--stdin"]
 FLAT = 2048
 # What a unit of a rate in words is, in cells per second.
 WORDS = {"cps": Fraction(1), "bps": Fraction(1, 424), "kbps": Fraction(1000, 424), "Mbps": Fraction(10**6, 424), "Gbps": Fraction(10**9, 424)}
+# What a policer and a shaper tell at rate 0.
+ZERO = "this rate is 0, so no cell passes; cells per second are written as 1000cps\n"
 RATES = """500cps 1.3Mbps 64kbps 149.76Mbps 424bps 0cps 000.000000000Mbps 0.000000001bps 0.5cps 0.999999999cps 1cps 1.000000001cps
 1023.5cps 4290772992cps 4290772992.000000001cps 9999999999999999999Mbps 9999999999999999999.999999999Mbps
 1Gbps 0.000000001Gbps 1.23456789Gbps 1819.28Gbps 9999999999999999999.999999999Gbps""".split()
@@ -114,8 +116,9 @@ def try_rates(trial):
         below = max((rate for rate in known if rate[1] <= 512 * cells), key=lambda rate: rate[1])
         above = min((rate for rate in known if rate[1] >= 512 * cells), key=lambda rate: rate[1], default=None)
         trial.wants(f"code {text}", End(0, code_line("below", below) + code_line("above", above)), trial.run("code", text))
-        # A policer and a shaper take the code below, and tell it if it isn't just that.
-        told = "" if below[1] == 512 * cells else f"no code says this rate: {code_line('below', below)}"
+        # A policer and a shaper take the code below, and tell it if it isn't just that, or is 0.
+        exact = below[1] == 512 * cells
+        told = (ZERO if below[1] == 0 else "") if exact else f"no code says this rate: {code_line('below', below)}"
         for words in (["police", "--tau", "5", "--rate"], ["shape", "--rate"]):
             end = trial.run(*words, f"{below[0]:04x}", text="0\n7\n")
             trial.wants(f"{words} {text}", End(end.status, end.output, told), trial.run(*words, text, text="0\n7\n"))

@@ -18,6 +18,8 @@ SVG = "{http://www.w3.org/2000/svg}"
 # The geometry of docs/PICTURES.md, in tenths of a unit.
 TOP, ROW, BAND, BAND_STEP = 400, 260, 600, 860
 AXIS_LEFT, AXIS_RIGHT = 1000, 200
+# Where the axis of cells begins, and how long it is.
+TIME_LEFT, TIME = 1000, 4800
 # A picture's least width, the room of a sign of the rows, at least and at most so many signs, and that of a sign in a block.
 WIDTH, SIGN, SIGNS, SIGN_IN_BLOCK = 6000, 42, (16, 66), 46
 
@@ -29,7 +31,7 @@ KEYS = {
     "a source starts": ("circle", "mark start", 1), "a source crashes": ("line", "mark crash", 2),
     "a request is sent": ("circle", "mark ask", 1), "a cell leaves or comes": ("line", "mark cell", 1),
     "a capacity is set": ("rect", "mark set", 1), "refused or dropped": ("rect", "mark refused", 1),
-    "couldn't happen": ("circle", "mark idle", 1), "the source is up": ("line", "up", 1),
+    "couldn't happen": ("circle", "mark idle", 1), "the source is up": ("line", "up", 1), "a journal is stuck": ("circle", "mark stuck", 1),
     "held by a connection": ("rect", "hold h0", 1), "capacity of the port": ("line", "capacity", 1),
     "rate of the source": ("line", "rate", 1), "least held along its path": ("line", "least", 1),
 }
@@ -129,6 +131,13 @@ class Run:
             return "source", conn
         return ("end", conn) if stop > len(path) else ("port", path[stop - 1])
 
+    def cell(self, event):
+        """Of an event that had a cell leave or arrive, the verdict if it arrived, and its number."""
+        word, *rest = self.outcomes[event].split(" ")
+        if word == "emitted":
+            return None, int(rest[0])
+        return (rest[0], self.events[event][2]) if word == "arrived" else None
+
     def place_of(self, event):
         """On whose lifeline an event happens, or would if it could; None, if its net has no such connection or hop."""
         word, *rest = self.events[event]
@@ -216,7 +225,8 @@ class Picture:
     def check(self):
         places = self.lifelines()
         bands = [one for one in places if one[0] == "port"] + [one for one in places if one[0] == "source"]
-        self.check_legend(self.bottom + BAND_STEP * len(bands))
+        axis = self.bottom + BAND_STEP * len(bands)
+        self.check_legend(axis + self.check_cells(axis + 320))
         groups = {one.get("id"): one for one in self.shapes(self.root, "g", "event")}
         assert list(groups) == [f"e{event + 1}" for event in self.kept], "events"
         self.check_classes(groups.values(), places)
@@ -244,6 +254,42 @@ class Picture:
                 wanted = "event bad" if BAD.match(outcome) else "event"
             assert group.get("class") == wanted, ("class", event + 1, outcome, group.get("class"), wanted)
 
+    def check_cells(self, upper):
+        """Each source of which cells leave or arrive has a strip along an axis of time; how high they are. They are taken off."""
+        run, shown = self.run, range(self.first, self.last)
+        moments = [run.events[event][-1] for event in shown if run.cell(event) and (not self.only or run.events[event][1] in self.only)]
+        if not moments:
+            assert not self.shapes(self.root, "line", "way"), "arrows of cells"
+            return 0
+        least, most = min(moments), max(moments)
+        x = {moment: TIME_LEFT + (min(moment, most) - least) * TIME // max(most - least, 1) for moment in [least, *(run.events[event][-1] for event in shown if run.cell(event))]}
+        wanted = [("text", "key", (60, upper + 100), f"Cells, emitted above and arrived below, from {least} to {most} ps. A dashed line is a cell that was found nonconforming.")]
+        y = upper + 300
+        for kind, conn in run.columns(self.only):
+            cells = [(event, *run.cell(event)) for event in shown if run.cell(event) and run.events[event][1] == conn]
+            if kind != "source" or not cells:
+                continue
+            wanted += [("text", "band", (60, y + 230), f"cells {conn}")]
+            wanted += [("line", "ground", (TIME_LEFT, at, TIME_LEFT + TIME, at), None) for at in (y, y + 400)]
+            left = {cell: run.events[event][-1] for event, verdict, cell in reversed(cells) if verdict is None}
+            for event, verdict, cell in cells:
+                moment = run.events[event][-1]
+                if verdict is None:
+                    wanted.append(("line", "mark cell", (x[moment], y - 60, x[moment], y), None))
+                else:
+                    told = f"cell {cell} at {moment}" + (f", emitted at {left[cell]}" if cell in left else "")
+                    wanted.append(("line", "way" if verdict == "Conforming" else "way bad", (x[left.get(cell, least)], y, x[moment], y + 400), told))
+            y += 700
+        drawn = [one for one in self.root if one.get("class") != "cursor" and upper < self.top(one) <= y - 250]
+        found = [(one.tag.removeprefix(SVG), one.get("class"), self.at(one), one.text if one.tag == SVG + "text" else one.findtext(SVG + "title")) for one in drawn]
+        assert found == wanted, ("cells", found, wanted)
+        for one in drawn:
+            self.root.remove(one)
+        return y - upper
+
+    def at(self, one):
+        return self.places(one) if one.tag == SVG + "line" else (tenths(one.get("x")), tenths(one.get("y")))
+
     def check_legend(self, axis):
         """Each shape of the legend stands before its meaning, and the units below them; nothing else is there. It is taken off."""
         legend = [one for one in self.root if one.get("class") != "cursor" and self.top(one) > axis + 140]
@@ -255,8 +301,8 @@ class Picture:
             x, y = tenths(told[words].get("x")), tenths(told[words].get("y"))
             shapes = [one for one in legend if one.tag == SVG + kind and one.get("class") == name and abs(self.top(one) - y) < 120]
             assert len(shapes) == count and all(x - 320 < self.left(one) < x - 50 for one in shapes), ("key", words, len(shapes))
-        crosses = sum(one.get("class") == "lost" for one in legend)
-        assert crosses == 2 and len(legend) == len(told) + crosses + sum(count for *_, count in KEYS.values()), "shapes of the legend"
+        crosses = [sum(one.get("class") == name for one in legend) for name in ("lost", "stuck")]
+        assert crosses == [2, 2] and len(legend) == len(told) + 4 + sum(count for *_, count in KEYS.values()), "shapes of the legend"
         assert max(map(self.top, legend)) < tenths(self.root.get("height")), "the legend is cut off"
 
     def top(self, one):

@@ -9,9 +9,11 @@ import xml.etree.ElementTree as ElementTree
 
 from colours import check_colours
 from harness import ROOT, SCENARIOS, End, Trial, files_in, main, samples, scenario, section
+from ladder import Ladder
 from picture import SVG, Page, Picture, Run
 from preload import Faults
 from reading import Fault, read
+from terminal import Terminal
 
 COLUMNS = "fault: Columns: at most 1024 lifelines are drawn, so choose connections by --only\n"
 JOURNALS = '{"net":{"ports":[1],"connections":[]}}\n{"port":0,"place":0,"input":{"capacity":2},"reply":"set"}\n{"end":true}\n'
@@ -49,6 +51,8 @@ def check_sample(drawer, sample):
         picture = Picture(drawer.drawn(sample, "picture.svg", *words), run, first, last, only)
         picture.check()
         assert picture.words == explained, "the words of a picture"
+        text = drawer.drawn(sample, "picture.txt", *words)
+        assert text == Ladder(run, first, last, only).text(explained), "the drawing as text"
         page = Page(drawer.drawn(sample, "picture.html", *words))
         page.check(explained)
         assert page.steps() == (len(picture.kept), first, last - first), ("steps", page.steps())
@@ -123,6 +127,9 @@ def check_printed(drawer):
     drawer.wants("one of the input", End(0, text), drawer.run("draw", "-", "-o", "-", "--only", "0", text=sample.read_bytes()))
     end = drawer.run("draw", SCENARIOS / "threads_one_source.toml", "--workers", "2", "-o", "-")
     assert end.status == 0 and not end.told and end.output.startswith("<svg ") and end.output.endswith("</svg>\n"), end
+    text = drawer.drawn(sample, "printed.txt", "--only", "0")
+    status, _, shown = Terminal([drawer.program, "draw", str(sample), "-o", "-", "--only", "0"], both=True).end()
+    assert status == 0 and shown.decode().replace("\r\n", "\n") == text, "what is drawn on a terminal"
     assert "-" not in files_in(drawer.folder), "a file is made for the standard output"
 
 

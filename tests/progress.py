@@ -26,12 +26,14 @@ NARROW = 20
 EVENTS = [f"start 0 {moment}" for moment in range(300)]
 FILLING = "# " + 61 * "." + "\n"
 THREADS = "threads --workers 2"
+PLAY = "play --seed 1"
 OF_LONG = ("run", "run --json", "run --explain", "explain", "explain --json", THREADS, f"{THREADS} --journals OUT", f"{THREADS} --explain")
 # A net of a port and a connection, and what makes a scenario of it.
 NET = b"ports = [512000]\n%s\n[[connection]]\nvpi = 1\nvci = 100\npath = [0]\ndelay = 0\ntau = 0\n%s\n"
 SCRIPTS, OPERATOR, EVENT = NET % (b"", b"script = ['start 0']"), NET % (b"operator = ['capacity 0 5']", b""), NET % (b"events = ['start 0 0']", b"")
 BOTH, NOTHING = NET % (b"events = ['start 0 0']", b"script = ['start 0']"), NET % (b"", b"script = []")
 FOR_SCRIPTS = "this scenario has only scripts: use abt threads, or abt play\n"
+FOR_EVENTS = "this scenario has only events: use abt run\n"
 # Commands over these, and what is told on a terminal alone; with --explain the advice is told anywhere.
 ADVISED = [
     ("run", SCRIPTS, FOR_SCRIPTS),
@@ -39,10 +41,16 @@ ADVISED = [
     ("run --json", SCRIPTS, ""),
     ("run --explain", SCRIPTS, ""),
     *(("run", text, "") for text in (EVENT, BOTH, NOTHING)),
-    (THREADS, EVENT, "this scenario has only events: use abt run\n"),
+    (THREADS, EVENT, FOR_EVENTS),
     *((THREADS, text, "") for text in (SCRIPTS, OPERATOR, BOTH, NOTHING)),
     ("run", NET % (b"events = ['akk 0']", b""), "abt check says why\n"),
     (THREADS, NET % (b"events = ['akk 0']", b""), "abt check says why\n"),
+    *((words, text, FOR_SCRIPTS) for words in ("explain", "draw -o -") for text in (SCRIPTS, OPERATOR)),
+    *((words, text, "") for words in ("explain", "draw -o -") for text in (EVENT, BOTH, NOTHING, b"\xff")),
+    *((words, SCRIPTS, "") for words in ("explain --json", "draw --workers 1 -o -")),
+    (PLAY, EVENT, FOR_EVENTS),
+    *((PLAY, text, "") for text in (SCRIPTS, OPERATOR, BOTH, NOTHING, b"\xff")),
+    *((words, NET % (b"events = ['akk 0']", b""), "abt check says why\n") for words in ("explain", "draw -o -", PLAY)),
     ("run", b"\xff", ""),
     ("check", SCRIPTS, ""),
 ]
@@ -75,7 +83,7 @@ def advice(words, file, name):
     """What is advised on a terminal alone."""
     if words == ["run"] and file.name == "faulty.toml":
         return f"abt check{name} says why\n"
-    return "this scenario has only events: use abt run\n" if words == THREADS.split() else ""
+    return FOR_EVENTS if words == THREADS.split() else ""
 
 
 def look_at_advice(program, words, text, told):

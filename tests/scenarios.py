@@ -16,7 +16,7 @@ from harness import ROOT, SCENARIOS, End, main, run, samples, worked
 
 LONGEST = 16_777_216
 LONG_NAME = "n" * 5000
-REFUSAL = r"error: a file that is read or written already can't be written to\n\nFor more information, try '--help'.\n"
+REFUSAL = r"error: an output can't be a file that is read or written already, nor - where lines are printed\n\nFor more information, try '--help'.\n"
 
 
 def beside(sample, suffix, default):
@@ -29,6 +29,16 @@ def try_sample(trial, sample):
     command, *options = beside(sample, ".args", "run\n").splitlines()
     trial.wants(sample.name, wanted, trial.run(command, sample.name, *options, folder=SCENARIOS))
     trial.wants(f"{sample.name} from standard input", wanted, trial.run(command, *options, text=sample.read_bytes()))
+    if command == "run" and not options and not wanted.status:
+        try_strict(trial, sample, wanted)
+
+
+def try_strict(trial, sample, report):
+    """A strict run says the same, and is refused by the first event that isn't enabled: it is told as an explanation has it."""
+    explained = trial.explained(sample)
+    unable = [re.sub(r"^(\d+) .*?: (not-enabled)", r"event \1 is \2", line) for line in explained.splitlines() if ": not-enabled " in line]
+    wanted = report._replace(status=1, told=f"fault: strict\n{unable[0]}\n") if unable else report
+    trial.wants(f"{sample.name}, strict", wanted, trial.run("run", sample.name, "--strict", folder=SCENARIOS))
 
 
 def try_lengths(trial):
@@ -85,6 +95,7 @@ def look(trial):
     for part in (try_shown, try_model, try_lengths, try_rights, try_explanation):
         part(trial)
     cases = trial.cases("files_and_words", long=LONG_NAME)
+    cases += trial.cases("strict")
     cases += trial.cases("one_file", refusal=REFUSAL, scenario=(SCENARIOS / "threads_one_source.toml").read_text())
     return f"{len(samples())} samples, {cases} cases"
 

@@ -73,7 +73,7 @@ def said(members):
     """What an object says in words."""
     if members["kind"] == "event":
         beside = ("kind", "text", "words", "why", "lies_at", "comes_next", *STATE, *POSSIBLE)
-        return " ".join(str(value) for key, value in members.items() if key not in beside)
+        return " ".join(str(value) for key, value in members.items() if key not in beside and not key.endswith("_text"))
     return {"reset": "reset", "end": "safe", "fault": f"fault {members.get('fault')}"}[members["kind"]]
 
 

@@ -1,5 +1,5 @@
 """What is told of entries in no order: each of those at which a slow search ends, and what it waits for, by the facts of the slow model there
-(docs/JOURNALS.md, "Audits").
+(docs/AUDITS.md, "What is told").
 """
 from completing import CompletedSearch
 from model import code

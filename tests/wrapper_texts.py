@@ -1,9 +1,13 @@
 """Holds the wrappers of the library for C against include/abt.h: each calls the same functions with the same types, has the same faults
-by name and number, outcomes and sizes of states; and each text that has the version has the same one.
+by name and number, outcomes, units and sizes of states; and each text that has the version has the same one. The package of Python asks
+the program without a library.
 
 usage: wrapper_texts.py
 """
+import os
 import re
+import subprocess
+import sys
 
 from c_header import HEADER, OUTCOMES, STATES, functions
 from harness import ROOT, case_file, report
@@ -70,6 +74,23 @@ def faults_of_sizes():
     yield from differs("states in Python", python, wanted)
 
 
+def faults_of_units():
+    """Each has the units of docs/RULES.md, "Rates", under one name."""
+    for name, wanted in {"UNITS_PER_CELL_PER_SECOND": 512, "PICOSECONDS_PER_SECOND": 10**12}.items():
+        for place, pattern in TYPES["units"].items():
+            found = re.search(pattern.replace("NAME", name).replace("name", name.lower()), text(place), re.M)
+            yield from differs(f"{name} in {place}", found and found[1], f"ABT_{name}" if place.endswith("hpp") else str(wanted))
+
+
+def faults_of_imports():
+    """Without a library abt.oracle is imported, and a call of the library says that there is none."""
+    for words, wanted in TYPES["imports"].items():
+        environment = {**os.environ, "ABT_LIBRARY": "/none/libabt.so.0", "PYTHONPATH": str(ROOT / "wrappers" / "python")}
+        done = subprocess.run([sys.executable, "-B", "-c", words], env=environment, capture_output=True, text=True)
+        told = (done.stdout + done.stderr).rstrip("\n").split("\n")[-1]
+        yield from differs(words, told[: len(wanted)], wanted)
+
+
 def faults_of_versions():
     wanted = re.search(r'ABT_VERSION "(.*)"', HEADER)[1]
     for place, pattern in TYPES["versions"].items():
@@ -81,4 +102,4 @@ def differs(what, found, wanted):
         yield f"{what}: {found}, and in the header {wanted}"
 
 
-report(f"{len(functions())} calls", [*faults_of_calls(), *faults_of_numbers(), *faults_of_sizes(), *faults_of_versions()])
+report(f"{len(functions())} calls", [*faults_of_calls(), *faults_of_numbers(), *faults_of_sizes(), *faults_of_versions(), *faults_of_units(), *faults_of_imports()])

@@ -4,11 +4,13 @@ same.
 
 COMMAND is started anew for every hundred events or so, with a word or two behind its own, and answers each line by one line
 (`--list-roles`). Events are drawn by the seed: only those that can happen, most of them at the edges of the rules. At the first
-difference the events are made as few as will do and written to a file, both answers are told with the reason, and the status is 1. It is
-1 too if COMMAND can't be used: if it can't be started, ends, prints nothing, prints too much, or never ends. It is 2 if these words can't
-be read.
+difference the events are made as few as will do and written to a file, both answers are told with the reasons, and the status is 1. A
+COMMAND that ends, prints nothing, prints too much or never ends differs there too. If it can't be started, the status is 1. It is 2 if
+these words can't be read. Where nothing differs, or nothing was compared, a file of a run before is removed.
 """
 import argparse
+import os
+import re
 import subprocess
 import sys
 import tempfile
@@ -21,30 +23,61 @@ ROOT = Path(__file__).resolve().parent.parent
 sys.path.insert(0, str(ROOT / "scenarios" / "model"))
 from edges import Cells, Events, draw_net, possible, world_of  # noqa: E402
 from model import code  # noqa: E402
+from port_story import said, told_cells  # noqa: E402
 from reading import event as event_of  # noqa: E402
 from rm_cells import cell  # noqa: E402
 from scenario_text import Connection, Scenario  # noqa: E402
 from shrink import shrunk  # noqa: E402
-from side import SIGNALS, Side, Unfit  # noqa: E402
+from side import MORE, SIGNALS, Broken, Side, Unfit  # noqa: E402
 
 # How many events a command answers before it is started anew.
 LENGTH = 120
-# How often, and for how many seconds, a difference is tried to be made smaller.
-MOST_TRIES, LONGEST_SHRINKING = 400, 60
+# How often a difference is tried to be made smaller.
+MOST_TRIES = 400
 # How long a command of abt may take.
 SECONDS = 60
-DIFFERS, WRONG_WORDS = 1, 2
+DIFFERS = 1
+# The status once whoever read the output went away.
+LEFT = 141
+# What stands for a line at the end of the input, and what a program that says nothing there does.
+END, ENDS = "the end of the input", "ends"
+# For how many seconds at least an answer is awaited while events are made few; and for how many times as long as the slowest one took.
+LEAST_WAIT, TIMES = 1, 20
 
 # What a COMMAND of each role has to read and to answer.
 ROLES = ROOT / "tools" / "roles.txt"
 
 
+class Left(Exception):
+    """Whoever read the output went away."""
+
+
+def put(text):
+    """Prints a text as a line, or says how the output failed."""
+    try:
+        print(text, flush=True)
+    except BrokenPipeError:
+        raise Left from None
+    except OSError:
+        raise Unfit("write") from None
+
+
+def let_go():
+    """What is left of the output goes nowhere."""
+    os.dup2(os.open(os.devnull, os.O_WRONLY), sys.stdout.fileno())
+
+
 class Difference(Exception):
-    """The first line at which both differ: what was sent, what each answered, and all that was sent so far."""
+    """The first line at which both differ: what was sent, what each answered, and all that was sent so far. In place of an answer there may
+    be how the program broke."""
 
     def __init__(self, sent, wanted, given, before):
         super().__init__(sent)
         self.sent, self.wanted, self.given, self.before = sent, wanted, given, before
+
+    def kind(self):
+        """By what a smaller difference is the same."""
+        return self.given.kind() if isinstance(self.given, Broken) else "answer"
 
 
 def fewer(items, kept, until):
@@ -67,9 +100,59 @@ class Tester:
 
     def __init__(self, words, room):
         self.words, self.room = words, Path(room)
+        self.limit, self.slowest, self.looks, self.slow_from = words.timeout, 0, True, None
+        self.is_cut = False
 
     def tested(self, *more):
-        return Side([*self.words.command, *map(str, more)], self.words.timeout, self.words.fifos)
+        return Side([*self.words.command, *map(str, more)], self.limit, self.words.fifos)
+
+    def compare(self, other, asked, before):
+        """Hands the last line on to the program, END at the end of its input. `asked` has each line with the answer that is wanted and how
+        many events there were by then, `before` gives what so many events are."""
+        line, wanted, count = asked[-1]
+        given = self.given(other, line, wanted, count)
+        self.slowest = max(self.slowest, other.slowest)
+        if given != wanted:
+            raise Difference(line, wanted, given, before(count))
+
+    def given(self, other, line, wanted, count):
+        """What the program answers, or how it breaks."""
+        try:
+            if line != END:
+                return other.answer(line, wanted if self.looks else None, self.slow_from is not None and count >= self.slow_from)
+            text = other.end(None if wanted == ENDS else wanted)
+            return ENDS if wanted == ENDS else text
+        except Broken as how:
+            return how
+
+    def same(self, found, before):
+        """The first difference of a run over this that is of the same kind as the one that was found, or None. A second line may have come
+        late, for the line before: so behind the last two lines one is awaited."""
+        if isinstance(found.given, Broken) and found.given.how.startswith(MORE):
+            self.slow_from = self.count(before) - 1
+        try:
+            self.again(before)
+        except Difference as other:
+            return other if other.kind() == found.kind() else None
+        return None
+
+    def hurry(self, found):
+        """While events are made few: nothing is waited for much longer than an answer took so far."""
+        self.limit = min(self.limit, max(LEAST_WAIT, TIMES * self.slowest))
+        self.looks = isinstance(found.given, Broken)
+
+    def read(self, text):
+        """A text, and below it what its cells say."""
+        cells = re.findall(r"\b[0-9a-f]{104}\b", text)
+        lines = self.abt("cell", "--stdin", text="".join(f"{it}\n" for it in cells)).stdout.splitlines() if cells else []
+        return "".join([text, *(f"\n        {said(line)}" for line in lines)])
+
+    def both(self, found):
+        """What each answered; of a program that broke how, and what it told."""
+        given = found.given
+        if isinstance(given, Broken):
+            given = "".join([given.how, *(f"\n        {line}" for line in given.told.splitlines())])
+        return f"  abt   {self.read(found.wanted)}\n  yours {self.read(given)}"
 
     def abt(self, *words, text=None):
         done = subprocess.run([self.words.abt, *map(str, words)], input=text, capture_output=True, text=True, timeout=SECONDS)
@@ -81,58 +164,60 @@ class Tester:
 class Ports(Tester):
     """A port, and what it answers to cells."""
 
-    kind = "cells"
-
     def sequence(self, chosen, count):
         capacity = chosen.choice([512_000, 409_600, 307_200, 512_001, 511_999])
-        cells, sent = Cells(chosen, capacity), []
+        cells, asked = Cells(chosen, capacity), []
+        before = lambda so_many: (capacity, [it[0] for it in asked[:so_many]])  # noqa: E731
         with Side([self.words.abt, "port", str(capacity), "--stdin"], SECONDS) as oracle, self.tested(capacity) as other:
-            for _ in range(count):
+            for number in range(1, count + 1):
                 line = cells.draw()
-                sent.append(line)
-                wanted, given = oracle.answer(line), other.answer(line)
-                if wanted != given:
-                    raise Difference(line, wanted, given, (capacity, sent))
-                cells.heard(wanted)
-            wanted, given = oracle.end().strip(), other.end().strip()
-            if wanted != given:
-                raise Difference("the end of the input", wanted, given, (capacity, sent))
+                asked.append((line, oracle.answer(line), number))
+                self.compare(other, asked, before)
+                cells.heard(asked[-1][1])
+            asked.append((END, oracle.end(), count))
+            self.compare(other, asked, before)
 
-    def first(self, capacity, cells):
-        """The first difference over these cells."""
-        wanted = self.abt("port", capacity, "--stdin", text="".join(f"{it}\n" for it in cells)).stdout.splitlines()
+    def answers(self, capacity, cells):
+        return self.abt("port", capacity, "--stdin", text="".join(f"{it}\n" for it in cells)).stdout.splitlines()
+
+    def count(self, before):
+        return len(before[1])
+
+    def again(self, before):
+        """Compares over these cells."""
+        capacity, cells = before
+        wanted, asked = self.answers(capacity, cells), []
         with self.tested(capacity) as other:
-            for place, line in enumerate(cells):
-                given = other.answer(line)
-                if given != wanted[place]:
-                    return Difference(line, wanted[place], given, (capacity, cells[: place + 1]))
-            given = other.end().strip()
-        return Difference("the end of the input", wanted[-1], given, (capacity, cells)) if given != wanted[-1] else None
+            for place, line in enumerate([*cells, END]):
+                asked.append((line, wanted[place], min(place + 1, len(cells))))
+                self.compare(other, asked, lambda so_many: (capacity, cells[:so_many]))
 
     def smallest(self, found):
         capacity, best = found.before[0], [found]
+        self.hurry(found)
 
         def kept(cells):
-            other = self.first(capacity, cells)
+            other = self.same(found, (capacity, cells))
             if other is None:
                 return None
             best[0] = other
             return other.before[1]
 
-        fewer(found.before[1], kept, time.monotonic() + LONGEST_SHRINKING)
+        until = time.monotonic() + self.words.shrink
+        fewer(found.before[1], kept, until)
+        self.is_cut = time.monotonic() > until
         return best[0]
 
     def shown(self, found, to):
         capacity, cells = found.before
         to.write_text("".join(f"{it}\n" for it in cells))
-        read = self.abt("cell", "--stdin", text=to.read_text()).stdout
-        return len(cells), f"abt port {capacity} --stdin <{to}", read.rstrip("\n").splitlines()
+        read = self.abt("cell", "--stdin", text=to.read_text()).stdout.splitlines()
+        return len(cells), f"abt port {capacity} --stdin <{to}", told_cells(capacity, read, self.answers(capacity, cells))
 
 
 class Nets(Tester):
     """A net, and the outcomes of its events."""
 
-    kind = "toml"
     most = (3, 4)
 
     def net(self, chosen):
@@ -149,7 +234,8 @@ class Nets(Tester):
 
     def sequence(self, chosen, count):
         net = self.net(chosen)
-        drawn, sent = Events(chosen, net), []
+        drawn, sent, asked = Events(chosen, net), [], []
+        before = lambda so_many: Scenario(net.ports, net.connections, tuple(sent[:so_many]))  # noqa: E731
         with self.oracle(net) as oracle, self.tested(*self.hand_over(net)) as other:
             for _ in range(count):
                 text, outcome = drawn.draw()
@@ -157,41 +243,41 @@ class Nets(Tester):
                 if (answer := oracle.answer(text).split(" ", 1)[-1]) != outcome:
                     told = f"`{text}`: {answer}, and {outcome} by the model"
                     raise Unfit(f"abt and its slow model differ, which is a fault of theirs: {told}")
-                line = self.line(text, outcome, drawn.world)
-                if line is None:
-                    continue
-                given = other.answer(line[0])
-                if given != line[1]:
-                    raise Difference(line[0], line[1], given, Scenario(net.ports, net.connections, tuple(sent)))
+                if line := self.line(text, outcome, drawn.world):
+                    asked.append((*line, len(sent)))
+                    self.compare(other, asked, before)
             oracle.end()
-            other.end()
+            self.compare(other, [*asked, (END, ENDS, len(sent))], before)
 
     def oracle(self, net):
         file = self.room / "oracle.toml"
         file.write_bytes(net.octets())
         return Side([self.words.abt, "step", str(file)], SECONDS)
 
-    def first(self, scenario):
-        """The first difference over a scenario, whose events all can happen."""
+    def count(self, before):
+        return len(before.events)
+
+    def again(self, scenario):
+        """Compares over a scenario, of whose events those are taken that can happen."""
         scenario, outcomes = possible(scenario)
-        world = world_of(scenario)
+        world, asked = world_of(scenario), []
+        before = lambda so_many: replace(scenario, events=scenario.events[:so_many])  # noqa: E731
         with self.tested(*self.hand_over(scenario)) as other:
-            for place, (text, outcome) in enumerate(zip(scenario.events, outcomes)):
+            for number, (text, outcome) in enumerate(zip(scenario.events, outcomes), 1):
                 world.step(event_of(text))
-                line = self.line(text, outcome, world)
-                given = other.answer(line[0]) if line else None
-                if line and given != line[1]:
-                    before = Scenario(scenario.ports, scenario.connections, scenario.events[: place + 1])
-                    return Difference(line[0], line[1], given, before)
-        return None
+                if line := self.line(text, outcome, world):
+                    asked.append((*line, number))
+                    self.compare(other, asked, before)
+            self.compare(other, [*asked, (END, ENDS, len(scenario.events))], before)
 
     def smallest(self, found):
-        until, best = time.monotonic() + LONGEST_SHRINKING, [found]
+        until, best = time.monotonic() + self.words.shrink, [found]
+        self.hurry(found)
 
         def differs(scenario):
             if time.monotonic() > until or not self.fits(scenario):
                 return False
-            other = self.first(scenario)
+            other = self.same(found, scenario)
             if other is not None:
                 best[0] = other
             return other is not None
@@ -201,6 +287,7 @@ class Nets(Tester):
 
         fewer(found.before.events, kept, until)
         shrunk(best[0].before, differs, MOST_TRIES)
+        self.is_cut = time.monotonic() > until
         return best[0]
 
     def fits(self, scenario):
@@ -251,23 +338,27 @@ def compare(tester, words):
     return done
 
 
+def file_of(words):
+    return Path(words.to or f"conform.{'cells' if words.role == 'port' else 'toml'}")
+
+
 def tell(tester, words, found):
     """Tells a difference, and the smallest that was found."""
-    print(f"differs, seed {words.seed}: `{found.sent}`\n  abt   {found.wanted}\n  yours {found.given}", flush=True)
+    found = tester.same(found, found.before) or found
+    put(tester.read(f"differs, seed {words.seed}: `{found.sent}`") + f"\n{tester.both(found)}")
     try:
         found = found if words.whole else tester.smallest(found)
     except Unfit as why:
-        print(f"not made smaller: {why}")
-    to = Path(words.to or f"conform.{tester.kind}")
+        put(f"not made smaller: {why}")
+    to = file_of(words)
     try:
         count, again, lines = tester.shown(found, to)
     except OSError as error:
         raise Unfit(f"{to} can't be written: {error.strerror}") from None
-    what = ("cell" if tester.kind == "cells" else "event") + "s" * (count != 1)
-    print(f"{'all' if words.whole else 'smallest'}: {to}, {count} {what}; {again}")
-    for line in lines:
-        print(f"  {line}")
-    print(f"  abt   {found.wanted}\n  yours {found.given}")
+    what = ("cell" if words.role == "port" else "event") + "s" * (count != 1)
+    size = "all" if words.whole else f"smallest within {words.shrink:g} s" if tester.is_cut else "smallest"
+    put(f"{size}: {to}, {count} {what}; {again}")
+    put("\n".join([*(f"  {line}" for line in lines), *[END] * (found.sent == END), tester.both(found)]))
 
 
 def words_of():
@@ -277,6 +368,7 @@ def words_of():
     reader.add_argument("--seed", type=int, default=1, metavar="N", help="what events are drawn by; without it, 1")
     reader.add_argument("--events", type=int, default=10_000, metavar="N", help="how many events; without it, 10000")
     reader.add_argument("--timeout", type=float, default=10, metavar="S", help="for how many seconds an answer is awaited; without it, 10")
+    reader.add_argument("--shrink", type=float, default=60, metavar="S", help="for how many seconds events are made fewer; without it, 60")
     reader.add_argument("--to", metavar="FILE", help="the file for the smallest events; without it, conform.toml or conform.cells")
     reader.add_argument("--whole", action="store_true", help="leave the events as they were drawn, up to the difference")
     reader.add_argument("--fifos", action="store_true", help="join COMMAND by two FIFOs, whose names stand behind its words")
@@ -287,17 +379,21 @@ def words_of():
         return words
     if not words.role or not words.command:
         reader.error("name a --role, and behind -- a COMMAND (--list-roles says what it has to answer)")
-    if words.events < 1 or not 0 < words.timeout <= 3600:
-        reader.error("--events is at least 1, and --timeout more than 0 and at most 3600 seconds")
+    if words.events < 1 or not 0 < words.timeout <= 3600 or not 0 <= words.shrink <= 3600:
+        reader.error("--events is at least 1, --timeout more than 0 and at most 3600 seconds, and --shrink at most 3600")
     return words
 
 
 def main():
     words = words_of()
     if words.list_roles:
-        print(ROLES.read_text(), end="")
+        put(ROLES.read_text().rstrip("\n"))
         return 0
 
+    # The script compiles the program first, if that wasn't done yet.
+    made = subprocess.run([words.abt, "rate", "0000"], stdin=subprocess.DEVNULL, stdout=subprocess.DEVNULL)
+    if made.returncode != 0:
+        return made.returncode
     SIGNALS.take()
     with tempfile.TemporaryDirectory(prefix="conform-") as room:
         tester = {"port": Ports, "source": Sources, "net": Nets}[words.role](words, room)
@@ -306,14 +402,22 @@ def main():
         except Difference as found:
             tell(tester, words, found)
             return DIFFERS
-        print(f"conforms: {done} events, seed {words.seed}")
+        except Unfit:
+            file_of(words).unlink(missing_ok=True)
+            raise
+        file_of(words).unlink(missing_ok=True)
+        put(f"conforms: {done} events, seed {words.seed}")
         return 0
 
 
 if __name__ == "__main__":
     try:
         sys.exit(main())
+    except Left:
+        let_go()
+        sys.exit(LEFT)
     except Unfit as why:
+        let_go()
         print(f"fault: {why}", file=sys.stderr)
         sys.exit(DIFFERS)
     finally:

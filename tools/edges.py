@@ -142,6 +142,10 @@ class Cells:
     """Draws cells at a port, by what its answers to those before show."""
 
     CHANNELS = ((1, 100), (1, 101), (4095, 65535))
+    # What else a request may have and is read all the same: a loss priority, and bits that are the network's or reserved.
+    READ = ({"low": 6 << 1 | 1}, {"flipped": 0x40}, {"flipped": 0x20}, {"flipped": 0x03})
+    # With what it is no message: no RM cell, another protocol, for maintenance, elastic, or going the wrong way.
+    UNREAD = ({"low": 4 << 1}, {"protocol": 1}, {"flipped": 0x10}, {"flipped": 0x04}, {"flipped": 0x80})
 
     def __init__(self, chosen, capacity):
         self.chosen, self.capacity = chosen, capacity
@@ -150,7 +154,7 @@ class Cells:
 
     def draw(self):
         vc = self.chosen.choice(self.CHANNELS)
-        draws = {self.new: 5, self.repeat: 2, self.answer: 3, self.old: 1, self.other: 1, self.damaged: 0.3}
+        draws = {self.new: 5, self.repeat: 2, self.answer: 3, self.old: 1, self.other: 1, self.odd: 0.5, self.damaged: 0.3}
         self.last = self.chosen.choices(list(draws), list(draws.values()))[0](vc)
         return self.last[0]
 
@@ -163,7 +167,13 @@ class Cells:
         return "request", vc, number, min(floor, ask), ask
 
     def made(self, kind, vc, number, floor, ask):
-        return cell(vc, kind, number, floor, ask), (kind, vc, number, floor, ask)
+        return cell(vc, kind, number, self.spelt(floor), self.spelt(ask)), (kind, vc, number, floor, ask)
+
+    def spelt(self, code):
+        """A code of the same rate: mostly the canonical one, or one with a bit that nothing reads, of the rate 0 any without its third."""
+        if self.chosen.random() < 0.95:
+            return code
+        return code | 0x8000 if code else self.chosen.choice([0x8000, 0x1000, 0x3FFF])
 
     def new(self, vc):
         """A request with a number that is greater by one, or by more."""
@@ -187,6 +197,20 @@ class Cells:
         number = self.newest.get(vc, (1,))[0] + self.chosen.choice([0, 0, 1])
         _, *rest = self.terms(vc, number)
         return self.made(self.chosen.choice(["request", "yes", "no"]), *rest)
+
+    def odd(self, vc):
+        """The next request with something else in a field, a number 0 or a floor above its rate, under a right check."""
+        number = self.newest.get(vc, (0,))[0] + 1
+        kind, vc, number, floor, ask = self.terms(vc, number)
+        least = min(ask, 0x7FFE)
+        which = self.chosen.randrange(4)
+        if which == 0:
+            return cell(vc, kind, number, floor, ask, **self.chosen.choice(self.READ)), (kind, vc, number, floor, ask)
+        if which == 1:
+            return cell(vc, kind, 0, floor, ask), None
+        if which == 2:
+            return cell(vc, kind, number, code_above(least), least), None
+        return cell(vc, kind, number, floor, ask, **self.chosen.choice(self.UNREAD)), None
 
     def damaged(self, vc):
         """A cell of which one bit was changed on the way."""

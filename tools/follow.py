@@ -7,12 +7,16 @@ are stuck, each time these are others. A fault that no further line can mend, as
 changed for so many seconds, or by a line `end` on the standard input, SIGINT or SIGTERM; a second signal ends it without an answer. At the
 end the answer of `abt audit` to all that was read is printed as it is, with its status.
 
-All other options of `abt audit` are handed on to that last audit. The lines `about` of a source are left out. The status is 1 if a file
+With `--json` what is new is told as the objects that the program has for it, and so is the answer.
+
+NET is a text that begins with the net's line, or a scenario, if its name ends in .toml. All other options of `abt audit` are handed on to
+that last audit. The lines `about` of a source are left out. The status is 1 if a file
 can't be followed or the program dies, and 2 if these words can't be read.
 """
 import argparse
 import contextlib
 import ctypes
+import json
 import math
 import os
 import re
@@ -24,7 +28,7 @@ import time
 from pathlib import Path
 from typing import NamedTuple
 
-from growing import Fault, Journal, name_of, unnamed
+from growing import Fault, Journal, Net, name_of, unnamed
 
 ROOT = Path(__file__).resolve().parent.parent
 # How long files are left alone at least, in seconds, and how many times as long as an audit took.
@@ -32,6 +36,8 @@ PAUSE, SHARE = 0.2, 2
 # After how many seconds signals and files are looked at again.
 LOOK = 0.1
 FAULT, WRONG_WORDS = 1, 2
+# The status once whoever read the output went away.
+LEFT = 141
 # Options whose value is a file that is written.
 WRITTEN = ("--events", "--draw")
 SET_PDEATHSIG = 1
@@ -54,6 +60,9 @@ def show(text):
     try:
         sys.stdout.buffer.write(os.fsencode(text))
         sys.stdout.buffer.flush()
+    except BrokenPipeError:
+        os.dup2(os.open(os.devnull, os.O_WRONLY), sys.stdout.fileno())
+        sys.exit(LEFT)
     except (OSError, AttributeError):
         raise Fault("write") from None
 
@@ -67,7 +76,9 @@ class Following:
 
     def __init__(self, words, options, names):
         self.abt, self.idle, self.options = words.abt, words.idle, options
-        self.journals, self.events = [Journal(name) for name in names], unnamed()
+        self.form = ["--json"] if "--json" in options else []
+        self.journals = [(Net if place == 0 and name.endswith(".toml") else Journal)(name) for place, name in enumerate(names)]
+        self.events = unnamed()
         self.child, self.signals, self.listens = None, 0, sys.stdin is not None
         # What was told last, and when and how often the files are looked at.
         self.told, self.pause = "", PAUSE
@@ -89,7 +100,7 @@ class Following:
     def follow(self):
         """Follows the files to the end, and gives the last answer."""
         changed, due, is_new = time.monotonic(), 0, self.take()
-        say("".join(f"{journal.name}: it isn't there yet\n" for journal in self.journals if journal.file is None))
+        say("".join(self.absent(journal.name) for journal in self.journals if journal.file is None))
         while True:
             if self.take():
                 changed, is_new = time.monotonic(), True
@@ -101,6 +112,9 @@ class Following:
                 if self.look(there):
                     return self.last(there)
                 due = time.monotonic() + self.pause
+
+    def absent(self, name):
+        return f"{compact({'kind': 'note', 'note': 'absent', 'file': name})}\n" if self.form else f"{name}: it isn't there yet\n"
 
     def take(self):
         """Reads all files on, and gives whether one has changed."""
@@ -123,8 +137,10 @@ class Following:
         """Has what was read audited, and tells what is new. Gives whether that is final."""
         began = time.monotonic()
         self.events.truncate(0)
-        answer = self.ask(["--events", name_of(self.events)], journals)
+        answer = self.ask([*self.form, "--events", name_of(self.events)], journals)
         self.pause = max(PAUSE, SHARE * (time.monotonic() - began))
+        if self.form:
+            return self.look_at_objects(answer.output)
         if answer.output.startswith("woven\n"):
             self.events.seek(0)
             count = sum(line.startswith(b'  "') for line in self.events)
@@ -134,6 +150,15 @@ class Following:
             self.tell("waits\n" + answer.told.partition("\n")[2])
         else:
             return True
+        return False
+
+    def look_at_objects(self, output):
+        """The same of an answer as objects."""
+        first = output.partition("\n")[0]
+        kind = json.loads(first)["kind"] if first else ""
+        if kind not in ("woven", "stuck"):
+            return True
+        self.tell(output if kind == "stuck" else f"{first}\n")
         return False
 
     def tell(self, text):
@@ -156,24 +181,48 @@ class Following:
         output, told = map(os.fsdecode, self.child.communicate())
         if self.child.returncode < 0:
             raise Fault(f"abt audit was ended by {signal.Signals(-self.child.returncode).name}")
-        return Answer(self.child.returncode, named(output, journals), named(told, journals))
+        named = Named(journals)
+        return Answer(self.child.returncode, (named.objects if self.form else named.words)(output), named.words(told))
 
 
-def named(told, journals):
+def compact(value):
+    return json.dumps(value, separators=(",", ":"), ensure_ascii=False)
+
+
+class Named:
     """What is told of copies, told of the files that they are copies of."""
-    by_name = {name_of(journal.copy): journal for journal in journals}
 
-    def placed(found):
-        journal = by_name.get(found[1])
-        if journal is None:
-            return found[0]
-        return journal.name + (f":{journal.line(int(found[2]))}" if found[2] else "")
+    def __init__(self, journals):
+        self.journals, self.by_name = journals, {name_of(journal.copy): journal for journal in journals}
 
-    def noted(found):
-        return f"{found[1]}{found[2]}{found[3]}{journals[int(found[2]) - 1].line(int(found[4]))}"
+    def words(self, told):
+        def noted(found):
+            return f"{found[1]}{found[2]}{found[3]}{self.journals[int(found[2]) - 1].line(int(found[4]))}"
 
-    told = re.sub(r"(/proc/self/fd/\d+)(?::(\d+))?", placed, told)
-    return re.sub(r"^(note: text )(\d+)( ends in the middle of line )(\d+)$", noted, told, flags=re.M)
+        return re.sub(r"^(note: text )(\d+)( ends in the middle of line )(\d+)$", noted, self.text(told), flags=re.M)
+
+    def text(self, told):
+        def placed(found):
+            journal = self.by_name.get(found[1])
+            if journal is None:
+                return found[0]
+            return journal.name + (f":{journal.line(int(found[2]))}" if found[2] else "")
+
+        return re.sub(r"(/proc/self/fd/\d+)(?::(\d+))?", placed, told)
+
+    def objects(self, output):
+        return "".join(f"{compact(self.object(json.loads(line)))}\n" for line in output.split("\n")[:-1])
+
+    def object(self, found):
+        """An object, and where its line stands, and since which line something is so, in the files themselves."""
+        journal = self.journals[found["text"] - 1] if "text" in found else self.by_name.get(found.get("file"))
+        if journal is not None:
+            found |= {"line": journal.line(found["line"])} | ({"file": journal.name} if "file" in found else {})
+        if "since" in found:
+            found["since"] = self.object(found["since"])
+        if "why" in found:
+            found["why"] = self.text(found["why"])
+        return found
 
 
 def valued():

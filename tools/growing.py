@@ -1,9 +1,11 @@
 """A file that grows, and a copy of what was read of it."""
 import fcntl
+import json
 import os
 import re
 import stat
 import tempfile
+import tomllib
 
 # Descriptors below this one are those of the script abt.
 LOWEST_FD = 10
@@ -97,3 +99,28 @@ class Journal:
         for left_out in self.left_out:
             number += left_out <= number
         return number
+
+
+class Net(Journal):
+    """The net of a scenario, which stands in place of a first text that begins with a net. It doesn't grow."""
+
+    KEYS = ("vpi", "vci", "path", "delay", "tau")
+
+    def __init__(self, name):
+        super().__init__(name)
+        try:
+            with open(name, "rb") as file:
+                read = tomllib.load(file)
+            lines = [{key: line[key] for key in self.KEYS} for line in read.get("connection", [])]
+            text = json.dumps({"net": {"ports": read["ports"], "connections": lines}})
+        except OSError as error:
+            raise Fault(f"{name}: it can't be read: {error.strerror}") from None
+        except KeyError as error:
+            raise Fault(f"{name}: it isn't a scenario: it has no {error.args[0]}") from None
+        except (ValueError, TypeError, AttributeError) as error:
+            raise Fault(f"{name}: it isn't a scenario: {error}") from None
+        self.file = name
+        self.keep(text.encode() + b"\n")
+
+    def take(self):
+        return False

@@ -11,13 +11,14 @@ def check(bits, length):
     return bits
 
 
-def cell(vc, kind, seq, floor, ask):
-    """A request, a yes or a no as hexadecimal digits."""
+def cell(vc, kind, seq, floor, ask, low=6 << 1, protocol=2, flipped=0):
+    """A request, a yes or a no as hexadecimal digits; or a cell that has another payload type or loss priority, another protocol, or other
+    bits in its seventh octet, under a right check."""
     vpi, vci = vc
-    head = (vpi << 20 | vci << 4 | 6 << 1).to_bytes(4, "big")
-    flags = {"request": 0x04, "yes": 0x8C, "no": 0xAC}[kind]
+    head = (vpi << 20 | vci << 4 | low).to_bytes(4, "big")
+    flags = {"request": 0x04, "yes": 0x8C, "no": 0xAC}[kind] ^ flipped
     terms = ask.to_bytes(2, "big") + floor.to_bytes(2, "big") + bytes(6) + seq.to_bytes(4, "big")
-    return (head + sealed(bytes([2, flags]) + terms + b"\x6a" * 30 + b"\0")).hex()
+    return (head + sealed(bytes([protocol, flags]) + terms + b"\x6a" * 30 + b"\0")).hex()
 
 
 def sealed(payload):

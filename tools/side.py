@@ -2,6 +2,7 @@
 limit."""
 import contextlib
 import os
+import re
 import selectors
 import shutil
 import signal
@@ -14,10 +15,28 @@ from pathlib import Path
 LONGEST = 65_536
 # How many characters of its standard error a fault carries.
 TOLD = 600
+# For how many seconds at least a second line is awaited behind an answer, if one is looked for; and for how many times as long as the slowest
+# answer took, as a loaded machine is late with both.
+LATE, LATE_TIMES = 0.3, 4
+MORE, UNFLUSHED = "printed more than one line", "; it has printed nothing yet: does it flush each line?"
 
 
 class Unfit(Exception):
     """What is wrong with a program that was to answer lines."""
+
+
+class Broken(Unfit):
+    """A program that was begun, and gave something else than one line for a line: in a few words how, and what it told on its standard
+    error."""
+
+    def __init__(self, name, how, told=""):
+        super().__init__(f"{name} {how}" + (f"; it told\n{told}" if told else ""))
+        self.how, self.told = how, told
+
+    def kind(self):
+        """How it failed, without what differs by the lines before or by how long it was waited for: of an exception of Python its name."""
+        named = re.match(r"[\w.]*(?:Error|Exception)\b", self.told.rsplit("\n", 1)[-1])
+        return re.sub(r"[`:].*|\b[\d.]+ s\b", "", self.how.replace(UNFLUSHED, " yet"), flags=re.S), named[0] if named else ""
 
 
 class Signals:
@@ -58,7 +77,7 @@ class Side:
     living = []
 
     def __init__(self, words, limit, fifos=False):
-        self.name, self.limit, self.answers, self.told = words[0], limit, 0, b""
+        self.name, self.limit, self.answers, self.told, self.slowest = words[0], limit, 0, b"", 0
         self.room = self.child = self.to = self.out = None
         self.left, self.closed = b"", False
         self.living.append(self)
@@ -89,42 +108,64 @@ class Side:
         for stream in (self.out, self.errors):
             self.selector.register(stream, selectors.EVENT_READ)
 
-    def answer(self, line):
-        """The one line by which the program answers a line."""
+    def answer(self, line, wanted=None, is_slow=False):
+        """The one line by which the program answers a line. A second one is awaited for a while if the first isn't the one that is wanted,
+        as it may have come late for the line before; and always if asked for."""
         self.take(0)
         self.one_line()
         self.answers += 1
+        began = time.monotonic()
         self.write(line.encode() + b"\n")
-        until = time.monotonic() + self.limit
         while b"\n" not in self.left:
             if len(self.left) > LONGEST:
-                raise Unfit(f"{self.name} printed a line of more than {LONGEST:,} octets for line {self.answers}")
-            if time.monotonic() > until:
-                raise Unfit(f"{self.name} printed nothing for {self.limit:g} s behind line {self.answers}: `{line}`")
+                self.broken(f"printed a line of more than {LONGEST:,} octets")
+            if time.monotonic() > began + self.limit:
+                self.broken(f"printed nothing for {self.limit:g} s" + (UNFLUSHED if self.answers == 1 and not self.left else ""))
             self.take(0.2)
             if b"\n" not in self.left and self.is_over():
                 self.dead()
+        self.slowest = max(self.slowest, time.monotonic() - began)
         answer, self.left = self.left.split(b"\n", 1)
+        text = answer.decode(errors="replace").removesuffix("\r")
+        if is_slow or wanted not in (None, text):
+            self.take_line(min(self.limit, max(LATE, LATE_TIMES * self.slowest)))
+            if self.left.decode(errors="replace").splitlines()[:1] == [wanted]:
+                self.left = answer
         self.one_line()
-        return answer.decode(errors="replace").removesuffix("\r")
+        return text
 
     def one_line(self):
         if self.left:
-            raise Unfit(f"{self.name} printed more than one line for line {self.answers}: {self.shown(self.left)}")
+            self.broken(f"{MORE}: {self.shown(self.left)}")
 
-    def end(self):
+    def broken(self, how):
+        raise Broken(self.name, how, self.told.decode(errors="replace").strip()[-TOLD:])
+
+    def end(self, wanted=None):
         """What it prints behind its last answer, once its input has ended. It has to end itself."""
         self.close_input()
         until = time.monotonic() + self.limit
         while self.child.poll() is None:
             self.take(0.01)
             if len(self.left) > LONGEST:
-                raise Unfit(f"{self.name} printed more than {LONGEST:,} octets behind its last answer")
+                self.broken(f"printed more than {LONGEST:,} octets behind its last answer")
             if time.monotonic() > until:
-                raise Unfit(f"{self.name} hasn't ended {self.limit:g} s after its input did")
+                self.broken(f"hasn't ended {self.limit:g} s after its input did")
         while self.take(0) and len(self.left) <= LONGEST:
             pass
-        return self.left.decode(errors="replace")
+        text = self.left.decode(errors="replace").strip()
+        if wanted is not None and text != wanted:
+            self.as_wanted(text, wanted)
+        return text
+
+    def as_wanted(self, text, wanted):
+        """Says in what the end isn't as it is wanted, where it isn't another last line."""
+        if self.child.returncode:
+            self.broken(self.ending(self.child.returncode))
+        if not text:
+            self.broken("printed nothing at the end of its input")
+        if text.splitlines()[-1] == wanted:
+            self.one_line()
 
     def write(self, octets):
         until = time.monotonic() + self.limit
@@ -133,7 +174,7 @@ class Side:
                 octets = octets[os.write(self.to, octets) :]
             except BlockingIOError:
                 if time.monotonic() > until:
-                    raise Unfit(f"{self.name} reads nothing for {self.limit:g} s at line {self.answers}") from None
+                    self.broken(f"reads nothing for {self.limit:g} s")
                 time.sleep(0.01)
             except BrokenPipeError:
                 self.dead()
@@ -153,6 +194,12 @@ class Side:
                 self.told = (self.told + octets)[-4 * TOLD :]
         return taken > 0
 
+    def take_line(self, seconds):
+        """Waits at most so long for a whole line, or for the end of what it prints."""
+        until = time.monotonic() + seconds
+        while b"\n" not in self.left and not self.closed and (left := until - time.monotonic()) > 0:
+            self.take(left)
+
     def is_over(self):
         """Whether no answer can come any more."""
         return self.closed or (self.child.poll() is not None and not self.selector.select(0))
@@ -162,12 +209,14 @@ class Side:
         try:
             status = self.child.wait(min(3, self.limit))
         except subprocess.TimeoutExpired:
-            raise Unfit(f"{self.name} closed its output at line {self.answers}") from None
+            self.broken("closed its output")
         while self.take(0):
             pass
-        told = self.told.decode(errors="replace").strip()[-TOLD:]
-        how = f"by signal {signal.Signals(-status).name}" if status < 0 else f"with status {status}"
-        raise Unfit(f"{self.name} ended {how} at line {self.answers}" + (f"; it told\n{told}" if told else ""))
+        self.broken(self.ending(status))
+
+    @staticmethod
+    def ending(status):
+        return f"ended by signal {signal.Signals(-status).name}" if status < 0 else f"ended with status {status}"
 
     @staticmethod
     def shown(octets):

@@ -10,6 +10,7 @@
  * CELL: 104 hexadecimal digits, an RM cell without its HEC octet; CODE: a rate code of four. */
 #define _GNU_SOURCE
 #include <abt.h>
+#include <errno.h>
 #include <fcntl.h>
 #include <inttypes.h>
 #include <libgen.h>
@@ -29,13 +30,17 @@ static uint64_t now(void)
     return (at - (origin = origin ? origin : at)) * 1000;
 }
 
-/* Reads what the store holds; a store that isn't there yet is four zeros. Gives its length, or 0 if it can't be read. */
+/* An octet more than a record, so that a store that holds more is seen. */
+enum { ROOM = ABT_RECORD_LENGTH + 1 };
+
+/* Reads what the store holds, up to ROOM octets; a store that isn't there yet is four zeros. Gives their number, or 0 if it can't be read:
+ * abt_source_start refuses what is no record's length. */
 static size_t stored(const char *path, uint8_t *record)
 {
-    if (access(path, F_OK) != 0)
-        return memset(record, 0, 4), 4;
     int file = open(path, O_RDONLY);
-    ssize_t length = file < 0 ? -1 : read(file, record, ABT_RECORD_LENGTH);
+    if (file < 0 && errno == ENOENT)
+        return memset(record, 0, 4), 4;
+    ssize_t length = file < 0 ? -1 : read(file, record, ROOM);
     close(file);
     return length < 0 ? 0 : (size_t)length;
 }
@@ -91,7 +96,7 @@ int main(int words, char **word)
         return fprintf(stderr, "usage: source STORE VPI VCI\n"), 2;
     abt_source source;
     abt_rm rm = {0};
-    uint8_t record[ABT_RECORD_LENGTH];
+    uint8_t record[ROOM];
     size_t length = stored(word[1], record);
     abt_outcome outcome = abt_source_init(&source, (uint16_t)strtoul(word[2], NULL, 10), (uint16_t)strtoul(word[3], NULL, 10));
     if (outcome == ABT_OK)
@@ -108,7 +113,7 @@ int main(int words, char **word)
             printf("%s", abt_outcome_name(outcome));
             printf(outcome == ABT_TOO_SOON ? " %" PRIu64 "\n" : "\n", next - moment);
         } else if (scanf("%127s", text) == 1 && !strcmp(what, "ask")) {
-            outcome = abt_source_ask(&source, (uint16_t)strtoul(text, NULL, 16), record, sizeof record, &rm);
+            outcome = abt_source_ask(&source, (uint16_t)strtoul(text, NULL, 16), record, ABT_RECORD_LENGTH, &rm);
             tell(outcome == ABT_WRITE_FIRST ? abt_source_wrote(&source, store(word[1], record), &rm) : outcome, &rm);
         } else {
             puts(abt_outcome_name(strcmp(what, "bwd") ? ABT_KIND : hear(&source, text)));

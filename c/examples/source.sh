@@ -15,6 +15,11 @@ Length
 Kind" ]
 [ "$(printf 'again\nask 5120\n' | "$1" "$2" 1 100)" = "NotAsking
 rm $second" ]
+# A store that can't be read, or that holds an octet more than a record: the source doesn't start.
+printf x >>"$2"
+for store in "$2/store" "$2"; do
+    [ "$("$1" "$store" 1 100 2>&1 </dev/null)" = "source: Length" ]
+done
 rm -f "$2"
 # A store that can't be written: the source doesn't ask.
 [ "$(echo 'ask 5120' | "$1" "$2.none/store" 1 100)" = NotKept ]

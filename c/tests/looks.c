@@ -23,7 +23,7 @@ static void ports(void)
     abt_port_init(&port, 512000);
     abt_connection_init(&connection, 1, 100);
     abt_table_init(&table, 512001);
-    abt_table_add(&table, 1, 100);
+    SAME(abt_table_add(&table, 1, 100), ABT_OK);
     SAME(abt_port_capacity(&port, &number), ABT_OK);
     SAME(number, 512000);
     SAME(abt_table_capacity(&table, &number), ABT_OK);

@@ -209,9 +209,9 @@ static void spoiled(void)
         abt_gcra_init(&gcra, 5);
         abt_bucket_init(&bucket, 5);
         abt_policer_init(&policer, 5);
-        abt_gcra_check(&gcra, 100, 10);
-        abt_bucket_check(&bucket, 100, 10);
-        abt_policer_arrive(&policer, 100, 0x7fff);
+        SAME(abt_gcra_check(&gcra, 100, 10), ABT_CONFORMING);
+        SAME(abt_bucket_check(&bucket, 100, 10), ABT_CONFORMING);
+        SAME(abt_policer_arrive(&policer, 100, 0x7fff), ABT_CONFORMING);
         uint64_t place = below(&seed, sizeof policer), value = draw(&seed) >> below(&seed, 64);
         memcpy((uint8_t *)&gcra + place / 8 * 8, &value, 8);
         memcpy((uint8_t *)&bucket + place / 8 * 8, &value, 8);

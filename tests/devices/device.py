@@ -33,13 +33,26 @@ def remainder(bits):
 
 
 def read(text):
-    """Channel, kind, number, floor and asked rate of a cell; None if its check is wrong."""
+    """Channel, kind, number, floor and asked rate of a cell; or the name of the fault for which it is no message."""
     octets = bytes.fromhex(text)
-    if remainder(int.from_bytes(octets[4:], "big")):
-        return None
-    head = int.from_bytes(octets[:4], "big")
+    head, marks = int.from_bytes(octets[:4], "big"), octets[5]
     ask, floor = (units(int.from_bytes(octets[at : at + 2], "big")) for at in (6, 8))
-    return (head >> 20, head >> 4 & 0xFFFF), MARKS[octets[5]], int.from_bytes(octets[16:20], "big"), floor, ask
+    seq = int.from_bytes(octets[16:20], "big")
+    faults = {
+        "NotRm": head >> 1 & 7 != 6,
+        "Crc": remainder(int.from_bytes(octets[4:], "big")) != 0,
+        "Protocol": octets[4] != 2,
+        "Maintenance": marks & 0x10 and FAULT != "maintenance_not_looked_at",
+        "Elastic": not marks & 0x04,
+        "Direction": marks >> 7 != marks >> 3 & 1,
+        "SeqZero": seq == 0,
+        "RateOrder": floor > ask,
+    }
+    for name, has in faults.items():
+        if has:
+            return name
+    kind = "request" if not marks & 0x08 else "no" if marks & 0x20 else "yes"
+    return (head >> 20, head >> 4 & 0xFFFF), kind, seq, floor, ask
 
 
 def written(vc, kind, seq, floor, ask):
@@ -55,10 +68,10 @@ class Hold:
     """What a port keeps of one connection."""
 
     def __init__(self, tau=0):
-        self.seq, self.terms, self.is_open, self.tau, self.tat = 0, (0, 0), False, tau, None
+        self.seq, self.terms, self.is_open, self.tau, self.tat, self.stuck = 0, (0, 0), False, tau, None, 0
 
     def held(self):
-        return self.terms[1] if self.is_open else self.terms[0]
+        return self.terms[1] if self.is_open else max(self.terms[0], self.stuck)
 
 
 class Port:
@@ -81,6 +94,7 @@ class Port:
             return "drop FloorAbove"
         asked = total - hold.held() + ask
         fits = asked < self.capacity if FAULT == "less_for_at_most" else asked <= self.capacity
+        hold.stuck = hold.held() if FAULT == "refusal_releases_nothing" else 0
         hold.seq, hold.terms, hold.is_open = seq, (floor, ask), fits
         return "pass" if fits else "refuse"
 
@@ -96,8 +110,8 @@ class Port:
     def serve(self, text):
         """The answer to a cell, as `abt port` prints it."""
         cell = read(text)
-        if cell is None:
-            return "fault Crc"
+        if isinstance(cell, str):
+            return f"fault {cell}"
         vc, kind, seq, floor, ask = cell
         if kind == "request":
             reply = self.request(vc, seq, floor, ask)
@@ -105,7 +119,7 @@ class Port:
             reply = self.answer(vc, seq, floor, ask, kind == "yes")
         match reply:
             case "pass":
-                return f"pass {written(*cell)}"
+                return f"pass {text if FAULT == 'codes_as_they_came' else written(*cell)}"
             case "refuse":
                 return f"refuse {written(vc, 'no', seq, floor, ask)}"
         return reply

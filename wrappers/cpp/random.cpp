@@ -47,8 +47,8 @@ struct source_of_numbers {
 /* What C answers of a value that C++ gives, or of its fault. */
 template <class T> static void same(abt_outcome outcome, const abt::result<T> &found, const T &wanted)
 {
-    SAME(bool(found), outcome < ABT_FAULTS);
-    if (found)
+    SAME(found.has_value(), outcome < ABT_FAULTS);
+    if (found.has_value())
         SAME(found, wanted);
     else
         SAME(found.is(static_cast<abt::fault>(outcome)), true);
@@ -143,12 +143,12 @@ static abt_rm raw_of(const abt::request &it)
 
 static void same(abt_outcome outcome, const abt_rm &back, const abt::result<abt::decided> &found)
 {
-    SAME(bool(found), outcome < ABT_FAULTS);
-    if (!found) {
+    SAME(found.has_value(), outcome < ABT_FAULTS);
+    if (!found.has_value()) {
         SAME(found.is(static_cast<abt::fault>(outcome)), true);
         return;
     }
-    abt::decided it = *abt::result<abt::decided>(found);
+    const abt::decided &it = *found;
     SAME(it.what, static_cast<abt::decision>(outcome));
     SAME(it.back.has_value(), outcome == ABT_REFUSE);
     if (it.back) {
@@ -179,8 +179,8 @@ static void messages(source_of_numbers &numbers, abt::table &table, abt_table &r
     cell[numbers.below(cell.size())] ^= static_cast<std::uint8_t>(numbers.below(2));
     outcome = abt_table_cell(&raw, cell.data(), cell.size(), sent.data(), sent.size());
     auto served = table.take(cell);
-    SAME(bool(served), outcome < ABT_FAULTS);
-    if (served) {
+    SAME(served.has_value(), outcome < ABT_FAULTS);
+    if (served.has_value()) {
         SAME(served->what, static_cast<abt::decision>(outcome));
         SAME(served->sent, outcome == ABT_PASS || outcome == ABT_REFUSE ? std::optional<abt::cell>(sent) : std::nullopt);
         model.took(std::get<abt::request>(*abt::read(cell)), outcome);

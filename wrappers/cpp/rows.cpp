@@ -34,6 +34,8 @@ static void cells()
     HOLDS(abt::crc10(abt::payload{}) == std::uint16_t(0));
     abt::cell octets = abt::write(ASK).value();
     HOLDS(octets[4] == 0x02 && octets[5] == 0x04);
+    const auto written = abt::write(ASK);
+    HOLDS(written.value() == octets && *written == octets && written->size() == ABT_CELL_LENGTH);
     HOLDS(abt::read(octets) == abt::rm(ASK));
     HOLDS(abt::read(abt::write(abt::answer{ASK, true}).value()) == abt::rm(abt::answer{ASK, true}));
     HOLDS(abt::read(abt::cell{}).is(fault::not_rm));
@@ -160,7 +162,7 @@ static void tables()
     HOLDS(table.remove(1, 100) == true && table.remove(1, 100) == false);
     HOLDS(table.add(1, 100, picoseconds(200)) && table.arrive(1, 100, picoseconds(5)) == abt::policed::no_rate);
     HOLDS(table.arrive(1, 101, picoseconds(5)).is(fault::not_ingress));
-    HOLDS(table.set_capacity(units(512000)) && table.take(ASK) && table.remove(1, 100).is(fault::held));
+    HOLDS(table.set_capacity(units(512000)) && table.take(ASK)->what == abt::decision::pass && table.remove(1, 100).is(fault::held));
     const std::array<abt_arrival, 3> arrivals{abt_arrival{6, 1, 100}, {6, 1, 7}, {5, 1, 100}};
     std::array<std::uint8_t, 3> outcomes{};
     abt::burst burst = table.arrive(arrivals.data(), outcomes.data(), arrivals.size());
@@ -185,6 +187,13 @@ int main()
         HOLDS(false);
     } catch (const abt::error &why) {
         HOLDS(why.why() == fault::units_range && std::string_view(why.what()) == "UnitsRange");
+    }
+    try {
+        const auto none = abt::at_least(units(UINT64_MAX));
+        HOLDS(*none == code(0));
+        HOLDS(false);
+    } catch (const abt::error &why) {
+        HOLDS(why.why() == fault::units_range);
     }
 #endif
     std::puts("rows: passed");

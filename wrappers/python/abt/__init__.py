@@ -12,22 +12,22 @@ refused is raised as Fault, with its name in C.
 >>> policer.arrive(5, "1000cps")
 <Verdict.TOO_EARLY: 2>
 
-The shared library libabt.so.0 is looked for in the file ABT_LIBRARY, in the release that this package is a part of, and where the system
-looks for libraries. An object isn't for two threads at once.
+The shared library libabt.so.0 is looked for at the first call of it: in the file ABT_LIBRARY, in the release that this package is a part
+of, and where the system looks for libraries. abt.oracle and abt.journal need the program alone. An object isn't for two threads at once.
 """
 from .cells import Answer, Request, crc10, read_cell, turn, write_cell
 from .faults import Fault
 from .gcra import Bucket, Gcra, Policer, Verdict
 from .library import VERSION, LibraryError, library_version
 from .port import Connection, Decision, Port, Reservation, Served, Table
-from .rates import canonical, rate, spacing, units
+from .rates import PICOSECONDS_PER_SECOND, UNITS_PER_CELL_PER_SECOND, canonical, rate, spacing, units
 from .shaper import Shaper
 from .source import Heard, Phase, Source
 from .store import FileStore, MemoryStore, Store, StoreFailed
 
 __all__ = [
-    "Answer", "Bucket", "Connection", "Decision", "Fault", "FileStore", "Gcra", "Heard", "LibraryError", "MemoryStore", "Phase", "Policer",
-    "Port", "Request", "Reservation", "Served", "Shaper", "Source", "Store", "StoreFailed", "Table", "VERSION", "Verdict", "canonical", "crc10",
-    "library_version", "rate", "read_cell", "spacing", "turn", "units", "write_cell",
+    "Answer", "Bucket", "Connection", "Decision", "Fault", "FileStore", "Gcra", "Heard", "LibraryError", "MemoryStore",
+    "PICOSECONDS_PER_SECOND", "Phase", "Policer", "Port", "Request", "Reservation", "Served", "Shaper", "Source", "Store", "StoreFailed", "Table",
+    "UNITS_PER_CELL_PER_SECOND", "VERSION", "Verdict", "canonical", "crc10", "library_version", "rate", "read_cell", "spacing", "turn", "units", "write_cell",
 ]
 __version__ = VERSION

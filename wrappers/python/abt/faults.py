@@ -63,6 +63,11 @@ def carried_out(outcome: int) -> int:
     return outcome
 
 
+def untested(it: object, instead: str) -> TypeError:
+    """What is raised where a tuple with an outcome is tested, as a tuple is true whatever its outcome is."""
+    return TypeError(f"{type(it).__name__} can't be tested, it would always be true: {instead}")
+
+
 def whole(value: int, bits: int, what: str) -> int:
     """A number that has room in so many bits; C would take the lower bits of another one for it."""
     if not isinstance(value, int) or isinstance(value, bool):

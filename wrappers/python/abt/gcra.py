@@ -11,11 +11,18 @@ from .rates import Rate, code_of
 
 
 class Verdict(enum.IntEnum):
-    """What is found of a cell. Only a conforming one is taken."""
+    """What is found of a cell. Only a conforming one is taken, and it alone is true.
+
+    >>> [bool(verdict) for verdict in Verdict]
+    [True, False, False]
+    """
 
     CONFORMING = 1
     TOO_EARLY = 2
     NO_RATE = 3
+
+    def __bool__(self) -> bool:
+        return self is Verdict.CONFORMING
 
 
 class Gcra:

@@ -19,14 +19,18 @@ from collections import Counter
 from collections.abc import Mapping
 from typing import Any, NamedTuple
 
+from .faults import untested
 from .program import ProgramFault, run
 
 
 class Audit(NamedTuple):
-    """Whether journals are those of one safe run, and the lines that the program told."""
+    """Whether journals are those of one safe run, and the lines that the program told. Its woven is tested; to test it itself is a TypeError."""
 
     woven: bool
     told: list[str]
+
+    def __bool__(self) -> bool:
+        raise untested(self, "test .woven, as `audit(..).woven`")
 
 
 def audit(text: str) -> Audit:

@@ -6,6 +6,7 @@ import ctypes.util
 import os
 from ctypes import POINTER, Structure, c_char_p, c_size_t, c_uint16, c_uint32, c_uint64
 from pathlib import Path
+from typing import Any
 
 VERSION = "0.1.0"
 FILE = "libabt.so.0"
@@ -129,7 +130,17 @@ def _load() -> ctypes.CDLL:
     return library
 
 
-LIB = _load()
+class _Library:
+    """The library, which is loaded at its first call: what asks the program alone needs none."""
+
+    def __getattr__(self, name: str) -> Any:
+        if name not in CALLS:
+            raise AttributeError(name)
+        self.__dict__.update({call: getattr(library, call) for library in [_load()] for call in CALLS})
+        return self.__dict__[name]
+
+
+LIB = _Library()
 
 
 def library_version() -> str:

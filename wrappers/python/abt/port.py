@@ -7,7 +7,7 @@ from ctypes import byref, c_size_t, c_uint16, c_uint64, create_string_buffer
 from typing import NamedTuple
 
 from .cells import CELL_LENGTH, Answer, Message, Request, message_of, octets_of, raw_of
-from .faults import FIRST, Fault, carried_out, moment, whole
+from .faults import FIRST, Fault, carried_out, moment, untested, whole
 from .gcra import Verdict
 from .library import CONNECTION, LIB, PORT, TABLE, Arrival, Reservation as RawReservation, Rm
 
@@ -15,7 +15,7 @@ _UNKNOWN_VC = 18
 
 
 class Decision(enum.IntEnum):
-    """What becomes of a message: it goes on, it is refused (a request alone), or it is dropped."""
+    """What becomes of a message: it goes on, it is refused (a request alone), or it is dropped. Only PASS is true."""
 
     PASS = 16
     REFUSE = 17
@@ -24,19 +24,28 @@ class Decision(enum.IntEnum):
     CONFLICT = 20
     FLOOR_ABOVE = 21
 
+    def __bool__(self) -> bool:
+        return self is Decision.PASS
+
 
 class Served(NamedTuple):
-    """What becomes of a cell, with the octets that go on (PASS) or back (REFUSE)."""
+    """What becomes of a cell, with the octets that go on (PASS) or back (REFUSE). Its decision is compared; to test it is a TypeError."""
 
     decision: Decision
     sent: bytes | None
 
+    def __bool__(self) -> bool:
+        raise untested(self, "compare .decision, as `table.cell(..).decision is Decision.PASS`")
+
 
 class Taken(NamedTuple):
-    """What becomes of a message, with the no that goes back after REFUSE."""
+    """What becomes of a message, with the no that goes back after REFUSE. Its decision is compared; to test it is a TypeError."""
 
     decision: Decision
     back: Message | None
+
+    def __bool__(self) -> bool:
+        raise untested(self, "compare .decision, as `port.take(..).decision is Decision.PASS`")
 
 
 class Reservation(NamedTuple):

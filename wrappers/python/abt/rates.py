@@ -12,9 +12,14 @@ from .library import LIB
 # A rate code, or words as "1000cps".
 Rate = Union[int, str]
 
-# Units in one cell per second, and bits of a cell on the line (docs/FORMATS.md, "Rates in words").
-_UNITS, _BITS = 512, 424
-_WORDS = {"cps": Fraction(1), "bps": Fraction(1, _BITS), "kbps": Fraction(1000, _BITS), "Mbps": Fraction(1000000, _BITS)}
+# As in abt.h: 400 cells per second are 400 * UNITS_PER_CELL_PER_SECOND units.
+UNITS_PER_CELL_PER_SECOND = 512
+PICOSECONDS_PER_SECOND = 1000000000000
+# Bits of a cell on the line (docs/FORMATS.md, "Rates in words").
+_BITS = 424
+_BITS_OF_WORDS = {"bps": 1, "kbps": 10**3, "Mbps": 10**6, "Gbps": 10**9}
+_WORDS = {"cps": Fraction(1)} | {word: Fraction(bits, _BITS) for word, bits in _BITS_OF_WORDS.items()}
+_RATE = re.compile(rf"([0-9]{{1,19}}(?:\.[0-9]{{1,9}})?)({'|'.join(_WORDS)})")
 
 
 def rate(words: Rate, nearest: Literal["below", "above"] | None = None) -> int:
@@ -23,16 +28,18 @@ def rate(words: Rate, nearest: Literal["below", "above"] | None = None) -> int:
 
     >>> hex(rate("1000cps")), hex(rate("1.3Mbps", "below")), hex(rate("1.3Mbps", "above"))
     ('0x53e8', '0x56fe', '0x56ff')
+    >>> [f"{rate('1' + word, 'below'):04x} {rate('1' + word, 'above'):04x}" for word in ("cps", "bps", "kbps", "Mbps", "Gbps")]
+    ['4000 4000', '0000 4000', '425b 425c', '564d 564e', '6a3f 6a40']
     >>> rate("1.3Mbps")
     Traceback (most recent call last):
     ValueError: no code says 1.3Mbps exactly
     """
     if not isinstance(words, str):
         return canonical(words)
-    said = re.fullmatch(r"([0-9]{1,19}(?:\.[0-9]{1,9})?)(cps|kbps|Mbps|bps)", words)
+    said = _RATE.fullmatch(words)
     if not said:
         raise ValueError(f"no rate: {words!r}")
-    exact = Fraction(said[1]) * _WORDS[said[2]] * _UNITS
+    exact = Fraction(said[1]) * _WORDS[said[2]] * UNITS_PER_CELL_PER_SECOND
     below, above = exact.numerator // exact.denominator, -(-exact.numerator // exact.denominator)
     if nearest == "above":
         code = c_uint16()

@@ -18,11 +18,14 @@ _WRITTEN, _FAILED_BEFORE, _FAILED_AFTER = 1, 2, 3
 
 
 class Heard(enum.IntEnum):
-    """What a source makes of an answer: a yes or a no to its newest request, or the answer to something else."""
+    """What a source makes of an answer: a yes or a no to its newest request, or the answer to something else. Only RAISED is true."""
 
     RAISED = 10
     REFUSED = 11
     IGNORED = 12
+
+    def __bool__(self) -> bool:
+        return self is Heard.RAISED
 
 
 class Phase(enum.IntEnum):

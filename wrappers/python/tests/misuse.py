@@ -13,6 +13,7 @@ import time
 import unittest
 
 import abt
+import abt.journal
 
 SECONDS = float(sys.argv.pop()) if len(sys.argv) > 1 and sys.argv[-1].replace(".", "").isdigit() else 2
 ASK = abt.Request(1, 100, 1, 0, 0x5258)
@@ -69,12 +70,26 @@ class Misuse(unittest.TestCase):
             for copied in (copy.copy, copy.deepcopy, pickle.dumps):
                 self.assertRaises(TypeError, copied, it)
 
+    def test_what_is_compared_is_not_tested(self):
+        table = abt.Table(0)
+        table.add(1, 100)
+        second = abt.Request(1, 100, 2, 0, 0x5258)
+        for refused in (abt.Port(0).take(abt.Connection(1, 100), ASK), table.take(ASK), table.cell(abt.write_cell(second))):
+            self.assertIs(refused.decision, abt.Decision.REFUSE)
+            self.assertRaisesRegex(TypeError, "decision is Decision.PASS", bool, refused)
+        for passed in (abt.Port(512000).take(abt.Connection(1, 100), ASK), abt.Served(abt.Decision.PASS, bytes(52))):
+            self.assertEqual(passed.decision, abt.Decision.PASS)
+            self.assertRaisesRegex(TypeError, "decision is Decision.PASS", bool, passed)
+        for woven in (False, True):
+            self.assertRaisesRegex(TypeError, r"test \.woven", bool, abt.journal.Audit(woven, []))
+
     def test_what_c_would_cut_off(self):
         for call in (lambda: abt.Policer(-1), lambda: abt.Policer(2**64), lambda: abt.units(65536), lambda: abt.Policer(0).arrive(0, 65536)):
             self.assertRaises(OverflowError, call)
         for call in (lambda: abt.Policer(1.5), lambda: abt.Policer(True), lambda: abt.read_cell("text"), lambda: abt.units(None)):
             self.assertRaises(TypeError, call)
-        self.assertRaises(ValueError, abt.rate, "1000 cps")
+        for words in ("1000 cps", "1Tbps", "1gbps", "1Gcps", "Gbps", "1.Gbps", "1.0000000001Gbps", "-1cps", "1e3cps"):
+            self.assertRaises(ValueError, abt.rate, words, "below")
         self.assertRaises(ValueError, abt.rate, "0.001cps")
 
     def test_a_store_that_fails(self):
@@ -109,8 +124,11 @@ class Misuse(unittest.TestCase):
             self.assertEqual(os.listdir(folder), ["record"])
 
     def test_a_missing_library_is_told(self):
-        said = subprocess.run([sys.executable, "-c", "import abt"], env={**os.environ, "ABT_LIBRARY": "/none"}, capture_output=True, text=True)
-        self.assertIn(f"abt {abt.VERSION} finds no library /none", said.stderr)
+        for call, told in (("", ""), ("; abt.rate('1cps')", f"abt {abt.VERSION} finds no library /none")):
+            words = [sys.executable, "-c", f"import abt{call}"]
+            said = subprocess.run(words, env={**os.environ, "ABT_LIBRARY": "/none"}, capture_output=True, text=True)
+            self.assertIn(told, said.stderr)
+            self.assertEqual(bool(told), said.returncode != 0)
 
     def test_random_calls(self):
         until, seed = time.time() + SECONDS, random.Random(0)

@@ -7,6 +7,7 @@ use std::fmt;
 
 /// What a policer finds of a cell.
 #[derive(Clone, Copy, Debug, PartialEq, Eq, Hash)]
+#[must_use]
 pub enum Verdict {
     /// The cell keeps every window with the cells that were taken before it, and is taken.
     Conforming,

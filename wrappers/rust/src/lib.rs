@@ -32,7 +32,7 @@ pub use cell::{crc10, Answer, Cell, Request, Rm, CELL_LENGTH, PAYLOAD_LENGTH};
 pub use fault::{EmitFault, Fault};
 pub use gcra::{Bucket, Gcra, Policer, Stopped, Verdict};
 pub use port::{Connection, Decision, Drop, Port, Reply, Reservation};
-pub use rate::{Code, Picoseconds, Units};
+pub use rate::{Code, Picoseconds, Units, PICOSECONDS_PER_SECOND, UNITS_PER_CELL_PER_SECOND};
 pub use shaper::Shaper;
 pub use source::{Ask, Asking, Became, Down, Heard, Idle, Phase, Record, Refused, Source, Up, Writing, RECORD_LENGTH};
 pub use table::{Arrival, Served, Table};

@@ -31,6 +31,7 @@ impl Drop {
 
 /// What becomes of a request at a port.
 #[derive(Clone, Copy, Debug, PartialEq, Eq, Hash)]
+#[must_use]
 pub enum Decision {
     /// It goes on.
     Pass,
@@ -42,6 +43,7 @@ pub enum Decision {
 
 /// What becomes of an answer at a port.
 #[derive(Clone, Copy, Debug, PartialEq, Eq, Hash)]
+#[must_use]
 pub enum Reply {
     /// It goes on.
     Pass,

@@ -21,6 +21,12 @@ impl TryFrom<std::time::Duration> for Picoseconds {
     }
 }
 
+/// Units in one cell per second, as in `abt.h`: 400 cells per second are `Units(400 * UNITS_PER_CELL_PER_SECOND)`.
+pub const UNITS_PER_CELL_PER_SECOND: u64 = 512;
+
+/// Picoseconds in a second, as in `abt.h`.
+pub const PICOSECONDS_PER_SECOND: u64 = 1000000000000;
+
 /// A rate in units of 1/512 cell per second.
 #[derive(Clone, Copy, Debug, Default, PartialEq, Eq, PartialOrd, Ord, Hash)]
 pub struct Units(pub u64);

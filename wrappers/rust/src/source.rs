@@ -142,6 +142,7 @@ pub enum Became {
 
 /// What a source makes of an answer.
 #[derive(Debug)]
+#[must_use]
 pub enum Heard {
     /// A yes to the newest request: it shapes at the asked rate.
     Raised(Source<Idle>),

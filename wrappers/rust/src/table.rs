@@ -8,6 +8,7 @@ use crate::raw;
 
 /// What becomes of a cell at a port with a table.
 #[derive(Clone, Copy, Debug, PartialEq, Eq, Hash)]
+#[must_use]
 pub enum Served {
     /// This cell goes on.
     Pass(Cell),
