@@ -55,7 +55,8 @@ def faults():
                 yield f"{page.name}: man warns: {told[:200]}"
         text = shown(ROOT / "man" / "abt.1")
         for name in names:
-            part = re.split(rf"\n +abt {name}\n", text)[-1]
+            # Its title is set in by three columns; a line of other texts may end in these words, deeper.
+            part = re.split(rf"\n {{3}}abt {name}\n", text)[-1]
             missing = [flag for flag in flags[name] if flag not in part]
             if f"abt {name}\n" not in text or missing:
                 yield f"abt.1 doesn't name abt {name} {' '.join(missing)}"
