@@ -54,7 +54,9 @@ pub(crate) fn unable_in(
         let pending = pending(&world, &sightings, event);
         let outcome = world.step(event)?;
         sightings.note(net, event, &outcome)?;
-        keep(alloc, &mut found, look, index, &grounds, pending, &outcome, most)?;
+        keep(
+            alloc, &mut found, look, index, &grounds, pending, &outcome, most,
+        )?;
     }
     Ok(found)
 }
@@ -148,6 +150,11 @@ fn waiting_text(
         numbers: Numbers::Nothing,
         sought: Some(sought),
     };
-    push_reason(alloc, &mut text, &lies, &Outcome::NotEnabled(Cause::NotSent))?;
+    push_reason(
+        alloc,
+        &mut text,
+        &lies,
+        &Outcome::NotEnabled(Cause::NotSent),
+    )?;
     Ok(text)
 }

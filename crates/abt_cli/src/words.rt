@@ -23,7 +23,8 @@ use std::alloc::Global;
 const NO_COMMAND: &str = "no such command";
 
 // What is told of words that name a file to be written which is read as well, or another one to be written.
-pub(crate) const ONE_FILE: &str = "an output can't be a file that is read or written already, nor - where lines are printed";
+pub(crate) const ONE_FILE: &str =
+    "an output can't be a file that is read or written already, nor - where lines are printed";
 
 /// The command that the words behind the program's name ask for.
 ///
