@@ -5,7 +5,7 @@ ghost use Rattle.abt_json.specs.Explained as spec;
 
 use crate::object::begin_kind_behind;
 use crate::outcome::push_outcome;
-use crate::report::push_end;
+use crate::report::{LINE_ROOM, push_end};
 use abt_entry::{end, push_number, push_text};
 use abt_format as report;
 use abt_format::push_event;
@@ -71,9 +71,12 @@ fn push_event_object(
         (text.new.items ≡ text.old.items ++
         spec.explained_object number line event.now grounds.now outcome.now) }
 {
-    let mut object = begin_kind_behind(alloc, text, "event")?;
+    // By itself, as a line of a report.
+    let mut said = Vec::with_capacity(alloc, LINE_ROOM)?;
+    let mut object = begin_kind_behind(alloc, &mut said, "event")?;
     push_explained(alloc, &mut object, number, line, event, grounds, outcome)?;
-    end(object, text)
+    end(object, &mut said)?;
+    text.extend_from_slice(said.as_slice())
 }
 
 /// Adds what an explanation says of an event (docs/FORMATS.md, "JSON"): its number, its line, if it is known, its text, its outcome, where

@@ -12,6 +12,9 @@ use abt_rate::Rate;
 use json::Writer;
 use std::alloc::{AllocError, Global};
 
+// Room for most lines.
+pub(crate) const LINE_ROOM: usize = 256;
+
 /// The report of a run, an object a line: the outcome of each event, then each connection with its rate and what its
 /// hops hold, each port with its total and the capacity that it has in the end, and whether all that is safe.
 pub fn report_json(alloc: Global, trace: &Trace) -> Result<Vec<u8>, AllocError>
@@ -54,10 +57,13 @@ fn push_outcome_object(
 ) -> Result<(), AllocError>
     ensures { OnOk result (text.new.items ≡ text.old.items ++ outcome_object number outcome.now) }
 {
-    let mut object = begin_kind_behind(alloc, text, "event")?;
+    // A writer makes room ahead, and more of it behind a long text: so the line is made by itself.
+    let mut line = Vec::with_capacity(alloc, LINE_ROOM)?;
+    let mut object = begin_kind_behind(alloc, &mut line, "event")?;
     push_number(&mut object, "event", number)?;
     push_outcome(alloc, &mut object, outcome)?;
-    end(object, text)
+    end(object, &mut line)?;
+    text.extend_from_slice(line.as_slice())
 }
 
 fn push_conns(
