@@ -24,6 +24,8 @@ import unproved
 
 ROOT = Path(__file__).resolve().parent.parent
 TESTS = "abt.tests"
+# Where scripts that need no proof stand; what is told soonest comes first.
+PLACES = (".ci/gate/texts.py", "tests/*.py", ".ci/documents/*.py")
 # How long a script and a test may take, in seconds.
 SCRIPT_SECONDS, TEST_SECONDS = 600, 120
 # How many characters of a failed part are shown, and after how many tests there is a line.
@@ -56,11 +58,11 @@ class Tally:
 def scripts(names):
     """The scripts that are asked for: each with whether it is run with the program. A script says so in its line of usage."""
     found = {}
-    for folder in ("tests", ".ci/documents"):
-        for file in sorted((ROOT / folder).glob("*.py")):
+    for place in PLACES:
+        for file in sorted(ROOT.glob(place)):
             usage = re.search(rf"^usage: {file.name}( \[?PROGRAM)?", file.read_text(), re.M)
             if usage:
-                found[f"{folder}/{file.name}"] = bool(usage[1])
+                found[str(file.relative_to(ROOT))] = bool(usage[1])
     return {name: asks for name, asks in found.items() if is_wanted(name, names)}
 
 
