@@ -1,21 +1,16 @@
 """Runs scripts in threads again and again while link workers lose and repeat parcels, on one processor and on all, and wants each run
 woven and safe.
 
-The runs are those of the tests `losses` of crates/abt_journal_rows, compiled without a proof: each call of such a test makes 16 runs with
-so many link workers, one for each share of parcels that is lost and each that is served twice. A test that fails, or doesn't end within
-two minutes, falls short.
+The runs are those of the tests `losses` of crates/abt_journal_rows, in the program of all tests that `./abt --test` compiles: each call of
+such a test makes 16 runs with so many link workers, one for each share of parcels that is lost and each that is served twice. A test that
+fails, or doesn't end within two minutes, falls short.
 
-usage: losses.py [--calls N]      (N: how often each test is called on one processor, and on all)
+usage: losses.py TESTS [--calls N]      (TESTS: crates/abt/out/abt.tests; N: how often each test is called on one processor, and on all)
 """
 import argparse
 import os
 import subprocess
 import sys
-
-from harness import ROOT
-
-import processes
-import unproved
 
 # The tests, by how many link workers their runs have, and how many runs one call makes.
 TESTS = {
@@ -44,28 +39,20 @@ def falls_short(program, test, processors):
 
 def main():
     reader = argparse.ArgumentParser(description=__doc__, formatter_class=argparse.RawDescriptionHelpFormatter)
+    reader.add_argument("tests", metavar="TESTS")
     reader.add_argument("--calls", type=int, default=2)
-    calls = reader.parse_args().calls
+    words = reader.parse_args()
     everywhere = os.sched_getaffinity(0)
-    processes.end_on_signals("losses")
-    room = processes.room(None, "losses-")
     short = made = 0
-    try:
-        program = room / "tests"
-        unproved.make(ROOT / "crates" / "abt_journal_rows", program, room, tests=True)
-        listed = [line.removesuffix(": test") for line in subprocess.run([program, "--list"], capture_output=True, text=True).stdout.split("\n")]
-        for processors in ({min(everywhere)}, everywhere):
-            for workers, name in TESTS.items():
-                test = next(it for it in listed if it.endswith(f"::{name}"))
-                for _ in range(calls):
-                    made += RUNS
-                    if told := falls_short(program, test, processors):
-                        short += 1
-                        print(f"  {workers} link workers on {len(processors)} processors: {told}", flush=True)
-    except unproved.Unmade as why:
-        sys.exit(f"losses: {why}")
-    finally:
-        processes.clear_rooms()
+    listed = subprocess.run([words.tests, "--list"], capture_output=True, text=True).stdout.split("\n")
+    for processors in ({min(everywhere)}, everywhere):
+        for workers, name in TESTS.items():
+            test = next(it.removesuffix(": test") for it in listed if it.endswith(f"::losses::{name}: test"))
+            for _ in range(words.calls):
+                made += RUNS
+                if told := falls_short(words.tests, test, processors):
+                    short += 1
+                    print(f"  {workers} link workers on {len(processors)} processors: {told}", flush=True)
     print(f"losses: {made} runs, {short} calls fall short")
     sys.exit(1 if short else 0)
 

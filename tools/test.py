@@ -56,13 +56,14 @@ class Tally:
 
 
 def scripts(names):
-    """The scripts that are asked for: each with whether it is run with the program. A script says so in its line of usage."""
+    """The scripts that are asked for: each with what it is run with, if anything: PROGRAM, or TESTS, the program of all tests. A script says
+    so in its line of usage."""
     found = {}
     for place in PLACES:
         for file in sorted(ROOT.glob(place)):
-            usage = re.search(rf"^usage: {file.name}( \[?PROGRAM)?", file.read_text(), re.M)
+            usage = re.search(rf"^usage: {file.name}(?: \[?(PROGRAM|TESTS))?", file.read_text(), re.M)
             if usage:
-                found[str(file.relative_to(ROOT))] = bool(usage[1])
+                found[str(file.relative_to(ROOT))] = usage[1]
     return {name: asks for name, asks in found.items() if is_wanted(name, names)}
 
 
@@ -122,14 +123,15 @@ class Run:
 
     def all(self):
         wanted = scripts(self.names)
-        asks_program = [name for name, asks in wanted.items() if asks]
-        making = self.pool.submit(self.made, "the program", program.current) if asks_program else None
-        asks_tests = not all(any(name.startswith(it) for name in wanted) for it in self.names) or not self.names
+        asking = {it: [name for name, asks in wanted.items() if asks == it] for it in ("PROGRAM", "TESTS")}
+        making = self.pool.submit(self.made, "the program", program.current) if asking["PROGRAM"] else None
+        asks_tests = asking["TESTS"] or not all(any(name.startswith(it) for name in wanted) for it in self.names) or not self.names
         building = self.pool.submit(self.made, "all tests", compiled_tests) if asks_tests else None
         parts = [self.pool.submit(self.script, name) for name, asks in wanted.items() if not asks]
         made = making.result() if making else None
-        parts += [self.pool.submit(self.script, name, made) for name in asks_program if made]
+        parts += [self.pool.submit(self.script, name, made) for name in asking["PROGRAM"] if made]
         tests = building.result() if building else None
+        parts += [self.pool.submit(self.script, name, tests) for name in asking["TESTS"] if tests]
         names = [name for name in listed(tests) if is_wanted(name, self.names)] if tests else []
         if names:
             self.tally.say(f"running {len(names)} tests")
