@@ -18,7 +18,8 @@ CASES = case_file("misuses")
 INCLUDE = ["-I", str(ROOT / "include")]
 # A result that is left alone is seen by what makes code.
 IN_C = ["-std=c11", "-Wall", "-Wextra", "-Werror", *INCLUDE, "-c", "-o", "/dev/null"]
-IN_CPP = ["-std=c++17", *INCLUDE, "-fsyntax-only"]
+CPP = ["-std=c++17", *INCLUDE]
+IN_CPP = [*CPP, "-fsyntax-only"]
 
 
 def is_compiled(words):
@@ -43,10 +44,21 @@ def faults_in_c(compiler, folder):
                 yield f"{compiler}, {text}: {told[:300] or 'nothing is told'}"
 
 
-def faults_in_cpp(compiler):
+def header_read_once(compiler, folder):
+    """The words that make a compiler take the headers for C++ as it read them once, which most of each trial would be spent on."""
+    made = Path(folder) / compiler / ("abt.hpp.gch" if compiler == "g++" else "abt.pch")
+    made.parent.mkdir()
+    told = subprocess.run([compiler, *CPP, "-x", "c++-header", "-o", made, ROOT / "include" / "abt.hpp"], capture_output=True)
+    if told.returncode or not made.exists():
+        return []
+    return ["-I", str(made.parent)] if compiler == "g++" else ["-include-pch", str(made)]
+
+
+def faults_in_cpp(compiler, folder):
+    read = header_read_once(compiler, folder)
     for file in sorted((ROOT / "wrappers" / "cpp" / "must-not-compile").glob("*.cpp")):
         for more, wanted in (["-DMISUSE"], False), ([], True):
-            given, told = is_compiled([compiler, *IN_CPP, *more, file])
+            given, told = is_compiled([compiler, *read, *IN_CPP, *more, file])
             if given != wanted or not wanted and file.name not in told:
                 yield f"{compiler}, {file.name} {more}: {told[:300] or 'nothing is told'}"
 
@@ -57,6 +69,6 @@ with tempfile.TemporaryDirectory() as room:
         found += faults_in_c(compiler, room)
         looked.append(compiler)
     for compiler in filter(shutil.which, ("g++", "clang++")):
-        found += faults_in_cpp(compiler)
+        found += faults_in_cpp(compiler, room)
         looked.append(compiler)
 report(f"misuse by {', '.join(looked)}", found)
