@@ -5,7 +5,7 @@ ghost use Rattle.abt_json.specs.Explained as spec;
 
 use crate::object::begin_kind_behind;
 use crate::outcome::push_outcome;
-use crate::report::{LINE_ROOM, push_end};
+use crate::report::push_end;
 use abt_entry::{end, push_number, push_text};
 use abt_format as report;
 use abt_format::push_event;
@@ -72,7 +72,7 @@ fn push_event_object(
         spec.explained_object number line event.now grounds.now outcome.now) }
 {
     // By itself, as a line of a report.
-    let mut said = Vec::with_capacity(alloc, LINE_ROOM)?;
+    let mut said = Vec::with_capacity(alloc, 256)?;
     let mut object = begin_kind_behind(alloc, &mut said, "event")?;
     push_explained(alloc, &mut object, number, line, event, grounds, outcome)?;
     end(object, &mut said)?;

@@ -12,9 +12,6 @@ use abt_rate::Rate;
 use json::Writer;
 use std::alloc::{AllocError, Global};
 
-// Room for most lines.
-pub(crate) const LINE_ROOM: usize = 256;
-
 /// The report of a run, an object a line: the outcome of each event, then each connection with its rate and what its
 /// hops hold, each port with its total and the capacity that it has in the end, and whether all that is safe.
 pub fn report_json(alloc: Global, trace: &Trace) -> Result<Vec<u8>, AllocError>
@@ -57,8 +54,8 @@ fn push_outcome_object(
 ) -> Result<(), AllocError>
     ensures { OnOk result (text.new.items ≡ text.old.items ++ outcome_object number outcome.now) }
 {
-    // A writer makes room ahead, and more of it behind a long text: so the line is made by itself.
-    let mut line = Vec::with_capacity(alloc, LINE_ROOM)?;
+    // A writer makes room ahead, and more of it behind a long text: so the line is made by itself. Most have fewer octets.
+    let mut line = Vec::with_capacity(alloc, 256)?;
     let mut object = begin_kind_behind(alloc, &mut line, "event")?;
     push_number(&mut object, "event", number)?;
     push_outcome(alloc, &mut object, outcome)?;
