@@ -1,5 +1,5 @@
 """Tests `./abt --test` on a small repository of its own, with the real kit: one test that passes, one that fails, one without an end, a
-script that passes and one that fails.
+script that passes with the program and one with that of the tests, and one that fails.
 
 usage: test_command.py
 """
@@ -45,8 +45,9 @@ def last_line(told):
 def whole(folder):
     it = Repository(folder)
     status, told = it.run()
-    yield "all parts are counted", (status, last_line(told)) == (1, "2 passed, 3 failed")
+    yield "all parts are counted", (status, last_line(told)) == (1, "3 passed, 3 failed")
     yield "a script that passes is told", "passed tests/good.py in" in told
+    yield "a script is handed the program of all tests", "passed tests/of_tests.py in" in told
     again = "FAILED tests/bad.py: status 1; again: ./abt --test tests/bad.py\nthis one fails"
     yield "a script that fails is told with its words", again in told
     yield "a test that fails is told", "FAILED abt_few_tests_tests::one_fails: status" in told
