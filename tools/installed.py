@@ -3,7 +3,7 @@
 
 usage: installed.py library BUILD PREFIX     (BUILD: the folder in which `make -C c library` builds)
 
-`./abt --install` puts the program's files, `make -C c install` the library's. A release (tools/release) has both, and the documents.
+`./abt --install` puts the program's files and the documents, `make -C c install` the library's. A release (tools/release) has all.
 """
 import shutil
 import sys
@@ -47,8 +47,10 @@ def library_files(build):
 
 
 def document_files():
-    """README and documents, with the examples."""
-    found = [ROOT / "README.md", ROOT / "CHANGELOG.md", *sorted((ROOT / "docs").iterdir()), *sorted((ROOT / "c" / "examples").iterdir())]
+    """README, documents, and the samples and examples that these and the program's help name."""
+    found = [ROOT / "README.md", ROOT / "CHANGELOG.md"]
+    found += [file for folder in ("docs", "c/examples") for file in sorted((ROOT / folder).iterdir())]
+    found += sorted((ROOT / "scenarios").glob("*.toml"))
     return {f"share/doc/abt/{file.relative_to(ROOT)}".replace("/c/examples/", "/examples/"): file for file in found}
 
 

@@ -122,6 +122,10 @@ def told_after(text):
             yield ("" if place else ".PP\n") + "\n.br\n".join(told)
 
 
+# Where an installed program has the documents and samples that its help names.
+FILES = "`docs/` and `scenarios/` are folders of `share/doc/abt` below the folder in which `bin/abt` was installed."
+
+
 def manual(program, them):
     """The page abt(1)."""
     parts = [
@@ -138,7 +142,7 @@ def manual(program, them):
             parts += told_after(it.after)
     told = lambda it: inline(f"{it.words[0].upper()}{it.words[1:]}; {it.more}.")
     parts += [".SH EXIT STATUS", *(f".TP\n\\fB{it.number}\\fR\n{told(it)}" for it in statuses())]
-    parts += [".SH EXAMPLES", *told_after(program.after), ".SH SEE ALSO\n.BR abt_formats (5), abt (3)"]
+    parts += [".SH EXAMPLES", *told_after(program.after), f".SH FILES\n{inline(FILES)}", ".SH SEE ALSO\n.BR abt_formats (5), abt (3)"]
     return "\n".join(parts) + "\n"
 
 
