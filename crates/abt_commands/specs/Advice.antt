@@ -1,5 +1,5 @@
 -- What is advised behind a run (docs/FORMATS.md, "Checks").
-use Rattle.std.specs.Prelude.{◌⊎◌, ◌||◌, ◌&&◌, ◌==◌, Bool, false, not, if◌then◌else◌, List, [], ◌∷◌, length, Option, None, Some, Ok, codes}
+use Rattle.std.specs.Prelude.{◌⊎◌, ◌||◌, ◌==◌, Bool, true, false, not, List, [], ◌∷◌, length, Option, None, Some, Ok, codes}
 use Rattle.std.specs.Io.KnownBytes.{Keeps}
 use Rattle.abt_files.specs.Shown.{shown}
 use Rattle.abt_model.specs.declared.script_command.Command.{Command}
@@ -26,12 +26,16 @@ has_command (script ∷ scripts) = not (is_nil script) || has_command scripts
 abbrev pub has_script : Scenario → Bool
 has_script scenario = has_command scenario.scripts || not (is_nil scenario.operator)
 
--- of a scenario that has only what a command doesn't run: which commands run it
+-- of a scenario that has only what a command doesn't run: which commands run it, if any does
+abbrev pub advice : Runs → (has_events has_script : Bool) → Text
+advice Events true has_script = []
+advice Events false true = codes "this scenario has only scripts: use abt threads, or abt play\n"
+advice Scripts has_events true = []
+advice Scripts true false = codes "this scenario has only events: use abt run\n"
+advice runs false false = codes "nothing runs: this scenario has neither events nor scripts\n"
+
 abbrev pub advice_of : Runs → Scenario → Text
-advice_of Events scenario =
-    if is_nil scenario.events && has_script scenario then codes "this scenario has only scripts: use abt threads, or abt play\n" else []
-advice_of Scripts scenario =
-    if not (is_nil scenario.events) && not (has_script scenario) then codes "this scenario has only events: use abt run\n" else []
+advice_of runs scenario = advice runs (not (is_nil scenario.events)) (has_script scenario)
 
 -- who says what is wrong in a text, of this file or of the standard input
 abbrev pub check_pieces : (file : Option Text) → List Text

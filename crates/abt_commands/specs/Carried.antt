@@ -21,7 +21,7 @@ use Rattle.abt_cli.specs.declared.command.Command.TheVariants.{Rate, Cell, Port,
 abbrev pub IsCarriedOut : {K J : Type 0} → (content : K → KeptRecord) → (contents : J → Option Text) → (advised : Bool) → Command → (status : ℕ)
     → (left_old left_new old new told_old told_new : Option Text) → Type 0
 IsCarriedOut content contents advised (Rate code json) = SaysRate json code
-IsCarriedOut content contents advised (Cell hex json) = SaysCell json hex
+IsCarriedOut content contents advised (Cell hex json) = SaysCell json advised hex
 IsCarriedOut content contents advised (Port capacity cells json) = ServesPort json capacity cells
 IsCarriedOut content contents advised (Run file json explain strict quiet) = Runs strict json explain advised file
 IsCarriedOut content contents advised (Threads command) = RunsThreads advised command

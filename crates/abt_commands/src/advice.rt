@@ -13,6 +13,8 @@ use std::io::Write;
 
 const ONLY_SCRIPTS: &str = "this scenario has only scripts: use abt threads, or abt play\n";
 
+const NOTHING: &str = "nothing runs: this scenario has neither events nor scripts\n";
+
 const ONLY_EVENTS: &str = "this scenario has only events: use abt run\n";
 
 // The part of a scenario that a command runs.
@@ -53,15 +55,16 @@ pub(crate) fn advise_of_nothing<E: Write>(alloc: Global, runs: Runs, text: &[u8]
     }
 }
 
-// Which commands run a scenario that has only what a command doesn't run; nothing, of another one.
+// Which commands run a scenario that has only what a command doesn't run, or that nothing does; nothing, of another one.
 fn advice_of(runs: Runs, scenario: &Scenario) -> &'static str
     ensures { result.now ≡ advice_of runs scenario.now }
 {
     let has_events = !scenario.events.as_slice().is_empty();
-    match runs {
-        Runs::Events if !has_events && has_script(scenario) => ONLY_SCRIPTS,
-        Runs::Scripts if has_events && !has_script(scenario) => ONLY_EVENTS,
-        _ => "",
+    match (runs, has_events, has_script(scenario)) {
+        (Runs::Events, true, _) | (Runs::Scripts, _, true) => "",
+        (Runs::Events, false, true) => ONLY_SCRIPTS,
+        (Runs::Scripts, true, false) => ONLY_EVENTS,
+        (_, false, false) => NOTHING,
     }
 }
 

@@ -52,7 +52,7 @@ where
     let alloc = rt.alloc();
     match command {
         Command::Rate { code, json } => rate(alloc, code, json, input, out, errors),
-        Command::Cell { cell: hex, json } => cell(alloc, hex, json, input, out, errors),
+        Command::Cell { cell: hex, json } => cell(alloc, hex, json, advised, input, out, errors),
         Command::Port {
             capacity,
             cells,

@@ -9,9 +9,8 @@ ghost use Rattle.abt_commands.specs.declared.advice.Runs.TheVariants.{Events};
 use crate::advice::{Runs, advise};
 use crate::draw::draw_from;
 use crate::input::{Input, opened};
-use crate::run_besides::unread;
+use crate::unread::tell_unread;
 use abt_cli::DrawCommand;
-use abt_perform::tell_fault;
 use abt_progress::Progress;
 use abt_text::octets_of;
 use std::alloc::AllocGlobal;
@@ -51,7 +50,7 @@ fn over_reader<T: Files + AllocGlobal, R: Read, W: Write, E: Write>(
     match octets_of(rt.alloc(), reader) {
         Ok(octets) => over_text(rt, command, octets.as_slice(), out, errors),
         Err(fault) => {
-            tell_fault(unread(fault), errors);
+            tell_unread(fault, errors);
             1
         }
     }

@@ -10,9 +10,8 @@ ghost use Rattle.abt_commands.specs.declared.advice.Runs.TheVariants.{Events};
 
 use crate::advice::{Runs, advise};
 use crate::input::{Input, opened};
-use crate::run_besides::unread;
+use crate::unread::tell_unread;
 use abt_explain::perform_explain;
-use abt_perform::tell_fault;
 use abt_progress::Progress;
 use abt_text::octets_of;
 use std::alloc::{AllocGlobal, Global};
@@ -53,7 +52,7 @@ fn over_reader<R: Read, W: Write, E: Write>(
     match octets_of(alloc, reader) {
         Ok(octets) => over_text(alloc, file, octets.as_slice(), out, errors),
         Err(fault) => {
-            tell_fault(unread(fault), errors);
+            tell_unread(fault, errors);
             1
         }
     }

@@ -35,6 +35,7 @@ mod threads_advised;
 mod threads_events;
 mod threads_journals;
 mod threads_objects;
+mod unread;
 mod unwritten;
 
 pub use carry_out::carry_out_command;

@@ -12,7 +12,7 @@ use std::io::{ErrorKind, Write};
 use std::rt::Files;
 
 // What is told of a file that is opened and can't be read.
-const READ_LINE: &str = "fault: read\n";
+pub(crate) const READ_LINE: &str = "fault: read\n";
 
 // Why a file can't be opened or read.
 #[derive(Clone, Copy)]

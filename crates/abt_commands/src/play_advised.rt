@@ -9,8 +9,7 @@ ghost use Rattle.abt_commands.specs.declared.advice.Runs.TheVariants.{Scripts};
 use crate::advice::{Runs, advise};
 use crate::input::{Input, opened};
 use crate::play::play_from;
-use crate::run_besides::unread;
-use abt_perform::tell_fault;
+use crate::unread::tell_unread;
 use abt_play::PlayPlan;
 use abt_progress::Progress;
 use abt_text::octets_of;
@@ -51,7 +50,7 @@ fn over_reader<T: Files + AllocGlobal, R: Read, W: Write, E: Write>(
     match octets_of(rt.alloc(), reader) {
         Ok(octets) => over_text(rt, plan, octets.as_slice(), out, errors),
         Err(fault) => {
-            tell_fault(unread(fault), errors);
+            tell_unread(fault, errors);
             1
         }
     }

@@ -5,14 +5,14 @@ ghost use Rattle.abt_perform.specs.Plans.{IsRefused, Prints};
 ghost use Rattle.abt_commands.specs.Besides.{IsOfText};
 ghost use Rattle.abt_commands.specs.Checked.{EndsBesides, RunsAdvised, RunsChecked, TellsBesides, TellsCheck, TellsCheckFirst, the_run};
 ghost use Rattle.abt_commands.specs.Ends.{Quietly};
-ghost use Rattle.abt_commands.specs.Besides as spec;
 
 use crate::advice::{Runs, advise, advise_of_nothing};
 use crate::input::{Input, opened};
+use crate::unread::tell_unread;
 use abt_check::answer_of;
 use abt_perform::{Fault, Plan, perform, tell_fault, tell_text};
 use abt_progress::Progress;
-use abt_text::{TextFault, octets_of};
+use abt_text::octets_of;
 use std::alloc::{AllocGlobal, Global};
 use std::io::{Read, Write};
 use std::rt::Files;
@@ -82,20 +82,9 @@ fn over_reader<R: Read, W: Write, E: Write>(
     match octets_of(alloc, reader) {
         Ok(octets) => over_text(alloc, besides, file, octets.as_slice(), out, errors),
         Err(fault) => {
-            tell_fault(unread(fault), errors);
+            tell_unread(fault, errors);
             1
         }
-    }
-}
-
-// Why a text wasn't read, as the program tells it.
-pub(crate) fn unread(fault: TextFault) -> Fault
-    ensures { result ≡ spec.unread fault }
-{
-    match fault {
-        TextFault::Read => Fault::Read,
-        TextFault::TooLong => Fault::TooLong,
-        TextFault::Memory => Fault::Memory,
     }
 }
 

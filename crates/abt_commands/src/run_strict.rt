@@ -5,7 +5,7 @@ ghost use Rattle.abt_check.specs.Strict.{IsFirstUnable};
 ghost use Rattle.abt_commands.specs.Strict.{EndsStrict, IsEnabled, IsRunRefused, IsUnable, PrintsRun, RunsStrict, unable_text};
 
 use crate::input::{Input, opened};
-use crate::run_besides::unread;
+use crate::unread::tell_unread;
 use abt_check::first_unable;
 use abt_json::{JsonPlan, perform_json};
 use abt_perform::{Fault, Plan, perform, tell_fault, tell_text};
@@ -49,7 +49,7 @@ fn over_reader<R: Read, W: Write, E: Write>(
     match octets_of(alloc, reader) {
         Ok(octets) => over_text(alloc, json, octets.as_slice(), out, errors),
         Err(fault) => {
-            tell_fault(unread(fault), errors);
+            tell_unread(fault, errors);
             1
         }
     }

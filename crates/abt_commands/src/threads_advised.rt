@@ -10,9 +10,9 @@ ghost use Rattle.abt_commands.specs.declared.advice.Runs.TheVariants.{Scripts};
 
 use crate::advice::{Runs, advise};
 use crate::input::{Input, opened};
-use crate::run_besides::unread;
+use crate::unread::tell_unread;
 use abt_cli::ThreadsCommand;
-use abt_perform::{Plan, tell_fault};
+use abt_perform::Plan;
 use abt_perform_threads::perform_threads;
 use abt_progress::Progress;
 use abt_text::octets_of;
@@ -60,7 +60,7 @@ where
     match octets_of(rt.alloc(), reader) {
         Ok(octets) => over_text(rt, command, octets.as_slice(), out, errors),
         Err(fault) => {
-            tell_fault(unread(fault), errors);
+            tell_unread(fault, errors);
             1
         }
     }

@@ -4,8 +4,9 @@ ghost use Rattle.abt_commands.specs.ThreadsEvents.{EndsToldOver, IsRunTold, IsTo
 
 use crate::advice::Runs;
 use crate::input::{Input, opened};
-use crate::run_besides::{tell_check_first, unread};
+use crate::run_besides::tell_check_first;
 use crate::saving::save_if_named;
+use crate::unread::tell_unread;
 use abt_cli::ThreadsCommand;
 use abt_explain::tell_events;
 use abt_perform::tell_fault;
@@ -56,7 +57,7 @@ where
     match octets_of(rt.alloc(), reader) {
         Ok(octets) => over_text(rt, command, octets.as_slice(), out, errors),
         Err(fault) => {
-            tell_fault(unread(fault), errors);
+            tell_unread(fault, errors);
             1
         }
     }

@@ -1,6 +1,7 @@
 -- What is told of a switch or a source that doesn't answer all lines (docs/LIVE.md, "Faults of files").
 use Rattle.std.specs.Prelude.{ℕ, List, [], ◌∷◌, Option, codes}
 use Rattle.std.specs.Io.KnownBytes.{Keeps}
+use Rattle.abt_files.specs.Shown.{shown}
 use Rattle.abt_text.specs.Text.{Text, decimal, newline}
 use Rattle.abt_lines.specs.declared.fault.LinesFault.{LinesFault}
 use Rattle.abt_lines.specs.declared.fault.LinesFault.TheVariants as lines
@@ -32,7 +33,7 @@ block_words (Version number) = codes "it is a store of another version"
 block_words Damaged = codes "it is damaged"
 
 abbrev pub store_words : FileFault → Text
-store_words file.Missing = codes "there is no such store, or no such folder; --new makes a store"
+store_words file.Missing = codes "there is no such store, or no such folder; --new makes a store in a folder that is there"
 store_words file.Exists = codes "it is there already; without --new it is used"
 store_words file.Unfinished = codes "a file of its name with .new is there, which was left or is being made"
 store_words file.NotAFile = codes "it is no regular file"
@@ -60,9 +61,9 @@ journal_words journal.Past = codes "it tells more cells than fit before its last
 journal_words journal.Other = codes "the system doesn't open it"
 journal_words journal.Memory = codes "no memory was found"
 
--- the line of a fault, and behind it a name and why
+-- the line of a fault, and behind it a name as it is shown, and why
 abbrev pub named_pieces : (line name words : Text) → List Text
-named_pieces line name words = line ∷ name ∷ codes ": " ∷ words ∷ newline ∷ []
+named_pieces line name words = line ∷ shown name ∷ codes ": " ∷ words ∷ newline ∷ []
 
 -- and behind it a number and why
 abbrev pub numbered_pieces : (line : Text) → (number : ℕ) → (words : Text) → List Text

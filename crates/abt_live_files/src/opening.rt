@@ -88,7 +88,12 @@ fn make_source<T: Files + Stores>(
 
 // Opens a journal that has no line, which no other process then has, and makes it if it isn't there.
 fn empty_journal<T: Files + Stores>(rt: &T, name: &str) -> Result<T::File, JournalFault> {
-    let opened = OpenOptions::new().append(true).create(true).open(rt, name);
+    // A pipe with no reader would be waited for if it were to be written alone.
+    let opened = OpenOptions::new()
+        .read(true)
+        .append(true)
+        .create(true)
+        .open(rt, name);
     let journal = opened.map_err(JournalFault::of_making)?;
     rt.lock_journal(&journal)?;
     let about = journal.metadata()?;

@@ -2,11 +2,14 @@
 ghost use Rattle.std.specs.Prelude.{◌≡◌};
 ghost use Rattle.abt_live_files.specs.Words as spec;
 ghost use Rattle.abt_live_files.specs.Words.{TellsEach, journal_pieces, named_pieces, numbered_pieces, stop_pieces, store_pieces};
+ghost use Rattle.abt_files.specs.Shown.{shown};
+ghost use Rattle.abt_perform.specs.Plans.{Tells};
 ghost use Rattle.abt_text.specs.Text.{decimal};
 
 use crate::fault::LiveStop;
 use crate::journal_fault::JournalFault;
 use abt_disk::{FileFault, OpenFault};
+use abt_files::put_shown;
 use abt_lines::LinesFault;
 use abt_live::ServeFault;
 use abt_perform::{Fault, MEMORY_LINE, tell_fault, tell_text};
@@ -70,10 +73,17 @@ fn tell_named<E: Write>(line: &str, name: &str, words: &str, errors: &mut E)
         (E.contents errors.new) }
 {
     tell_text(errors, line);
-    tell_text(errors, name);
+    tell_shown(errors, name);
     tell_text(errors, ": ");
     tell_text(errors, words);
     tell_text(errors, "\n");
+}
+
+// Tells a name as it is shown.
+fn tell_shown<E: Write>(errors: &mut E, name: &str)
+    ensures { Tells (shown name.now) (E.contents errors.old) (E.contents errors.new) }
+{
+    let _ = put_shown(errors, name);
 }
 
 // Tells the line of a fault, and behind it a number and why.
@@ -92,7 +102,8 @@ fn store_words(fault: FileFault) -> &'static str
     ensures { result.now ≡ spec.store_words fault }
 {
     match fault {
-        FileFault::Missing => "there is no such store, or no such folder; --new makes a store",
+        FileFault::Missing =>
+            "there is no such store, or no such folder; --new makes a store in a folder that is there",
         FileFault::Exists => "it is there already; without --new it is used",
         FileFault::Unfinished =>
             "a file of its name with .new is there, which was left or is being made",
