@@ -2,3 +2,6 @@ mod Numbered
 mod Read
 mod Below
 mod Frames
+mod Same
+mod Noted
+mod Next

@@ -2,7 +2,9 @@
 ghost use Rattle.std.specs.Prelude.{◌≡◌, ◌+◌, ◌<◌, ◌≤◌, IfOk, length};
 ghost use Rattle.abt_chart.specs.Charts.{IsCrossing, AreCrossings};
 
-use crate::{Arrival, Departure, Told, arrival_at, departure_at};
+use crate::before::Before;
+use crate::behind::departures_of;
+use crate::{Arrival, Departure, Told};
 use abt_model::Sequence;
 use std::alloc::{AllocError, Global};
 
@@ -15,17 +17,6 @@ pub struct Crossing {
     pub departure: Option<Departure>,
 }
 
-// What an event of a run brings and sends.
-fn crossing_at(told: &[Told], place: usize) -> Crossing
-    requires { place < length told.now }
-    ensures { IsCrossing told.now place result }
-{
-    Crossing {
-        arrival: arrival_at(told, place),
-        departure: departure_at(told, place),
-    }
-}
-
 // What the events from one place to another bring and send.
 pub(crate) fn crossings_of(
     alloc: Global,
@@ -36,9 +27,16 @@ pub(crate) fn crossings_of(
     requires { first + count ≤ length told.now }
     ensures { IfOk result (AreCrossings told.now first count) }
 {
+    let departures = departures_of(alloc, told, first + count, count)?;
+    let departures = departures.as_slice();
+    let mut before = Before::of(alloc, told, first)?;
     let mut crossings = Sequence::new(alloc);
     for index in 0..count {
-        crossings.push(crossing_at(told, first + index))?;
+        crossings.push(Crossing {
+            arrival: before.arrival_at(told, first + index),
+            departure: departures[count - 1 - index],
+        })?;
+        before.note(told, first + index)?;
     }
     Ok(crossings)
 }

@@ -2,15 +2,18 @@
 #![tactic(auto)]
 
 mod arrow;
+mod before;
+mod behind;
 mod chart;
 mod crossings;
 mod frame;
 mod holdings;
 mod message;
-mod search;
+mod places;
+mod requests;
 mod told;
 
-pub use arrow::{Arrival, Departure, arrival_at, departure_at};
+pub use arrow::{Arrival, Departure};
 pub use chart::{Chart, chart_of};
 pub use crossings::Crossing;
 pub use frame::{Frame, frame_of};

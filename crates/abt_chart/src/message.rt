@@ -6,7 +6,7 @@ use abt_model::{Event, Outcome};
 use abt_node::{Back, Onward};
 
 /// The kinds of messages.
-#[derive(Clone, Copy, Debug, PartialEq, Eq)]
+#[derive(Clone, Copy, Debug, PartialEq, Eq, Hash)]
 pub enum Kind {
     /// A request.
     Request,
@@ -17,7 +17,7 @@ pub enum Kind {
 }
 
 /// Where messages of a connection stop.
-#[derive(Clone, Copy, Debug, PartialEq, Eq)]
+#[derive(Clone, Copy, Debug, PartialEq, Eq, Hash)]
 pub enum Stop {
     /// The source.
     Source,
@@ -28,7 +28,7 @@ pub enum Stop {
 }
 
 /// A message on its way to a stop of its connection's path.
-#[derive(Clone, Copy, Debug, PartialEq, Eq)]
+#[derive(Clone, Copy, Debug, PartialEq, Eq, Hash)]
 pub struct Message {
     /// The connection, as its place in the net, from 0.
     pub conn: u16,
