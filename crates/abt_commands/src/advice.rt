@@ -13,7 +13,7 @@ use std::io::Write;
 
 const ONLY_SCRIPTS: &str = "this scenario has only scripts: use abt threads, or abt play\n";
 
-const NOTHING: &str = "nothing runs: this scenario has neither events nor scripts\n";
+const NOTHING: &str = "nothing runs: there are no events and no scripts\n";
 
 const ONLY_EVENTS: &str = "this scenario has only events: use abt run\n";
 
@@ -39,32 +39,32 @@ pub(crate) fn advise<E: Write>(
 {
     let mut left = text;
     match read_from(alloc, &mut left) {
-        Ok(scenario) => tell_text(errors, advice_of(runs, &scenario)),
+        Ok(scenario) => tell_text(errors, advice_of(NOTHING, runs, &scenario)),
         Err(EngineFault::Scenario(_)) => name_check(file, errors),
         Err(_) => {}
     }
 }
 
-// The same of a text whose faults a check tells.
+// The same of a text whose faults a check tells, and that nothing runs.
 pub(crate) fn advise_of_nothing<E: Write>(alloc: Global, runs: Runs, text: &[u8], errors: &mut E)
     ensures { TellsOfNothing runs text.now (E.contents errors.old) (E.contents errors.new) }
 {
     let mut left = text;
     if let Ok(scenario) = read_from(alloc, &mut left) {
-        tell_text(errors, advice_of(runs, &scenario));
+        tell_text(errors, advice_of("", runs, &scenario));
     }
 }
 
-// Which commands run a scenario that has only what a command doesn't run, or that nothing does; nothing, of another one.
-fn advice_of(runs: Runs, scenario: &Scenario) -> &'static str
-    ensures { result.now ≡ advice_of runs scenario.now }
+// Which commands run a scenario that has only what a command doesn't run, or this of one that has neither events nor scripts.
+fn advice_of(nothing: &'static str, runs: Runs, scenario: &Scenario) -> &'static str
+    ensures { result.now ≡ advice_of nothing.now runs scenario.now }
 {
     let has_events = !scenario.events.as_slice().is_empty();
     match (runs, has_events, has_script(scenario)) {
         (Runs::Events, true, _) | (Runs::Scripts, _, true) => "",
         (Runs::Events, false, true) => ONLY_SCRIPTS,
         (Runs::Scripts, true, false) => ONLY_EVENTS,
-        (_, false, false) => NOTHING,
+        (_, false, false) => nothing,
     }
 }
 
