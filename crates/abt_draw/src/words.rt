@@ -3,7 +3,7 @@ ghost use Rattle.std.specs.Prelude.{◌≡◌, IfOk, string_bytes};
 ghost use Rattle.abt_draw.specs.Bands as spec;
 
 use crate::sheet::Sheet;
-use abt_chart::{Kind, Message, Told};
+use abt_chart::{Chart, Kind, Message, Told};
 use abt_rate::Rate;
 use abt_world::Outcome;
 use std::alloc::{AllocError, Global};
@@ -23,7 +23,7 @@ pub(crate) fn message_words(
     let kind = kind_word(message.kind);
     let seq = message.seq;
     let mut words = format!(in alloc; "c{conn} {kind}r{seq}")?;
-    if let Some(rate) = asked_rate(sheet.chart.told.as_slice(), message) {
+    if let Some(rate) = asked_rate(drawn_so_far(sheet.chart), message) {
         let rate = short_rate(alloc, rate.units())?;
         write!(words, ": {rate}")?;
     }
@@ -44,9 +44,17 @@ fn kind_word(kind: Kind) -> &'static str {
     }
 }
 
-// The rate for which the request of a message asked.
+// The events up to the last that is shown, which have each request of which a message is shown.
+fn drawn_so_far(chart: &Chart) -> &[Told] {
+    let told = chart.told.as_slice();
+    let end = chart.first.saturating_add(chart.crossings.len());
+    &told[..end.min(told.len())]
+}
+
+// The rate for which the request of a message asked. A source asks once by a number, mostly shortly before.
 fn asked_rate(told: &[Told], message: &Message) -> Option<Rate> {
-    for event in told {
+    for back in 0..told.len() {
+        let event = &told[told.len() - 1 - back];
         if let Outcome::Asked(request) | Outcome::Repeated(request) = event.outcome {
             if request.seq() == message.seq && event.event.conn() == Some(message.conn) {
                 return Some(request.ask());
