@@ -4,22 +4,24 @@ holds it up.
 The implementation is tests/devices/device.py, in which one fault at a time can be planted. Each has to be found within 10,000 events at
 each seed, and the smallest events of one of each role have to differ again. A program that breaks (that ends, prints nothing, prints too
 much or never ends) has to be told as a difference, and made small like any other; one that isn't there is a fault. Nothing of them and no
-FIFO may be left.
+FIFO may be left. A file that the tool didn't write stays as it is, and what it can't print is a fault.
 
 usage: conform.py PROGRAM.. [--seeds N]      (N: at how many seeds each fault has to be found; without it, 1)
 """
 import os
 import re
+import shlex
 import shutil
 import signal
 import subprocess
 import sys
+import tempfile
 import time
 import tomllib
 from concurrent.futures import ThreadPoolExecutor
 from pathlib import Path
 
-from harness import ROOT, End, case_file, main, run, worked
+from harness import ROOT, End, case_file, files_in, main, put, run, worked
 
 TOOL = ROOT / "tools" / "conform.py"
 CASES = case_file("conform")
@@ -29,6 +31,10 @@ LONGEST = 600
 NEVER_ENDS = """import sys, time
 for line in sys.stdin: print('started' if line.startswith('start') else '?', flush=True)
 time.sleep(1000)"""
+# A program that differs at the first event.
+ENDS = [sys.executable, "-c", "raise SystemExit(3)"]
+# One that clears a screen at each event.
+CLEARS = "import sys\nfor _ in sys.stdin: print('\\x1b[2J', flush=True)"
 UNSTARTED = "can't be started: No such file or directory\n"
 # A port that breaks behind its answer to a stale cell.
 BREAKING = """import sys, time
@@ -75,11 +81,11 @@ class Conforms:
         for name, text in {"device.py": (ROOT / "tests" / "devices" / "device.py").read_text(), **adapters()}.items():
             (trial.folder / name).write_text(text)
 
-    def conform(self, *words, fault="", command=()):
+    def conform(self, *words, fault="", command=(), folder=None):
         self.trial.runs += 1
         environment = {**os.environ, "FAULT": fault, "TMPDIR": str(self.trial.folder)}
         words = ["-B", TOOL, "--abt", self.trial.program, "--shrink", LONGEST, *words, "--", *command]
-        return run(sys.executable, words, folder=self.trial.folder, env=environment, timeout=900)
+        return run(sys.executable, words, folder=folder or self.trial.folder, env=environment, timeout=900)
 
     def adapter(self, role):
         return [sys.executable, "-B", f"{role}.py"]
@@ -166,11 +172,70 @@ class Conforms:
         wanted = "differs, seed 1: `the end of the input`\n  abt   ends\n  yours hasn't ended 15 s after its input did\n"
         self.trial.wants("one that never ends", (1, "", wanted), (given.status, given.told, given.output[: len(wanted)]))
         self.trial.wants("what is left of one that never ends", (), alive(mark))
-        old = self.trial.folder / "old.toml"
-        old.touch()
-        given = self.conform("--role", "net", "--to", old, command=["./no-such-program"])
+        given = self.conform("--role", "net", command=["./no-such-program"])
         self.trial.wants("one that isn't there", End(1, "", f"fault: ./no-such-program {UNSTARTED}"), given)
-        self.trial.wants("a file of the run before", (False,), (old.exists(),))
+
+    def refused_files(self):
+        """A file that isn't the tool's own is refused before anything starts, and stays as it is."""
+        with tempfile.TemporaryDirectory(dir=self.trial.folder) as name:
+            folder = Path(name)
+            put(folder, CASES["files"])
+            (folder / "link.toml").symlink_to("mine.toml")
+            (folder / "dev.sh").chmod(0o755)
+            before = files_in(folder)
+            for words, told in CASES["refused"].items():
+                options, _, command = words.partition(" -- ")
+                given = self.conform(*shlex.split(options), command=shlex.split(command), folder=folder)
+                said = given.told.split("abt conform: error: ")[-1]
+                self.trial.wants(f"the file of {words}", (2, "", f"{told}\n"), (given.status, given.output, said))
+            self.trial.wants("the files that were refused", (before, True), (files_in(folder), (folder / "link.toml").is_symlink()))
+
+    def own_files(self):
+        """A file of a run before is replaced by a new one, and removed where nothing differs or nothing was compared."""
+        with tempfile.TemporaryDirectory(dir=self.trial.folder) as name:
+            own = Path(name) / "own.toml"
+            words = ["--role", "net", "--whole", "--events", "60", "--to", own]
+            made = []
+            for seed in (1, 2):
+                given = self.conform("--seed", seed, *words, command=ENDS)
+                self.trial.wants(f"a file of seed {seed}", (1, ""), (given.status, given.told))
+                made.append((own.open("rb"), own.read_text()))
+            (old, text), (_, other) = made
+            replaced = (os.fstat(old.fileno()).st_nlink, old.read().decode() == text, text != other)
+            self.trial.wants("a file that is replaced", (0, True, True), replaced)
+            self.trial.wants("the marks", [True] * 2, [it.startswith("# abt conform wrote this file") for it in (text, other)])
+            given = self.conform(*words, command=["cat", own])
+            self.trial.wants("its own file as a word of COMMAND", (2, other), (given.status, own.read_text()))
+            for what, status, command in (("can't be started", 1, ["./none"]), ("conforms", 0, self.adapter("net"))):
+                own.write_text(other)
+                given = self.conform(*words, command=command)
+                self.trial.wants(f"a file before a program that {what}", (status, []), (given.status, os.listdir(name)))
+            for file, _ in made:
+                file.close()
+
+    def outputs(self):
+        """An output that takes nothing is a fault, and nothing in a name is obeyed by a terminal."""
+        with tempfile.TemporaryDirectory(dir=self.trial.folder) as name:
+            words = [sys.executable, "-B", TOOL, "--abt", self.trial.program, "--role", "net", "--events", "20", "--to", f"{name}/out.toml"]
+            for to in ("&-", "/dev/full"):
+                for command in (ENDS, [sys.executable, "-B", self.trial.folder / "net.py"]):
+                    given = run("sh", ["-c", f'exec "$@" >{to}', "", *words, "--", *command], timeout=300)
+                    self.trial.wants(f"an output to {to} of {command[-1]}", End(1, "", "fault: write\n"), given)
+                given = run("sh", ["-c", f'exec "$@" >{to}', "", sys.executable, "-B", TOOL, "--list-roles"], timeout=300)
+                self.trial.wants(f"a list of roles to {to}", End(1, "", "fault: write\n"), given)
+            odd = Path(name) / "a\x1b[2J\n\u202eb\udcff.toml"
+            given = self.conform("--role", "net", "--whole", "--to", odd, command=ENDS)
+            shown = f"{name}/a?[2J??b?.toml"
+            last = re.findall(r"^all: (.*), \d+ events?; abt explain (.*)$", given.output, re.M)
+            self.trial.wants("an odd name that is written", (1, [(shown, shown)], ""), (given.status, last, given.told))
+            odd.write_text("mine")
+            given = self.conform("--role", "net", "--to", odd, command=ENDS)
+            told = f"{shown} wasn't written by abt conform: move it away, or name another file by --to\n"
+            self.trial.wants("an odd name that is refused", (2, told), (given.status, given.told.split("error: ")[-1]))
+            given = self.conform("--role", "net", command=["./no\x1b[2J\nprogram"])
+            self.trial.wants("an odd name of a program", End(1, "", f"fault: ./no?[2J?program {UNSTARTED}"), given)
+            given = self.conform("--role", "net", "--whole", "--to", f"{name}/told.toml", command=[sys.executable, "-c", CLEARS])
+            self.trial.wants("an odd answer", (1, True, False), (given.status, "yours ?[2J" in given.output, "\x1b" in given.output))
 
     def stopped(self):
         """A signal ends the tool, the program that it tests and what that started."""
@@ -210,6 +275,7 @@ def look(trial, seeds):
     faults = [(role, fault, seed) for seed in range(1, seeds + 1) for role in FAULTS for fault in FAULTS[role]]
     parts = [*((over.right, role) for role in FAULTS), *((over.bad, name) for name in BAD)]
     parts += [*((over.breaks, name) for name in BREAKS), (over.driver,), (over.never_ends,), (over.stopped,), (over.cut,), (over.words,)]
+    parts += [(over.refused_files,), (over.own_files,), (over.outputs,)]
     with ThreadPoolExecutor(max(2, os.cpu_count() or 2)) as pool:
         done = [pool.submit(*part) for part in parts + [(over.found, *fault) for fault in faults]]
         for one in done:

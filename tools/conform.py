@@ -6,9 +6,13 @@ COMMAND is started anew for every hundred events or so, with a word or two behin
 (`--list-roles`). Events are drawn by the seed: only those that can happen, most of them at the edges of the rules. At the first
 difference the events are made as few as will do and written to a file, both answers are told with the reasons, and the status is 1. A
 COMMAND that ends, prints nothing, prints too much or never ends differs there too. If it can't be started, the status is 1. It is 2 if
-these words can't be read. Where nothing differs, or nothing was compared, a file of a run before is removed.
+these words can't be read.
+
+The first line of a scenario that it writes is a mark. Only a file with this mark is replaced, or removed where nothing differs or nothing
+was compared. Any other file that is there, each file of cells among them, and a file that is a word of COMMAND are refused with status 2.
 """
 import argparse
+import contextlib
 import os
 import re
 import subprocess
@@ -23,10 +27,12 @@ ROOT = Path(__file__).resolve().parent.parent
 sys.path.insert(0, str(ROOT / "scenarios" / "model"))
 from edges import Cells, Events, draw_net, possible, world_of  # noqa: E402
 from model import code  # noqa: E402
+from own_file import OwnFile  # noqa: E402
 from port_story import said, told_cells  # noqa: E402
 from reading import event as event_of  # noqa: E402
 from rm_cells import cell  # noqa: E402
 from scenario_text import Connection, Scenario  # noqa: E402
+from shown import Reader, shown_lines  # noqa: E402
 from shrink import shrunk  # noqa: E402
 from side import MORE, SIGNALS, Broken, Side, Unfit  # noqa: E402
 
@@ -53,18 +59,27 @@ class Left(Exception):
 
 
 def put(text):
-    """Prints a text as a line, or says how the output failed."""
+    """Prints a text and the end of its line, or says how the output failed."""
     try:
-        print(text, flush=True)
+        sys.stdout.buffer.write(f"{shown_lines(text)}\n".encode())
+        sys.stdout.buffer.flush()
     except BrokenPipeError:
         raise Left from None
-    except OSError:
+    except (OSError, AttributeError):
         raise Unfit("write") from None
 
 
 def let_go():
     """What is left of the output goes nowhere."""
-    os.dup2(os.open(os.devnull, os.O_WRONLY), sys.stdout.fileno())
+    if sys.stdout is not None:
+        os.dup2(os.open(os.devnull, os.O_WRONLY), sys.stdout.fileno())
+
+
+def tell_fault(why):
+    """Tells a fault. What can't be told changes nothing."""
+    with contextlib.suppress(OSError, AttributeError):
+        sys.stderr.buffer.write(f"fault: {shown_lines(str(why))}\n".encode())
+        sys.stderr.buffer.flush()
 
 
 class Difference(Exception):
@@ -208,11 +223,12 @@ class Ports(Tester):
         self.is_cut = time.monotonic() > until
         return best[0]
 
-    def shown(self, found, to):
+    def written(self, found, to):
+        """Writes the events of a difference into a file. Gives how many these are, what runs them, and what each came to."""
         capacity, cells = found.before
-        to.write_text("".join(f"{it}\n" for it in cells))
-        read = self.abt("cell", "--stdin", text=to.read_text()).stdout.splitlines()
-        return len(cells), f"abt port {capacity} --stdin <{to}", told_cells(capacity, read, self.answers(capacity, cells))
+        text = to.write("".join(f"{it}\n" for it in cells))
+        read = self.abt("cell", "--stdin", text=text).stdout.splitlines()
+        return len(cells), f"abt port {capacity} --stdin <{to.shown}", told_cells(capacity, read, self.answers(capacity, cells))
 
 
 class Nets(Tester):
@@ -293,11 +309,11 @@ class Nets(Tester):
     def fits(self, scenario):
         return bool(scenario.ports and scenario.connections and all(it.path for it in scenario.connections))
 
-    def shown(self, found, to):
-        to.write_bytes(found.before.octets())
-        told = self.abt("explain", to).stdout.splitlines()
+    def written(self, found, to):
+        text = to.write(found.before.octets().decode())
+        told = self.abt("explain", text=text).stdout.splitlines()
         number = len(found.before.events)
-        return number, f"abt explain {to}", [it for it in told if it.split(" ")[0].isdecimal()]
+        return number, f"abt explain {to.shown}", [it for it in told if it.split(" ")[0].isdecimal()]
 
 
 class Sources(Nets):
@@ -338,10 +354,6 @@ def compare(tester, words):
     return done
 
 
-def file_of(words):
-    return Path(words.to or f"conform.{'cells' if words.role == 'port' else 'toml'}")
-
-
 def tell(tester, words, found):
     """Tells a difference, and the smallest that was found."""
     found = tester.same(found, found.before) or found
@@ -350,19 +362,15 @@ def tell(tester, words, found):
         found = found if words.whole else tester.smallest(found)
     except Unfit as why:
         put(f"not made smaller: {why}")
-    to = file_of(words)
-    try:
-        count, again, lines = tester.shown(found, to)
-    except OSError as error:
-        raise Unfit(f"{to} can't be written: {error.strerror}") from None
+    count, again, lines = tester.written(found, words.file)
     what = ("cell" if words.role == "port" else "event") + "s" * (count != 1)
     size = "all" if words.whole else f"smallest within {words.shrink:g} s" if tester.is_cut else "smallest"
-    put(f"{size}: {to}, {count} {what}; {again}")
+    put(f"{size}: {words.file.shown}, {count} {what}; {again}")
     put("\n".join([*(f"  {line}" for line in lines), *[END] * (found.sent == END), tester.both(found)]))
 
 
 def words_of():
-    reader = argparse.ArgumentParser(prog="abt conform", description=__doc__, formatter_class=argparse.RawDescriptionHelpFormatter)
+    reader = Reader(prog="abt conform", description=__doc__, formatter_class=argparse.RawDescriptionHelpFormatter)
     reader.add_argument("--abt", default=str(ROOT / "abt"), help=argparse.SUPPRESS)
     reader.add_argument("--role", choices=["port", "source", "net"], help="what COMMAND is")
     reader.add_argument("--seed", type=int, default=1, metavar="N", help="what events are drawn by; without it, 1")
@@ -381,11 +389,17 @@ def words_of():
         reader.error("name a --role, and behind -- a COMMAND (--list-roles says what it has to answer)")
     if words.events < 1 or not 0 < words.timeout <= 3600 or not 0 <= words.shrink <= 3600:
         reader.error("--events is at least 1, --timeout more than 0 and at most 3600 seconds, and --shrink at most 3600")
+    is_scenario = words.role != "port"
+    words.file = OwnFile(words.to or ("conform.toml" if is_scenario else "conform.cells"), is_scenario)
+    if why := words.file.refusal(words.command):
+        reader.error(why)
     return words
 
 
 def main():
     words = words_of()
+    if sys.stdout is None:
+        raise Unfit("write")
     if words.list_roles:
         put(ROLES.read_text().rstrip("\n"))
         return 0
@@ -403,9 +417,9 @@ def main():
             tell(tester, words, found)
             return DIFFERS
         except Unfit:
-            file_of(words).unlink(missing_ok=True)
+            words.file.remove()
             raise
-        file_of(words).unlink(missing_ok=True)
+        words.file.remove()
         put(f"conforms: {done} events, seed {words.seed}")
         return 0
 
@@ -418,7 +432,7 @@ if __name__ == "__main__":
         sys.exit(LEFT)
     except Unfit as why:
         let_go()
-        print(f"fault: {why}", file=sys.stderr)
+        tell_fault(why)
         sys.exit(DIFFERS)
     finally:
         for left in list(Side.living):

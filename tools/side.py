@@ -11,6 +11,8 @@ import tempfile
 import time
 from pathlib import Path
 
+from shown import shown
+
 # The longest line, and the most that is read behind the last answer, in octets.
 LONGEST = 65_536
 # How many characters of its standard error a fault carries.
@@ -77,7 +79,7 @@ class Side:
     living = []
 
     def __init__(self, words, limit, fifos=False):
-        self.name, self.limit, self.answers, self.told, self.slowest = words[0], limit, 0, b"", 0
+        self.name, self.limit, self.answers, self.told, self.slowest = shown(words[0]), limit, 0, b"", 0
         self.room = self.child = self.to = self.out = None
         self.left, self.closed = b"", False
         self.living.append(self)
