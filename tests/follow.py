@@ -2,7 +2,8 @@
 
 What is told, and what it ends by, has to be as tests/cases/follow.toml says; it ends by a line, by signals and by itself, and nothing of it
 is left when it is killed. Journals of live processes whose sources are killed with -9 never give another answer than that they are woven so
-far, or wait, and at the end they are woven and safe; with a store that is put back they aren't.
+far, or wait, and at the end they are woven and safe; with a store that is put back they aren't. One of their logs that is judged alone
+obeys as it grows.
 
 usage: follow.py PROGRAM..
 """
@@ -26,6 +27,8 @@ from network import CONNECTIONS, PORTS, Run
 TOOL = ROOT / "tools" / "follow.py"
 # How long anything is waited for, in seconds, and for how long the files of a case stay still.
 LIMIT, IDLE = 60, 2
+# The journals of tests/network.py, below its folder.
+NAMES = [*(f"run/port{it}.jsonl" for it in range(len(PORTS))), *(f"run/source{it}.jsonl" for it in range(len(CONNECTIONS)))]
 
 
 class Follow:
@@ -134,6 +137,19 @@ class Followed:
             given = self.begin(folder, "--idle", 600, name).end()
             self.trial.wants(f"no regular file, {name}", End(1, "", f"fault: {name}: it is no regular file\n"), given)
 
+    def odd_names(self):
+        """What a terminal would obey in a name is shown as a question mark."""
+        folder = self.room()
+        self.put(folder, "log.jsonl", "net")
+        odd = "a\x1b[2J\n\u202eb"
+        follow = self.begin(folder, "--idle", 600, "log.jsonl", f"{odd}.jsonl")
+        wanted = "a?[2J??b.jsonl: it isn't there yet\nwoven 0 events\n"
+        self.trial.wants("an odd name that isn't there", [True], [follow.hears(wanted)])
+        os.mkfifo(folder / f"{odd}.jsonl")
+        self.trial.wants("an odd name", End(1, "", "fault: a?[2J??b.jsonl: it is no regular file\n"), follow.end())
+        given = self.begin(folder, f"{odd}.toml", "log.jsonl").end()
+        self.trial.wants("an odd net", End(1, "", "fault: a?[2J??b.toml: it can't be read: No such file or directory\n"), given)
+
     def taken_back(self):
         """A source that starts again takes a last line away that was cut, and goes on."""
         folder = self.room()
@@ -204,12 +220,11 @@ class Followed:
             self.trial.wants(f"what {numbers} leave", [True], [waited(lambda: not with_mark(mark))])
             self.trial.wants(f"the files that {numbers} leave", ["abt", "log.jsonl"], sorted(files_in(folder)))
 
-    def live(self, seed, steps, **control):
+    def live(self, seed, steps, names=NAMES, alone=(), **control):
         """Live processes at work, whose sources are killed, and which are all killed at the end."""
         folder = self.room()
         (folder / "net.jsonl").write_text(json.dumps({"net": {"ports": PORTS, "connections": CONNECTIONS}}) + "\n")
-        names = [*(f"run/port{it}.jsonl" for it in range(len(PORTS))), *(f"run/source{it}.jsonl" for it in range(len(CONNECTIONS)))]
-        follow = self.begin(folder, "--idle", 600, "net.jsonl", *names)
+        follow = self.begin(folder, "--idle", 600, *alone, "net.jsonl", *names)
         at_work = Run(self.trial.program, folder / "run", seed, **control)
         for _ in range(steps):
             at_work.step()
@@ -235,6 +250,16 @@ class Followed:
     def live_wrong(self):
         _, given = self.live(100, 3000, puts_back=True)
         self.trial.wants("a store that is put back", (1, ""), (given.status, given.output))
+
+    def live_alone(self, log, *alone):
+        """The log of a live port or source by itself: no other log is needed, and what is judged rises to the last."""
+        _, given = self.live(7, 2000, [f"run/{log}.jsonl"], alone)
+        whose = alone[0][2:]
+        last = re.match(rf"{whose} 0 obeys: entries (\d+)\n(?:note: text 2 ends in the middle of line \d+\n)?$", given.output)
+        rest = re.sub(rf"^({whose} 0 obeys: entries \d+|run/{log}.jsonl: it isn't there yet)\n", "", given.told, flags=re.M)
+        judged = [int(it) for it in re.findall(r" entries (\d+)$", given.told, re.M)]
+        self.trial.wants(f"a live {whose} alone", (0, True, ""), (given.status, last is not None, rest))
+        self.trial.wants(f"a live {whose} alone, what is judged", [sorted(set(judged)), True], [judged, last is not None and int(last[1]) > 0])
 
     def words(self):
         for words, told in self.cases["refused"].items():
@@ -263,6 +288,7 @@ def waited(holds):
 def look(trial):
     over = Followed(trial)
     parts = [*((over.case, case) for case in over.cases["case"]), (over.ends,), (over.changed,), (over.no_file,), (over.taken_back,)]
+    parts += [(over.odd_names,), (over.live_alone, "port0", "--port", 0), (over.live_alone, "source0", "--source", 0)]
     parts += [(over.scenario,), (over.dies,), (over.killed,), (over.words,), (over.live_wrong,)]
     with ThreadPoolExecutor(4) as pool:
         live = pool.submit(over.live_right)

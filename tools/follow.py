@@ -7,11 +7,12 @@ are stuck, each time these are others. A fault that no further line can mend, as
 changed for so many seconds, or by a line `end` on the standard input, SIGINT or SIGTERM; a second signal ends it without an answer. At the
 end the answer of `abt audit` to all that was read is printed as it is, with its status.
 
-With `--json` what is new is told as the objects that the program has for it, and so is the answer.
+With `--port P` or `--source C` each audit judges that log alone: `port P obeys: entries N` is told as it grows, and only a mismatch of that
+log ends it. With `--json` what is new is told as the objects that the program has for it, and so is the answer.
 
-NET is a text that begins with the net's line, or a scenario, if its name ends in .toml. All other options of `abt audit` are handed on to
-that last audit. The lines `about` of a source are left out. The status is 1 if a file
-can't be followed or the program dies, and 2 if these words can't be read.
+NET is a text that begins with the net's line, or a scenario, if its name ends in .toml; that has to be there, and is read once. All other
+options of `abt audit` are handed on to the last audit alone. The lines `about` of a source are left out. The status is 1 if a file can't be
+followed or the program dies, and 2 if these words can't be read.
 """
 import argparse
 import contextlib
@@ -29,6 +30,7 @@ from pathlib import Path
 from typing import NamedTuple
 
 from growing import Fault, Journal, Net, name_of, unnamed
+from shown import Reader, shown
 
 ROOT = Path(__file__).resolve().parent.parent
 # How long files are left alone at least, in seconds, and how many times as long as an audit took.
@@ -40,6 +42,8 @@ FAULT, WRONG_WORDS = 1, 2
 LEFT = 141
 # Options whose value is a file that is written.
 WRITTEN = ("--events", "--draw")
+# Options by which one log is judged alone.
+ALONE = ("--port", "--source")
 SET_PDEATHSIG = 1
 
 
@@ -76,7 +80,7 @@ class Following:
 
     def __init__(self, words, options, names):
         self.abt, self.idle, self.options = words.abt, words.idle, options
-        self.form = ["--json"] if "--json" in options else []
+        self.form, self.alone = ["--json"] if "--json" in options else [], alone(options)
         self.journals = [(Net if place == 0 and name.endswith(".toml") else Journal)(name) for place, name in enumerate(names)]
         self.events = unnamed()
         self.child, self.signals, self.listens = None, 0, sys.stdin is not None
@@ -114,7 +118,7 @@ class Following:
                 due = time.monotonic() + self.pause
 
     def absent(self, name):
-        return f"{compact({'kind': 'note', 'note': 'absent', 'file': name})}\n" if self.form else f"{name}: it isn't there yet\n"
+        return f"{compact({'kind': 'note', 'note': 'absent', 'file': name})}\n" if self.form else f"{shown(name)}: it isn't there yet\n"
 
     def take(self):
         """Reads all files on, and gives whether one has changed."""
@@ -137,7 +141,7 @@ class Following:
         """Has what was read audited, and tells what is new. Gives whether that is final."""
         began = time.monotonic()
         self.events.truncate(0)
-        answer = self.ask([*self.form, "--events", name_of(self.events)], journals)
+        answer = self.ask([*self.form, *(self.alone or ["--events", name_of(self.events)])], journals)
         self.pause = max(PAUSE, SHARE * (time.monotonic() - began))
         if self.form:
             return self.look_at_objects(answer.output)
@@ -146,6 +150,8 @@ class Following:
             count = sum(line.startswith(b'  "') for line in self.events)
             # A scenario can't say all events; then they aren't counted.
             self.tell(f"woven {count} events\n" if answer.status == 0 else "woven\n")
+        elif self.alone and answer.status == 0:
+            self.tell(answer.output)
         elif answer.told.startswith("fault: NoOrder\n"):
             self.tell("waits\n" + answer.told.partition("\n")[2])
         else:
@@ -156,7 +162,7 @@ class Following:
         """The same of an answer as objects."""
         first = output.partition("\n")[0]
         kind = json.loads(first)["kind"] if first else ""
-        if kind not in ("woven", "stuck"):
+        if kind not in ("woven", "obeys", "stuck"):
             return True
         self.tell(output if kind == "stuck" else f"{first}\n")
         return False
@@ -245,6 +251,16 @@ def cut(words):
     return options, names
 
 
+def alone(options):
+    """The options by which one log is judged alone, with their values."""
+    found = []
+    for at, option in enumerate(options):
+        name, equals, _ = option.partition("=")
+        if name in ALONE:
+            found += options[at : at + (1 if equals else 2)]
+    return found
+
+
 def is_written(options, names):
     """Whether one of the files is to be written, too."""
     for at, option in enumerate(options):
@@ -256,7 +272,7 @@ def is_written(options, names):
 
 
 def words_of():
-    reader = argparse.ArgumentParser(
+    reader = Reader(
         prog="abt audit --follow",
         usage="abt audit --follow NET JOURNAL.. [--idle SECONDS] [OPTIONS]",
         description=__doc__,
@@ -305,7 +321,7 @@ def main():
         show(output)
         return status
     except (Fault, OSError) as why:
-        say(f"fault: {why}\n")
+        say(f"fault: {shown(str(why))}\n")
         return FAULT
     finally:
         if following is not None:
