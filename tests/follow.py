@@ -259,7 +259,8 @@ class Followed:
         rest = re.sub(rf"^({whose} 0 obeys: entries \d+|run/{log}.jsonl: it isn't there yet)\n", "", given.told, flags=re.M)
         judged = [int(it) for it in re.findall(r" entries (\d+)$", given.told, re.M)]
         self.trial.wants(f"a live {whose} alone", (0, True, ""), (given.status, last is not None, rest))
-        self.trial.wants(f"a live {whose} alone, what is judged", [sorted(set(judged)), True], [judged, last is not None and int(last[1]) > 0])
+        rises = judged == sorted(set(judged)) and last is not None and int(last[1]) > 0
+        self.trial.wants(f"a live {whose} alone, what is judged: {judged}", [True], [rises])
 
     def words(self):
         for words, told in self.cases["refused"].items():

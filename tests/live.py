@@ -1,13 +1,11 @@
 """Runs three sources and two ports as processes over a bad network (tests/network.py), and has `abt audit` find that their journals are
-woven and safe.
-
-For the audit `about` lines are left out of a source's journal, and it gets what the first port of its path served.
+woven and safe: as they are, but for `about` lines, which are left out.
 
 A second run has the messages go as cells behind an octet (`--binary`).
 
-Before that, stores, journals, ports and connections that can't be had are told by name, and a journal that can't grow ends its switch with
-no answer that it doesn't have. Two controls have to be found behind it: a source whose store is put back to an older file after each kill,
-and requests that overtake cells on an access line.
+Before that, stores, journals, ports and connections that can't be had are told by name, a journal that can't grow ends its switch with no
+answer that it doesn't have, and SIGTERM ends processes as a kill does. Three runs of each of two controls have to be found behind it: a
+source whose store is put back to an older file after each kill, and requests that overtake cells on an access line.
 
 With --long it goes on so for an hour, or for so many minutes: run after run, each with the next seed.
 
@@ -15,13 +13,14 @@ usage: live.py PROGRAM.. [--steps N] [--seed N] [--long [MINUTES]]
 """
 import argparse
 import json
+import os
+import re
 import resource
 import shutil
 import signal
 import subprocess
 import sys
 import time
-from collections import Counter
 from pathlib import Path
 
 from network import CONNECTIONS, PORTS, Live, Run, lines_of, played
@@ -32,6 +31,10 @@ import processes  # noqa: E402
 
 # How many steps a control takes.
 CONTROL = 3000
+# For how many seconds at most a process may look at a FIFO.
+SOON = 10
+# How an audit tells that journals are wrong.
+WRONG = re.compile(r"fault: (?:Mismatch|NoOrder)\naudited\.\w+\.jsonl:\d+: \{")
 # Lines of a source's journal: it started, was about to ask, asked with a write that failed, and crashed.
 STARTED = '{"source":0,"did":{"start":0},"outcome":"started"}\n'
 ABOUT = '{"about":0,"ask":"5120"}\n'
@@ -39,43 +42,21 @@ FAILED = '{"source":0,"did":{"ask":"5120","store":"failed"},"outcome":{"refused"
 CRASHED = '{"source":0,"did":"crash","outcome":"crashed"}\n'
 
 
-def joined(run):
-    """The texts for the audit, by their names: each journal with its end, and those of sources with what the first port served."""
-    entries = [[entry for entry in lines_of(source.journal) if "about" not in entry] for source in run.sources]
-    asked, emitted, behind = [{} for _ in entries], [{} for _ in entries], [{} for _ in entries]
-    for conn, source in enumerate(entries):
-        for place, entry in enumerate(source):
-            outcome = entry["outcome"] if isinstance(entry["outcome"], dict) else {}
-            if "asked" in outcome:
-                asked[conn].setdefault(outcome["asked"]["seq"], place)
-            if "emitted" in outcome:
-                emitted[conn].setdefault(outcome["emitted"]["cell"], place)
-    reached = [0] * len(entries)
-    for port, journal in enumerate(run.ports):
-        for entry in lines_of(journal):
-            kind, about = next(iter(entry["input"].items()))
-            conn = next((it for it, known in enumerate(CONNECTIONS) if kind != "capacity" and known["vci"] == about["vci"]), None)
-            if conn is None or kind == "answer" or CONNECTIONS[conn]["path"][0] != port:
-                continue
-            at = asked[conn][about["seq"]] if kind == "request" else emitted[conn][entry["cell"]]
-            reached[conn] = max(at, reached[conn])
-            served = {"sent": entry["place"]} if kind == "request" else {"arrived": {"cell": entry["cell"], "place": entry["place"]}}
-            behind[conn].setdefault(reached[conn], []).append({"source": conn, **served})
-    texts = {"net.jsonl": [{"net": {"ports": PORTS, "connections": CONNECTIONS}}]}
-    texts |= {f"joined.port{port}.jsonl": lines_of(journal) for port, journal in enumerate(run.ports)}
-    for conn, source in enumerate(entries):
-        lines = [line for place, entry in enumerate(source) for line in [entry, *behind[conn].get(place, [])]]
-        texts[f"joined.source{conn}.jsonl"] = lines
+def audited(run):
+    """The texts for the audit, by their names: the net, and each journal as it is, without `about` lines."""
+    texts = {"net.jsonl": [json.dumps({"net": {"ports": PORTS, "connections": CONNECTIONS}}).encode(), b""]}
+    for journal in [*run.ports, *(source.journal for source in run.sources)]:
+        texts[f"audited.{journal.name}"] = [line for line in journal.read_bytes().split(b"\n") if not line.startswith(b'{"about"')]
     return texts
 
 
 def audit(program, run):
-    """The status and the texts of an audit of a run's journals."""
-    texts = joined(run)
+    """The status and the texts of an audit of a run's journals, and how many lines it reads."""
+    texts = audited(run)
     for name, lines in texts.items():
-        (run.folder / name).write_text("".join(json.dumps(line) + "\n" for line in [*lines, {"end": True}]))
+        (run.folder / name).write_bytes(b"\n".join(lines))
     done = subprocess.run([program, "audit", *texts], cwd=run.folder, capture_output=True, text=True, timeout=600)
-    return done.returncode, done.stdout, done.stderr, sum(map(len, texts.values()))
+    return done.returncode, done.stdout, done.stderr, sum(len(lines) - 1 for lines in texts.values())
 
 
 def refusals(program, folder):
@@ -96,7 +77,8 @@ def refusals(program, folder):
 
 def told(program, words, **more):
     """The status of a process without input, and the lines of its faults."""
-    done = subprocess.run([str(word) for word in (program, *words)], stdin=subprocess.DEVNULL, capture_output=True, text=True, timeout=60, **more)
+    more = {"timeout": 60, **more}
+    done = subprocess.run([str(word) for word in (program, *words)], stdin=subprocess.DEVNULL, capture_output=True, text=True, **more)
     return done.returncode, done.stderr.splitlines()
 
 
@@ -197,6 +179,51 @@ def mended(program, folder):
     said = [live.ask(f"start {moment}") for moment in (6, 7)]
     live.end()
     return None if said == [["fault", "ClockBack"], ["started"]] else f"FAILED: behind a start at 7, starts at 6 and 7 gave {said}"
+
+
+def terminated(program, folder):
+    """SIGTERM ends a source and a switch as a kill does: what was answered is in their journals, and the source starts again over its store
+    and its journal. The others end with their input, with status 0."""
+    run = Run(program, folder, 1)
+    source, switch = run.sources[0], run.switches[0]
+    said = [source.live.ask(line) for line in ("start 5", "ask 5258")]
+    said += [switch.ask(f"0 {said[1][-1]}")]
+    for live in (source.live, switch):
+        live.process.terminate()
+    statuses = [live.process.wait(60) for live in (source.live, switch)]
+    source.begin()
+    said += [source.live.ask(line) for line in ("start 6", "ask 5120")]
+    ended = run.end()
+    if [it[0] for it in said] != ["started", "rm", "send", "started", "rm"]:
+        return f"FAILED: around a SIGTERM the answers were {said}"
+    if statuses != [-signal.SIGTERM] * 2 or ended != [0, 0, 0, -signal.SIGTERM, 0]:
+        return f"FAILED: a SIGTERM gave the statuses {statuses}, and all ended with {ended}"
+    did = [entry["did"] for entry in lines_of(source.journal) if "did" in entry]
+    deeds = [next(iter(deed)) if isinstance(deed, dict) else deed for deed in did]
+    if deeds != ["again", "start", "ask", "crash", "start", "ask"] or len(lines_of(run.ports[0])) != 1:
+        return f"FAILED: around a SIGTERM the journal of a source has {deeds}"
+    status, output, why, _ = audit(program, run)
+    return None if (status, output) == (0, "woven\nsafe\n") else f"FAILED: the journals around a SIGTERM gave {status}, {why[:600]}"
+
+
+def piped(program, folder):
+    """A FIFO as a journal is a fault at once, and no store is made beside it."""
+    run = Run(program, folder, 1)
+    run.end()
+    fifo, store = folder / "ff", folder / "none"
+    os.mkfifo(fifo)
+    for words in (
+        sourced(run.net, 0, store, fifo, "--new"),
+        sourced(run.net, 0, run.sources[0].store, fifo),
+        ["switch", run.net, "--journal", fifo, "--port", 0],
+    ):
+        try:
+            status, said = told(program, words, timeout=SOON)
+        except subprocess.TimeoutExpired:
+            return f"FAILED: a FIFO as journal held {[str(word) for word in words]} up for {SOON} s"
+        if status != 1 or len(said) != 2 or said[0] != "fault: journal" or not said[1].startswith(f"{fifo}: ") or store.exists():
+            return f"FAILED: with a FIFO as journal {[str(word) for word in words]} gave {status}, {said}"
+    return None
 
 
 def limit_files():
@@ -318,17 +345,16 @@ def far_ports(program, folder):
 
 
 def controls(program, room):
-    """Runs whose audits have to find that something is wrong."""
-    found = Counter()
+    """Runs whose audits have to find that something is wrong, each by the status and the words of the audit."""
+    missed = []
     for number in range(3):
         for kind in ("puts_back", "overtakes"):
             run, _ = played(program, room / f"{kind}{number}", 100 + number, CONTROL, **{kind: True})
-            try:
-                found[kind] += audit(program, run)[0] != 0
-            except KeyError:
-                found[kind] += 1
-    print(f"live: controls: {found['puts_back']} of 3 stores that were put back were found, {found['overtakes']} of 3 overtaken cells")
-    return None if found["puts_back"] and found["overtakes"] else "FAILED: a control wasn't found"
+            status, output, said, _ = audit(program, run)
+            if (status, output) != (1, "") or not WRONG.match(said):
+                missed.append(f"{kind}{number}: {status}, {output!r}, {said[:300]!r}")
+    print(f"live: controls: 3 stores that were put back, 3 overtaken cells, {len(missed)} not found")
+    return f"FAILED: controls weren't found: {missed}" if missed else None
 
 
 def ran(program, room, seed, steps, binary=False):
@@ -349,9 +375,9 @@ def ran(program, room, seed, steps, binary=False):
 def tried(program, room, words):
     fault = refusals(program, room / "refusals") or file_faults(program, room / "files") or full_journal(program, room / "full")
     fault = fault or mended(program, room / "mended") or clocked(program, room / "clocked") or binary_faults(program, room / "binary")
-    fault = fault or far_ports(program, room / "far")
+    fault = fault or far_ports(program, room / "far") or terminated(program, room / "terminated")
     fault = fault or ran(program, room / "run", words.seed, words.steps) or ran(program, room / "cells", words.seed + 1, words.steps // 4, True)
-    fault = fault or controls(program, room)
+    fault = fault or controls(program, room) or piped(program, room / "piped")
     until, seed = time.time() + 60 * (words.long or 0), words.seed
     while not fault and time.time() < until:
         seed += 1
