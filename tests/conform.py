@@ -33,6 +33,8 @@ for line in sys.stdin: print('started' if line.startswith('start') else '?', flu
 time.sleep(1000)"""
 # A program that differs at the first event.
 ENDS = [sys.executable, "-c", "raise SystemExit(3)"]
+# One that clears a screen at each event.
+CLEARS = "import sys\nfor _ in sys.stdin: print('\\x1b[2J', flush=True)"
 UNSTARTED = "can't be started: No such file or directory\n"
 # A port that breaks behind its answer to a stale cell.
 BREAKING = """import sys, time
@@ -221,9 +223,9 @@ class Conforms:
                     self.trial.wants(f"an output to {to} of {command[-1]}", End(1, "", "fault: write\n"), given)
                 given = run("sh", ["-c", f'exec "$@" >{to}', "", sys.executable, "-B", TOOL, "--list-roles"], timeout=300)
                 self.trial.wants(f"a list of roles to {to}", End(1, "", "fault: write\n"), given)
-            odd = Path(name) / "a\x1b[2J\n\u202eb.toml"
+            odd = Path(name) / "a\x1b[2J\n\u202eb\udcff.toml"
             given = self.conform("--role", "net", "--whole", "--to", odd, command=ENDS)
-            shown = f"{name}/a?[2J??b.toml"
+            shown = f"{name}/a?[2J??b?.toml"
             last = re.findall(r"^all: (.*), \d+ events?; abt explain (.*)$", given.output, re.M)
             self.trial.wants("an odd name that is written", (1, [(shown, shown)], ""), (given.status, last, given.told))
             odd.write_text("mine")
@@ -232,7 +234,7 @@ class Conforms:
             self.trial.wants("an odd name that is refused", (2, told), (given.status, given.told.split("error: ")[-1]))
             given = self.conform("--role", "net", command=["./no\x1b[2J\nprogram"])
             self.trial.wants("an odd name of a program", End(1, "", f"fault: ./no?[2J?program {UNSTARTED}"), given)
-            given = self.conform("--role", "net", "--whole", "--to", f"{name}/told.toml", command=["printf", "\x1b[2J\n"])
+            given = self.conform("--role", "net", "--whole", "--to", f"{name}/told.toml", command=[sys.executable, "-c", CLEARS])
             self.trial.wants("an odd answer", (1, True, False), (given.status, "yours ?[2J" in given.output, "\x1b" in given.output))
 
     def stopped(self):

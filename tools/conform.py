@@ -226,8 +226,7 @@ class Ports(Tester):
     def written(self, found, to):
         """Writes the events of a difference into a file. Gives how many these are, what runs them, and what each came to."""
         capacity, cells = found.before
-        text = "".join(f"{it}\n" for it in cells)
-        to.write(text.encode())
+        text = to.write("".join(f"{it}\n" for it in cells))
         read = self.abt("cell", "--stdin", text=text).stdout.splitlines()
         return len(cells), f"abt port {capacity} --stdin <{to.shown}", told_cells(capacity, read, self.answers(capacity, cells))
 
@@ -311,8 +310,8 @@ class Nets(Tester):
         return bool(scenario.ports and scenario.connections and all(it.path for it in scenario.connections))
 
     def written(self, found, to):
-        to.write(found.before.octets())
-        told = self.abt("explain", to.path).stdout.splitlines()
+        text = to.write(found.before.octets().decode())
+        told = self.abt("explain", text=text).stdout.splitlines()
         number = len(found.before.events)
         return number, f"abt explain {to.shown}", [it for it in told if it.split(" ")[0].isdecimal()]
 

@@ -16,7 +16,7 @@ class OwnFile:
     """A file that is to be written, with a mark if its reader takes one."""
 
     def __init__(self, name, is_marked):
-        self.path, self.shown, self.mark = Path(name), shown(name), MARK.encode() if is_marked else b""
+        self.path, self.shown, self.mark = Path(name), shown(name), MARK if is_marked else ""
 
     def refusal(self, command):
         """Why this can't be the file, or None."""
@@ -51,24 +51,25 @@ class OwnFile:
         """Whether the file there bears the mark."""
         try:
             with open(self.path, "rb") as file:
-                return bool(self.mark) and file.read(len(self.mark)) == self.mark
+                return bool(self.mark) and file.read(len(self.mark)) == self.mark.encode()
         except OSError:
             return False
 
-    def write(self, octets):
-        """Puts a text there: a new file beside it takes its place at once."""
+    def write(self, text):
+        """Puts a text there, and gives it with its mark: a new file beside it takes its place at once."""
         if why := self.is_in_the_way():
             raise Unfit(why)
         new = self.path.with_name(f".conform-{secrets.token_hex(6)}")
         with SIGNALS.held():
             try:
                 with open(new, "xb") as file:
-                    file.write(self.mark + octets)
+                    file.write(f"{self.mark}{text}".encode())
                 os.replace(new, self.path)
             except OSError as error:
                 raise Unfit(f"{self.shown} can't be written: {error.strerror}") from None
             finally:
                 new.unlink(missing_ok=True)
+        return f"{self.mark}{text}"
 
     def remove(self):
         """Removes the file of a run before."""

@@ -1,7 +1,6 @@
 """Names and texts as a terminal shows them: what a reader doesn't see is a question mark, as in what the program tells of files
 (crates/abt_files/specs/Shown.antt)."""
 import argparse
-import os
 import unicodedata
 
 # What has no width, or turns the direction of what stands beside it.
@@ -10,15 +9,15 @@ UNSEEN = {*UNSEEN, *range(0xE0000, 0xE1000)}
 
 
 def letter(it):
-    """A character as it is shown."""
+    """A character as it is shown; what stands for an octet that is no UTF-8 is a question mark, too."""
     code = ord(it)
     is_no_character = 0xFDD0 <= code <= 0xFDEF or code % 65536 in (0xFFFE, 0xFFFF)
-    return "?" if unicodedata.category(it) == "Cc" or code in UNSEEN or is_no_character else it
+    return "?" if unicodedata.category(it) in ("Cc", "Cs") or code in UNSEEN or is_no_character else it
 
 
 def shown(name):
     """A name on one line."""
-    return "".join(map(letter, os.fsencode(name).decode(errors="replace")))
+    return "".join(map(letter, str(name)))
 
 
 def shown_lines(text):
