@@ -1,5 +1,6 @@
 """Audits logs as devices write them: the journals of the samples, as the slow model writes them and as `abt threads` does, without what a device
-can't know. Each subset of that is left out, and all are woven; so they are if the last line is cut.
+can't know. Each subset of that is left out, and all are woven; so they are if the last line is cut. The journals of plays, over a grid of
+losses, repeats and delays, are woven whole, without each kind of it, and without all.
 
 Of journals without any of it, and with one entry changed, missing, there twice or elsewhere, those are woven of which a slow search finds events
 once they are completed (`completing.py`); where entries are in no order, the lines that are told are just those at which it ends, each with
@@ -11,11 +12,11 @@ usage: loose_audits.py PROGRAM..
 import itertools
 import random
 
-from harness import main, run as run_text, sample_runs, samples, worked
+from harness import main, run as run_text, sample_runs, samples, scenario, section, worked
 from audits import WHOLE, Auditor, text_of, worked_run
 from completing import KINDS, dumps, stripped
 from damage import damaged
-from journals import entries, texts_of
+from journals import entries, journals, texts_of
 from waits import Waits
 
 SUBSETS = [kinds for count in range(1, len(KINDS) + 1) for kinds in itertools.combinations(KINDS, count)]
@@ -23,6 +24,17 @@ SUBSETS = [kinds for count in range(1, len(KINDS) + 1) for kinds in itertools.co
 SEARCHED = [kind for kind in KINDS if kind != "store"]
 # Of a log with more lines only some subsets are tried.
 LONG = 200
+# The chances of plays, each with each: how many of a hundred messages are lost and come twice, and how many may overtake one.
+LOSSES, REPEATS, DELAYS = (0, 15, 50), (0, 40, 100), (0, 2, 100)
+# What is left out of the journals of plays.
+LEFT_OUT = [(), *((kind,) for kind in KINDS), ("sent", "arrived"), KINDS]
+# A source whose cells can come in many ways, as some are lost and each may come later than others leave; its store fails twice.
+CROWDED = [
+    "start 0", "ask 53e9 before", "ask 53e8", "listen 50", "emit 1000000000000 lost", "emit 1001000000000 2000000000",
+    "emit 1002000000000 lost", "emit 1003000000000 3000000000", "again", "ask 5258", "listen 50", "emit 1005000000000 lost",
+    "emit 1007000000000 0", "crash", "start 1008000000000", "ask 53e8 after", "crash", "start 1008000000000", "ask 5120", "again", "listen 50",
+    "emit 2010500000000 1",
+]
 
 
 def try_subsets(auditor, name, lines):
@@ -105,6 +117,31 @@ def threads_journals(auditor):
             yield f"{sample.name} in threads", out.read_text().splitlines()
 
 
+def played(auditor):
+    """Plays of the samples with scripts, and of a crowded source, over all chances: the name of each, and its journals by the slow model."""
+    crowded, out = auditor.folder / "crowded.toml", auditor.folder / "played.toml"
+    crowded.write_text(scenario([512000], [], [section(100, tau=4_000_000_000, script=CROWDED), section(101, script=CROWDED[:4])]))
+    scripted = [sample for sample in samples("threads_*") if "fault" not in sample.name]
+    for sample in [*scripted, crowded]:
+        for seed, (loss, repeat, delay) in enumerate(itertools.product(LOSSES, REPEATS, DELAYS)):
+            words = "--seed", seed, "--loss", loss, "--repeat", repeat, "--delay", delay
+            given = auditor.run("play", sample, *words, "--events", out)
+            auditor.wants(f"a play of {sample.name}, {words}", (0, ""), (given.status, given.told))
+            yield f"{sample.name} played, {words}", journals(out.read_bytes())
+
+
+def try_plays(auditor):
+    """How many plays there are. Of each kind that may be left out many have some."""
+    plays = list(played(auditor))
+    for name, lines in plays:
+        for kinds in LEFT_OUT:
+            auditor.wants(f"{name} without {' '.join(kinds) or 'nothing'}", WHOLE, auditor.audit(text_of(stripped(lines, kinds))))
+    for kind in KINDS:
+        lacking = sum(stripped(lines, [kind]) != lines for _, lines in plays)
+        auditor.wants(f"plays with some {kind}", (True,), (lacking > len(plays) // 8,))
+    return len(plays)
+
+
 def look(auditor):
     every = [("docs/JOURNALS.md", worked_run()), *((name, texts_of(entries(*run))) for name, *run in sample_runs()), *threads_journals(auditor)]
     for name, lines in every:
@@ -113,9 +150,10 @@ def look(auditor):
             try_cut(auditor, name, lines)
         try_damaged(auditor, name, lines)
     try_adapters(auditor, worked_run())
+    plays = try_plays(auditor)
     by_hand = auditor.cases("stuck", **stuck_pieces())
     slow = f"{auditor.damaged} damaged ones beside a slow search, which has {auditor.waits} entries in no order"
-    return f"{len(every)} runs without what may be left out, {slow}, {by_hand} stuck logs worked out by hand"
+    return f"{len(every)} runs and {plays} plays without what may be left out, {slow}, {by_hand} stuck logs worked out by hand"
 
 
 if __name__ == "__main__":
