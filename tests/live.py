@@ -119,7 +119,7 @@ def file_faults(program, folder):
     unfinished = "a file of its name with .new is there, which was left or is being made"
     cases = [
         ("store", store, "it is there already; without --new it is used", sourced(net, 0, store, other, "--new")),
-        ("store", folder / "none", "there is no such store, or no such folder; --new makes a store", sourced(net, 0, folder / "none", journal)),
+        ("store", folder / "none", "there is no such store, or no such folder; --new makes a store in a folder that is there", sourced(net, 0, folder / "none", journal)),
         ("store", folder, "it is no regular file", sourced(net, 0, folder, journal)),
         *[("store", folder / name, why, sourced(net, 0, folder / name, journal)) for name, (_, why) in spoiled.items()],
         ("journal", folder / "none", "there is no such journal; --new begins one", sourced(net, 0, store, folder / "none")),
