@@ -3,15 +3,17 @@
 Sources are drawn that start, ask over a store which fails, emit and crash. The slow model writes their journals, and those of each
 sample. Then each store that failed says no more than that. The model tries all ways to settle these, `before` first: of those in which
 every source answers what the log tells, the first is wanted, in the scenario that `abt audit --events` writes. With a number that no way
-shows, no list of events is woven.
+shows, no list of events is woven. The line that docs/JOURNALS.md shows for such a write is tried as it stands there
+(`tests/cases/open_writes.toml`).
 
 usage: open_writes.py PROGRAM..
 """
 import itertools
 import random
 
-from harness import main, sample_runs
+from harness import main, sample_runs, worked
 from audits import WHOLE, Auditor, by_actor, text_of
+from completing import dumps
 from journals import Writer, entries, journals, texts_of
 from reading import rate
 
@@ -131,11 +133,22 @@ def try_strange(auditor, name, ports, conns, events):
     return 1
 
 
+def pieces():
+    """The pieces of the logs of tests/cases/open_writes.toml: a source that starts, the line of docs/JOURNALS.md, and what comes behind it."""
+    (line,) = worked("JOURNALS.md", r"^```\n(\{\"source\"[^\n]*\"Keep\"\}\}\n)```$")
+    cell = {"vpi": 1, "vci": 100, "floor": "0000", "ask": "5120"}
+    asked = {f"asks_{seq}": [{"source": 0, "did": {"ask": "5120"}, "outcome": {"asked": {**cell, "seq": seq}}}] for seq in (1, 2, 65)}
+    restart = [{"source": 0, "did": {"start": 5}, "outcome": "started"}]
+    made = {"up": entries(PORTS, CONNS, [("start", 0, 0)]), "restart": restart, **asked}
+    return {"line": line, **{name: text_of(map(dumps, lines)).decode() for name, lines in made.items()}}
+
+
 def look(auditor):
     runs = [*sample_runs(), *((f"draw {seed}", PORTS, CONNS, Draw(seed).live()) for seed in range(DRAWN))]
     counts = [try_run(auditor, *run) for run in runs]
     strange = sum(try_strange(auditor, *run) for run in runs)
-    return f"{sum(map(bool, counts))} logs with {sum(counts)} open writes settled, {strange} with a number changed"
+    by_hand = auditor.cases("open_writes", **pieces())
+    return f"{sum(map(bool, counts))} logs with {sum(counts)} open writes settled, {strange} with a number changed, {by_hand} by hand"
 
 
 if __name__ == "__main__":
