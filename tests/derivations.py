@@ -57,6 +57,10 @@ class Draw:
         yield from (("answer", conn, hop, 1, True) for hop in reversed(hops))
         yield ("told", conn, 1, True)
 
+    def fenced(self, conn):
+        """A cell leaves, and then a request, which comes first: the cell is lost, though the next one may come while it could have."""
+        yield from [("emit", conn, 10**12), ("ask", conn, RATES[0], "works"), ("request", conn, 1, 2), ("emit", conn, 10**12 + MILLISECOND)]
+
     def deeds(self, conn):
         """What a source may do now; mostly a cell leaves if one may, as soon as it may or a little later."""
         course = self.writer.world.courses[conn]
@@ -106,9 +110,11 @@ class Draw:
         return max(Counter(map(actor_of, self.writer.lines[1:])).values(), default=0)
 
     def lines(self):
-        """The lines of the journals; most sources have a rate at first."""
-        for event in itertools.chain(*(self.raised(conn) for conn in range(len(self.conns)) if self.draw.random() < 0.7)):
-            self.writer.happen(event)
+        """The lines of the journals; most sources have a rate at first, and some of these a cell that is lost."""
+        for conn in range(len(self.conns)):
+            first = self.draw.choice([(), self.raised(conn), self.raised(conn), itertools.chain(self.raised(conn), self.fenced(conn))])
+            for event in first:
+                self.writer.happen(event)
         for _ in range(self.draw.randrange(6, 30)):
             if self.most() < MOST:
                 self.writer.happen(self.next())
