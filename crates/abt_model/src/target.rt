@@ -80,19 +80,7 @@ impl Event {
     pub fn conn(&self) -> Option<u16>
         ensures value { result ≡ conn_of self.now }
     {
-        match *self {
-            Event::Start { conn, .. }
-            | Event::Ask { conn, .. }
-            | Event::Again { conn }
-            | Event::Crash { conn }
-            | Event::Emit { conn, .. }
-            | Event::Told { conn, .. }
-            | Event::Arrive { conn, .. }
-            | Event::Request { conn, .. }
-            | Event::Answer { conn, .. }
-            | Event::Turn { conn, .. } => Some(conn),
-            Event::Capacity { .. } => None,
-        }
+        self.target().conn()
     }
 }
 

@@ -51,17 +51,9 @@ pub(crate) fn place_of(event: &Event, conns: &[Conn]) -> Option<usize>
 pub(crate) fn visited(conn: &Conn, event: &Event) -> Option<u16>
     ensures { result ≡ touches.visited conn.now event.now }
 {
-    match *event {
-        Event::Arrive { .. } => port_at(conn, 1),
-        Event::Request { hop, .. } | Event::Answer { hop, .. } => port_at(conn, hop),
-        Event::Start { .. }
-        | Event::Ask { .. }
-        | Event::Again { .. }
-        | Event::Crash { .. }
-        | Event::Emit { .. }
-        | Event::Told { .. }
-        | Event::Turn { .. }
-        | Event::Capacity { .. } => None,
+    match event.target() {
+        Target::Hop { event, .. } => port_at(conn, event.hop()),
+        Target::Source { .. } | Target::End { .. } | Target::Port { .. } => None,
     }
 }
 
